@@ -1,0 +1,10 @@
+-- Laws of the definitions of specs/, and the two proof tools: `ring!` for identities, `cert!` for inequalities.
+pub mod Pairs
+pub mod Ring
+pub mod Auto
+pub mod Order
+pub mod Division
+pub mod Root
+pub mod Bounds
+pub mod Near
+pub mod Fractions

@@ -1,0 +1,1 @@
+// A library of laws about whole numbers; it has no functions.

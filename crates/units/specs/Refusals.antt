@@ -1,0 +1,34 @@
+-- Document 01, "Refusals and what they leave": the number of each refusal and the figure that comes with it.
+use Prim.Native.Nat.{ℕ}
+use lib.IntN.{ℤ, pos}
+use Rattle.units.specs.declared.Instant.{Instant}
+use Rattle.units.specs.declared.Refusal.{Refusal}
+use Rattle.units.specs.declared.Refusal.the-variants.{NoSuchDate, PastLimit, BadByte, OverLimit, TotalOverLimit, TooCoarse, NoRoom, EndedEarly, ByteAfterEnd, NotShortest, NotUsable, BadWindow}
+
+unfoldable pub number : Refusal → ℕ
+number (NoSuchDate field) = 1
+number (PastLimit t) = 2
+number (BadByte at) = 3
+number (OverLimit at) = 4
+number (TotalOverLimit at) = 5
+number (TooCoarse at) = 6
+number (NoRoom n) = 7
+number (EndedEarly n) = 8
+number (ByteAfterEnd at) = 9
+number (NotShortest at) = 10
+number (NotUsable minute) = 11
+number BadWindow = 12
+
+unfoldable pub figure : Refusal → ℤ
+figure (NoSuchDate field) = pos field
+figure (PastLimit t) = t .ms
+figure (BadByte at) = pos at
+figure (OverLimit at) = pos at
+figure (TotalOverLimit at) = pos at
+figure (TooCoarse at) = pos at
+figure (NoRoom n) = pos n
+figure (EndedEarly n) = pos n
+figure (ByteAfterEnd at) = pos at
+figure (NotShortest at) = pos at
+figure (NotUsable minute) = pos minute
+figure BadWindow = pos 0

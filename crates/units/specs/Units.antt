@@ -1,0 +1,44 @@
+-- Document 01, "Units and rounding". Each constant is named once, here.
+use Prim.Native.Nat.{ℕ, _*_}
+use mathlib.Core.Bool.{Bool}
+use lib.IntN.{ℤ, natAbs}
+use lib.Dec.{leb}
+
+-- The unit of a cosine.
+abbrev pub U : ℕ
+U = 1000000000
+
+-- Parts ("10^-11 radian or AU") in a radian or an AU.
+abbrev pub parts : ℕ
+parts = 100000000000
+
+-- T, a millennium in milliseconds; tau = t/T.
+abbrev pub millennium : ℕ
+millennium = 31557600000000
+
+-- The greatest |tau|, and the greatest |t|: two millennia.
+abbrev pub tau-limit : ℕ
+tau-limit = 2
+
+abbrev pub t-limit : ℕ
+t-limit = tau-limit * millennium
+
+-- t does not pass its limit.
+unfoldable pub in-limit : ℤ → Bool
+in-limit t = leb (natAbs t) t-limit
+
+-- The turn P and its quarter, in 10^-13 radian; how many of these a part has, and the step to the working angle w.
+abbrev pub quarter : ℕ
+quarter = 15707963267949
+
+abbrev pub turn : ℕ
+turn = 4 * quarter
+
+abbrev pub angle-scale : ℕ
+angle-scale = 10000000000000
+
+abbrev pub angle-per-part : ℕ
+angle-per-part = 100
+
+abbrev pub angle-step : ℕ
+angle-step = 10000
