@@ -28,7 +28,7 @@ unfolding _+ᶠ_
 over-+ W n m f g h k = record {
   low-pos = product-pos (f .lower) (g .lower) (h .low-pos) (k .low-pos);
   same =
-      ring! (W ∷ f .upper ∷ f .lower ∷ g .upper ∷ g .lower ∷ []) {y = (f .upper *ℤ W) *ℤ g .lower +ℤ (g .upper *ℤ W) *ℤ f .low} (search polys depth 60 fits 100000) (search polys depth 60 fits 100000) tt
+      ring! (W ∷ f .upper ∷ f .lower ∷ g .upper ∷ g .lower ∷ []) {y = (f .upper *ℤ W) *ℤ g .lower +ℤ (g .upper *ℤ W) *ℤ f .lower} (search polys depth 60 fits 100000) (search polys depth 60 fits 100000) tt
       ∙ ap₂ (λ (s t : ℤ). s *ℤ g .lower +ℤ t *ℤ f .lower) (h .same) (k .same)
       ∙ ring! (n ∷ m ∷ f .lower ∷ g .lower ∷ []) (search polys depth 60 fits 100000) (search polys depth 60 fits 100000) tt;
 }
