@@ -1,0 +1,2 @@
+-- Document 01, "Places", first paragraph.
+pub mod Vectors
