@@ -1,8 +1,15 @@
-// What every crate above shares: the instant, and the refusals of document 01.
+// What every crate above shares: the instant, the coordinates of a body, and the refusals of document 01.
 
 // An instant of TD: whole milliseconds from 2000-01-01 12h, negative before.
 pub struct Instant {
     pub ms: i64,
+}
+
+// L, B and R of a body at an instant, in parts (10^-11 radian or AU). A longitude keeps its whole turns.
+pub struct Coordinates {
+    pub longitude: i64,
+    pub latitude: i64,
+    pub radius: i64,
 }
 
 // Why a call gives no answer. specs/Refusals.antt has document 01's number and figure of each case.
