@@ -42,3 +42,13 @@ angle-per-part = 100
 
 abbrev pub angle-step : ℕ
 angle-step = 10000
+
+-- "Series": the limits of a term a, b, c, in parts: |a| below 100,000; b from 0, below 10; |c| below 1,000,000.
+abbrev pub a-limit : ℕ
+a-limit = 100000 * parts
+
+abbrev pub b-limit : ℕ
+b-limit = 10 * parts
+
+abbrev pub c-limit : ℕ
+c-limit = 1000000 * parts
