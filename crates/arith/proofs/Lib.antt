@@ -1,0 +1,5 @@
+-- Laws that callers of the functions cite.
+pub mod Signs
+pub mod Long
+pub mod Residues
+pub mod Naturals

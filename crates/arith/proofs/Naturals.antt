@@ -1,0 +1,31 @@
+-- What `naturalOr` gives, and what it tells of its number. Assumes nothing.
+use mathlib.Core.Path.{_≡_, refl, subst}
+use mathlib.Core.Bool.{Bool, true, false}
+use Prim.Native.Nat.{ℕ, _≤_, _<_}
+use native.Mathlib.Omega.{arith}
+use lib.IntN.{ℤ, pos, negsuc}
+use Rattle.integers.specs.Signs.{negative}
+use Rattle.arith.specs.Signed.{naturalOr}
+
+pub natural-of-negative : (x : ℤ) (other : ℕ) → negative x ≡ true → naturalOr x other ≡ other
+unfolding naturalOr negative
+natural-of-negative (negsuc n) other e = refl
+natural-of-negative (pos n) other e = absurd (subst IsFalse e tt)
+  where
+    IsFalse : Bool → Type 0
+    IsFalse true = ⊥
+    IsFalse false = Unit {0}
+
+pub natural-of-pos : (n other : ℕ) → naturalOr (pos n) other ≡ n
+unfolding naturalOr
+natural-of-pos n other = refl
+
+pub natural-of-negsuc : (n other : ℕ) → naturalOr (negsuc n) other ≡ other
+unfolding naturalOr
+natural-of-negsuc n other = refl
+
+-- a value other than `other` is the number's own
+pub natural-back : (x : ℤ) (other : ℕ) → (naturalOr x other ≡ other → ⊥) → pos (naturalOr x other) ≡ x
+unfolding naturalOr
+natural-back (pos n) other f = refl
+natural-back (negsuc n) other f = absurd (f refl)

@@ -1,0 +1,47 @@
+// Products that pass 64 bits, divided and rounded. For the crates above.
+ghost use mathlib.Core.Path.{_≡_};
+ghost use Prim.Native.Nat.{_+_, _-_, _*_, _/_, _%_, _<_, _≤_, _^_};
+ghost use lib.IntN.{ℤ, natAbs, _*ℤ_};
+ghost use Rattle.integers.specs.Division.{rounded};
+use crate::round::nearest;
+use crate::signed::abs;
+use crate::signed::of_parts;
+use crate::signed::signs_differ;
+
+pub struct Quot {
+    pub q: u64,
+    pub r: u64,
+}
+
+// One digit of 16 bits more: (q, r) are the quotient and the rest of the digits so far, times b.
+pub fn step(q: u64, r: u64, g: u64, b: u64, d: u64) -> Quot
+    requires { ⌜ (r < d) × (d ≤ 2 ^ 47) × (b ≤ 2 ^ 47) × (g < 65536) × ((q * d + r) * 65536 + g * b < d * 2 ^ 64) ⌝ }
+    ensures { λ z. ⌜ (z .q ≡ ((q * d + r) * 65536 + g * b) / d) × (z .r ≡ ((q * d + r) * 65536 + g * b) % d) ⌝ }
+{
+    let x = r * 65536 + g * b;
+    Quot {
+        q: q * 65536 + x / d,
+        r: x % d,
+    }
+}
+
+// a·b by d: the quotient and the rest.
+pub fn mul_div(a: u64, b: u64, d: u64) -> Quot
+    requires { ⌜ (0 < d) × (d ≤ 2 ^ 47) × (b ≤ 2 ^ 47) × (a * b < d * 2 ^ 64) ⌝ }
+    ensures { λ z. ⌜ (z .q ≡ a * b / d) × (z .r ≡ a * b % d) ⌝ }
+{
+    let s3 = step(0, 0, a / 281474976710656, b, d);
+    let s2 = step(s3.q, s3.r, a / 4294967296 % 65536, b, d);
+    let s1 = step(s2.q, s2.r, a / 65536 % 65536, b, d);
+    step(s1.q, s1.r, a % 65536, b, d)
+}
+
+// a·b / d rounded.
+pub fn mul_div_round(a: i64, b: i64, d: u64) -> i64
+    requires { ⌜ (0 < d) × (d ≤ 2 ^ 47) × (natAbs b ≤ 2 ^ 47) × (natAbs a * natAbs b < d * (2 ^ 63 - 1)) ⌝ }
+    ensures { λ r. ⌜ r ≡ rounded (a *ℤ b) d ⌝ }
+{
+    let neg = signs_differ(a, b);
+    let z = mul_div(abs(a), abs(b), d);
+    of_parts(neg, nearest(neg, z.q, z.r, d))
+}
