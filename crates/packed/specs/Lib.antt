@@ -1,0 +1,5 @@
+-- Document 01, "Series, as text and packed" and what "Refusals" says of packed input.
+pub mod Limits
+pub mod Numbers
+pub mod Series
+pub mod Tables

@@ -1,0 +1,107 @@
+-- Document 01, "Series, as text and packed": the limits of a series and the rule "not too coarse", each once. The sums are
+-- judged over the part so far, so each rule is a test of what the sums are with one count or one term more.
+use mathlib.Core.Bool.{Bool, cond, _&&_}
+use Prim.Native.Nat.{ℕ, _+_, _*_, _%_, _^_}
+use lib.Dec.{leb, ltb, eqb}
+use lib.IntN.{ℤ, natAbs}
+use Rattle.units.specs.Units.{U, parts, tau-limit}
+use Rattle.packed.specs.declared.Term.{Term}
+
+-- |a| is below 100,000, b below 10, |c| below 1,000,000, each in parts.
+abbrev pub a-limit : ℕ
+a-limit = 100000 * parts
+
+abbrev pub b-limit : ℕ
+b-limit = 10 * parts
+
+abbrev pub c-limit : ℕ
+c-limit = 1000000 * parts
+
+-- The terms of a block, the terms of a series, the total |a| of a block: at most so many.
+abbrev pub block-limit : ℕ
+block-limit = 4096
+
+abbrev pub series-limit : ℕ
+series-limit = 8192
+
+abbrev pub total-limit : ℕ
+total-limit = 100000 * parts
+
+-- The blocks of a coordinate, one for each power, and of a series.
+abbrev pub powers : ℕ
+powers = 6
+
+abbrev pub block-count : ℕ
+block-count = 3 * powers
+
+-- "Not too coarse": a term that is not constant counts 14|a| + 10^9, times 2^i in power i; 32*10^9 is added once to a
+-- coordinate, and the sum is at most 2*10^14.
+abbrev pub coarse-share : ℕ
+coarse-share = 14
+
+abbrev pub coarse-base : ℕ
+coarse-base = 32 * U
+
+abbrev pub coarse-limit : ℕ
+coarse-limit = 200000000000000
+
+-- The factor 2^i of block number k, counted from 0: its power is k mod 6.
+unfoldable pub factor : ℕ → ℕ
+factor k = tau-limit ^ (k % powers)
+
+-- "A term is constant if b = c = 0."
+unfoldable pub constant : ℕ → ℤ → Bool
+constant b c = eqb b 0 && eqb (natAbs c) 0
+
+-- What a term adds to the coarseness sum, in a block with factor f.
+unfoldable pub weight : ℕ → ℤ → ℕ → ℤ → ℕ
+weight f a b c = cond (constant b c) 0 (f * (coarse-share * natAbs a + U))
+
+-- The part so far: terms that the counts declare, total |a| of the block, coarseness sum of the coordinate.
+pub record Sums : Type 0 where
+  pub terms : ℕ
+  pub total : ℕ
+  pub coarse : ℕ
+
+abbrev pub no-sums : Sums
+no-sums = record { terms = 0; total = 0; coarse = coarse-base }
+
+-- With the count n of block k: a new block, and at power 0 a new coordinate.
+unfoldable pub opened : ℕ → ℕ → Sums → Sums
+opened k n s =
+    record {
+      terms = s .terms + n;
+      total = 0;
+      coarse = cond (eqb (k % powers) 0) coarse-base (s .coarse);
+    }
+
+-- With one term more, in a block with factor f.
+unfoldable pub added : ℕ → Sums → Term → Sums
+added f s t =
+    record {
+      terms = s .terms;
+      total = s .total + natAbs (t .a);
+      coarse = s .coarse + weight f (t .a) (t .b) (t .c);
+    }
+
+-- A count may come.
+unfoldable pub count-fits : Sums → ℕ → Bool
+count-fits s n = leb n block-limit && leb (s .terms + n) series-limit
+
+-- The numbers of a term are within their limits.
+unfoldable pub a-fits : ℤ → Bool
+a-fits a = ltb (natAbs a) a-limit
+
+unfoldable pub b-fits : ℕ → Bool
+b-fits b = ltb b b-limit
+
+unfoldable pub c-fits : ℤ → Bool
+c-fits c = ltb (natAbs c) c-limit
+
+-- With a the block's total is within its limit.
+unfoldable pub total-fits : Sums → ℤ → Bool
+total-fits s a = leb (s .total + natAbs a) total-limit
+
+-- With this term the coordinate is not too coarse.
+unfoldable pub coarse-fits : ℕ → Sums → ℤ → ℕ → ℤ → Bool
+coarse-fits f s a b c = leb (s .coarse + weight f a b c) coarse-limit

@@ -1,0 +1,50 @@
+-- Document 01, "Packed": a number in groups of seven bits, lowest group first, top bit set on all but the last; shortest
+-- form only, at most nine groups.
+use mathlib.Core.Bool.{Bool, true, false, cond}
+use mathlib.Core.List.{List, [], _∷_}
+use Prim.Native.Nat.{ℕ, zero, suc, _+_, _*_, _/_, _%_, _-_, _^_}
+use lib.Dec.{leb, ltb, eqb}
+use lib.IntN.{ℤ, pos, negsuc}
+use Rattle.units.specs.declared.Refusal.{Refusal}
+use Rattle.units.specs.declared.Refusal.the-variants.{OverLimit, EndedEarly, NotShortest}
+
+-- What a reader answers: what it has read, the offset past it and the bytes from there; or a refusal.
+pub data Read (A : Type 0) : Type 0 where
+  got : A → ℕ → List ℕ → Read A
+  bad : Refusal → Read A
+
+-- Reads on, unless there was a refusal.
+unfoldable pub next : {A B : Type 0} → Read A → (A → ℕ → List ℕ → Read B) → Read B
+next (got x at s) f = f x at s
+next (bad r) f = bad r
+
+-- The last group b, at offset at, after k groups of value acc. A last group of 0 after another is not the shortest form.
+unfoldable pub closed : ℕ → ℕ → ℕ → ℕ → List ℕ → Read ℕ
+closed k acc at b s = cond (eqb b 0) (cond (eqb k 0) (got 0 (at + 1) s) (bad (NotShortest at))) (got (acc + b * 128 ^ k) (at + 1) s)
+
+-- The number whose next byte, at offset at, is the list's first, after k groups of value acc. The refusals carry the
+-- offset of the number's last byte, and where the input has ended its length, which at then is.
+unfoldable pub groups-from : ℕ → ℕ → ℕ → List ℕ → Read ℕ
+groups-from k acc at [] = bad (EndedEarly at)
+groups-from k acc at (b ∷ s) =
+    cond (ltb b 128) (closed k acc at b s)
+    (cond (leb 8 k) (bad (OverLimit at)) (groups-from (k + 1) (acc + (b - 128) * 128 ^ k) (at + 1) s))
+
+unfoldable pub number : ℕ → List ℕ → Read ℕ
+number at s = groups-from 0 0 at s
+
+-- The shortest form of a number, in at most n groups; nine hold every number below 2^63, ten every number of 64 bits.
+unfoldable pub groups : ℕ → ℕ → List ℕ
+groups zero v = []
+groups (suc n) v = cond (ltb v 128) (v ∷ []) ((v % 128 + 128) ∷ groups n (v / 128))
+
+unfoldable pub encode : ℕ → List ℕ
+encode v = groups 10 v
+
+-- "Folded (0, -1, 1, -2 become 0, 1, 2, 3)", and back.
+unfoldable pub folded : ℤ → ℕ
+folded (pos n) = 2 * n
+folded (negsuc n) = 2 * n + 1
+
+unfoldable pub unfolded : ℕ → ℤ
+unfolded v = cond (eqb (v % 2) 0) (pos (v / 2)) (negsuc (v / 2))
