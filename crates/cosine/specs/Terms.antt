@@ -1,0 +1,39 @@
+-- Document 01, "Working cosine and sums": a term a, b, c of a series, each in parts, at t milliseconds.
+use Prim.Native.Nat.{ℕ, _*_, _≤_, _<_}
+use lib.IntN.{ℤ, pos, natAbs, _+ℤ_, _*ℤ_}
+use Rattle.integers.specs.Division.{rounded, modulo}
+use Rattle.integers.specs.Fractions.{Fraction}
+use Rattle.units.specs.Units.{U, parts, millennium, t-limit, turn, angle-per-part}
+use Rattle.cosine.specs.Cosine.{cosine}
+use Rattle.cosine.specs.Reference.{reference-cosine}
+
+-- "Limits: |a| below 100,000; b from 0, below 10; |c| below 1,000,000", in parts.
+abbrev pub a-limit : ℕ
+a-limit = 100000 * parts
+
+abbrev pub b-limit : ℕ
+b-limit = 10 * parts
+
+abbrev pub c-limit : ℕ
+c-limit = 1000000 * parts
+
+-- b, c and t are allowed.
+pub record Allowed (b : ℕ) (c t : ℤ) : Type 0 where
+  pub b-in : b < b-limit
+  pub c-in : natAbs c < c-limit
+  pub t-in : natAbs t ≤ t-limit
+
+-- "A term's angle is (100b + rounded 100ct/T) mod P": in 10^-13 radian.
+unfoldable pub term-angle : ℕ → ℤ → ℤ → ℕ
+term-angle b c t = modulo (pos (angle-per-part * b) +ℤ rounded (pos angle-per-part *ℤ c *ℤ t) millennium) turn
+
+unfoldable pub term-cosine : ℕ → ℤ → ℤ → ℤ
+term-cosine b c t = cosine (pos (term-angle b c t))
+
+-- "Its value is rounded a*cos/U."
+unfoldable pub term-value : ℤ → ℕ → ℤ → ℤ → ℤ
+term-value a b c t = rounded (a *ℤ term-cosine b c t) U
+
+-- The reference cosine of b + c*tau, tau = t/T.
+unfoldable pub term-reference : ℕ → ℤ → ℤ → Fraction
+term-reference b c t = reference-cosine (pos b *ℤ pos millennium +ℤ c *ℤ t) (parts * millennium)
