@@ -3,19 +3,9 @@ use Prim.Native.Nat.{ℕ, _*_, _≤_, _<_}
 use lib.IntN.{ℤ, pos, natAbs, _+ℤ_, _*ℤ_}
 use Rattle.integers.specs.Division.{rounded, modulo}
 use Rattle.integers.specs.Fractions.{Fraction}
-use Rattle.units.specs.Units.{U, parts, millennium, t-limit, turn, angle-per-part}
+use Rattle.units.specs.Units.{U, parts, millennium, t-limit, turn, angle-per-part, b-limit, c-limit}
 use Rattle.cosine.specs.Cosine.{cosine}
 use Rattle.cosine.specs.Reference.{reference-cosine}
-
--- "Limits: |a| below 100,000; b from 0, below 10; |c| below 1,000,000", in parts.
-abbrev pub a-limit : ℕ
-a-limit = 100000 * parts
-
-abbrev pub b-limit : ℕ
-b-limit = 10 * parts
-
-abbrev pub c-limit : ℕ
-c-limit = 1000000 * parts
 
 -- b, c and t are allowed.
 pub record Allowed (b : ℕ) (c t : ℤ) : Type 0 where
