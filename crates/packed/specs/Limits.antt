@@ -4,18 +4,9 @@ use mathlib.Core.Bool.{Bool, cond, _&&_}
 use Prim.Native.Nat.{ℕ, _+_, _*_, _%_, _^_}
 use lib.Dec.{leb, ltb, eqb}
 use lib.IntN.{ℤ, natAbs}
-use Rattle.units.specs.Units.{U, parts, tau-limit}
+use Rattle.units.specs.Units.{U, parts, tau-limit, a-limit, b-limit, c-limit}
 use Rattle.packed.specs.declared.Term.{Term}
-
--- |a| is below 100,000, b below 10, |c| below 1,000,000, each in parts.
-abbrev pub a-limit : ℕ
-a-limit = 100000 * parts
-
-abbrev pub b-limit : ℕ
-b-limit = 10 * parts
-
-abbrev pub c-limit : ℕ
-c-limit = 1000000 * parts
+use Rattle.packed.specs.declared.Sums.{Sums}
 
 -- The terms of a block, the terms of a series, the total |a| of a block: at most so many.
 abbrev pub block-limit : ℕ
@@ -57,12 +48,7 @@ constant b c = eqb b 0 && eqb (natAbs c) 0
 unfoldable pub weight : ℕ → ℤ → ℕ → ℤ → ℕ
 weight f a b c = cond (constant b c) 0 (f * (coarse-share * natAbs a + U))
 
--- The part so far: terms that the counts declare, total |a| of the block, coarseness sum of the coordinate.
-pub record Sums : Type 0 where
-  pub terms : ℕ
-  pub total : ℕ
-  pub coarse : ℕ
-
+-- Before the first count.
 abbrev pub no-sums : Sums
 no-sums = record { terms = 0; total = 0; coarse = coarse-base }
 

@@ -10,7 +10,8 @@ use Rattle.units.specs.declared.Refusal.the-variants.{OverLimit, TotalOverLimit
 use Rattle.packed.specs.declared.Term.{Term}
 use Rattle.packed.specs.declared.Checked.{Checked}
 use Rattle.packed.specs.declared.Checked.the-variants.{Terms, NoSeries}
-use Rattle.packed.specs.Limits.{Sums, no-sums, opened, added, factor, count-fits, a-fits, b-fits, c-fits, total-fits, coarse-fits, block-count}
+use Rattle.packed.specs.declared.Sums.{Sums}
+use Rattle.packed.specs.Limits.{no-sums, opened, added, factor, count-fits, a-fits, b-fits, c-fits, total-fits, coarse-fits, block-count}
 use Rattle.packed.specs.Numbers.{Read, got, bad, next, number, encode, folded, unfolded}
 
 -- A value that passes a test, or the refusal with the offset of the last byte before at.
