@@ -7,7 +7,7 @@ use lib.IntN.{ℤ, pos, _+ℤ_, _-ℤ_, _*ℤ_, negℤ}
 use Rattle.integers.specs.Order.{_≼_, _≺_}
 use Rattle.integers.proofs.Pairs.{nonneg}
 use Rattle.integers.proofs.Auto.{ring!, cert!, cert<!, polys, gap, gap<, gap≡, _⊞_, _⊛_, _·_, sqr}
-use Rattle.integers.proofs.Order.{≺-≼, cert*!}
+use Rattle.integers.proofs.Order.{≺-≼, cert*! }
 use Rattle.integers.specs.Division.{rounded, modulo, floor}
 use Rattle.integers.proofs.Division.{rounded-low, rounded-high, rounded-add, modulo-lt, modulo-add, modulo-shift, floor-modulo}
 use Rattle.units.specs.Units.{U}

@@ -8,7 +8,7 @@ use lib.IntN.{ℤ, pos, _+ℤ_, _-ℤ_, _*ℤ_, negℤ}
 use Rattle.integers.specs.Order.{_≼_, _≺_}
 use Rattle.integers.proofs.Pairs.{nonneg, suc-<ℤ}
 use Rattle.integers.proofs.Auto.{ring!, cert!, cert<!, polys, gap, gap<, gap≡, _⊞_, _⊛_, _·_, sqr}
-use Rattle.integers.proofs.Order.{≺-≼, cert*!}
+use Rattle.integers.proofs.Order.{≺-≼, cert*! }
 use Rattle.integers.specs.Division.{rounded}
 use Rattle.integers.proofs.Division.{rounded-low, rounded-high}
 use Rattle.units.specs.Units.{U}

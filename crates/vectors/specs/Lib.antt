@@ -1,2 +1,3 @@
 -- Document 01, "Places", first paragraph.
 pub mod Vectors
+pub mod Rectangular
