@@ -1,0 +1,3 @@
+//! Stephylax for Rust programs.
+
+pub mod plain;

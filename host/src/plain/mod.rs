@@ -1,0 +1,52 @@
+//! Document 01 in plain Rust, written from the paper alone and with wide integers.
+//!
+//! Nothing here is proved and nothing here is used by the command line: the tests compare the proved library with it,
+//! and the benchmark measures it beside the library.
+
+pub mod calendar;
+pub mod cosine;
+pub mod exact;
+pub mod nutation;
+pub mod packed;
+pub mod place;
+pub mod series;
+pub mod sun_list;
+pub mod text;
+pub mod wide;
+
+/// A refusal: its number in document 01's table and the figure given with it.
+#[derive(Clone, Copy, Debug, PartialEq, Eq)]
+pub struct Refused {
+    pub number: u64,
+    pub figure: i64,
+}
+
+pub fn refused<A>(number: u64, figure: i64) -> Result<A, Refused> {
+    Err(Refused { number, figure })
+}
+
+/// The unit of a cosine.
+pub const U: i64 = 1_000_000_000;
+/// A millennium in milliseconds.
+pub const MILLENNIUM: i64 = 31_557_600_000_000;
+/// The greatest |t|.
+pub const T_LIMIT: i64 = 2 * MILLENNIUM;
+/// A quarter of a turn, and the turn, in 10^-13 radian.
+pub const QUARTER: i64 = 15_707_963_267_949;
+pub const TURN: i64 = 4 * QUARTER;
+/// Parts (10^-11) in a radian or an AU.
+pub const PARTS: i64 = 100_000_000_000;
+
+/// Rounded n/d: the floor of (2n + d)/(2d).
+#[inline(always)]
+pub fn rounded(n: i128, d: i128) -> i128 {
+    (2 * n + d).div_euclid(2 * d)
+}
+
+/// Refusal 2, for a t past its limit.
+pub fn within_limit(t: i64) -> Result<(), Refused> {
+    if t < -T_LIMIT || T_LIMIT < t {
+        return refused(2, t);
+    }
+    Ok(())
+}

@@ -1,0 +1,257 @@
+//! Packed numbers, the limits of a series, packed series, and the printer.
+
+use super::{refused, Refused, PARTS};
+
+/// A term a cos(b + c tau), all three in parts.
+#[derive(Clone, Copy, Debug, PartialEq, Eq)]
+pub struct Term {
+    pub a: i64,
+    pub b: i64,
+    pub c: i64,
+}
+
+impl Term {
+    pub fn constant(self) -> bool {
+        self.b == 0 && self.c == 0
+    }
+}
+
+/// The eighteen blocks: powers 0 to 5 of L, then of B, then of R.
+#[derive(Clone, Debug, Default, PartialEq, Eq)]
+pub struct Series {
+    pub blocks: [Vec<Term>; 18],
+}
+
+pub fn fold(v: i64) -> u64 {
+    if 0 <= v {
+        2 * v as u64
+    } else {
+        2 * v.unsigned_abs() - 1
+    }
+}
+
+pub fn unfold(v: u64) -> i64 {
+    if v % 2 == 0 {
+        (v / 2) as i64
+    } else {
+        -((v / 2) as i64) - 1
+    }
+}
+
+/// Appends a number in groups of seven bits, lowest group first.
+pub fn put_number(out: &mut Vec<u8>, mut v: u64) {
+    while 128 <= v {
+        out.push((v % 128) as u8 + 128);
+        v /= 128;
+    }
+    out.push(v as u8);
+}
+
+pub fn put_term(out: &mut Vec<u8>, term: Term) {
+    put_number(out, fold(term.a));
+    put_number(out, term.b as u64);
+    put_number(out, fold(term.c));
+}
+
+/// The packed form of a series, whether or not it keeps the limits.
+pub fn pack(series: &Series) -> Vec<u8> {
+    let mut out = Vec::new();
+    for block in &series.blocks {
+        put_number(&mut out, block.len() as u64);
+        for term in block {
+            put_term(&mut out, *term);
+        }
+    }
+    out
+}
+
+/// What is judged over the part of a series read so far. Each call answers the number of its refusal, or 0.
+#[derive(Clone, Debug)]
+pub struct Judge {
+    blocks_begun: usize,
+    terms_left: i64,
+    declared: i64,
+    block_total: i64,
+    coarseness: i128,
+    last_a: i64,
+    last_b: i64,
+}
+
+impl Judge {
+    pub fn new() -> Judge {
+        Judge { blocks_begun: 0, terms_left: 0, declared: 0, block_total: 0, coarseness: 0, last_a: 0, last_b: 0 }
+    }
+
+    /// All of block 18 has come.
+    pub fn done(&self) -> bool {
+        self.blocks_begun == 18 && self.terms_left == 0
+    }
+
+    pub fn wants_count(&self) -> bool {
+        self.terms_left == 0
+    }
+
+    pub fn count(&mut self, n: u64) -> u64 {
+        if 4096 < n || 8192 < self.declared + n as i64 {
+            return 4;
+        }
+        if self.blocks_begun % 6 == 0 {
+            self.coarseness = 32_000_000_000;
+        }
+        self.blocks_begun += 1;
+        self.declared += n as i64;
+        self.terms_left = n as i64;
+        self.block_total = 0;
+        0
+    }
+
+    pub fn a_in_limit(a: i64) -> bool {
+        a.abs() < 100_000 * PARTS
+    }
+
+    pub fn b_in_limit(b: i64) -> bool {
+        (0..10 * PARTS).contains(&b)
+    }
+
+    pub fn c_in_limit(c: i64) -> bool {
+        c.abs() < 1_000_000 * PARTS
+    }
+
+    pub fn a(&mut self, a: i64) -> u64 {
+        if !Judge::a_in_limit(a) {
+            return 4;
+        }
+        self.block_total += a.abs();
+        self.last_a = a;
+        if 100_000 * PARTS < self.block_total {
+            return 5;
+        }
+        0
+    }
+
+    pub fn b(&mut self, b: i64) -> u64 {
+        if !Judge::b_in_limit(b) {
+            return 4;
+        }
+        self.last_b = b;
+        0
+    }
+
+    pub fn c(&mut self, c: i64) -> u64 {
+        if !Judge::c_in_limit(c) {
+            return 4;
+        }
+        self.terms_left -= 1;
+        if self.last_b != 0 || c != 0 {
+            let power = (self.blocks_begun - 1) % 6;
+            self.coarseness += (14 * self.last_a.abs() as i128 + 1_000_000_000) << power;
+        }
+        if 200_000_000_000_000 < self.coarseness {
+            return 6;
+        }
+        0
+    }
+}
+
+impl Default for Judge {
+    fn default() -> Judge {
+        Judge::new()
+    }
+}
+
+/// Where the next number is read; a number is answered with the offset of its last byte.
+struct Cursor<'a> {
+    bytes: &'a [u8],
+    at: usize,
+}
+
+impl Cursor<'_> {
+    fn number(&mut self) -> Result<(u64, i64), Refused> {
+        let mut value = 0;
+        for group in 0..9 {
+            let Some(&byte) = self.bytes.get(self.at) else {
+                return refused(8, self.bytes.len() as i64);
+            };
+            let offset = self.at as i64;
+            self.at += 1;
+            value += (byte as u64 % 128) << (7 * group);
+            if byte < 128 {
+                if byte == 0 && 0 < group {
+                    return refused(10, offset);
+                }
+                return Ok((value, offset));
+            }
+        }
+        refused(4, self.at as i64 - 1)
+    }
+}
+
+fn accept(refusal: u64, offset: i64) -> Result<(), Refused> {
+    if refusal != 0 {
+        return refused(refusal, offset);
+    }
+    Ok(())
+}
+
+/// The series of packed bytes.
+pub fn parse(bytes: &[u8]) -> Result<Series, Refused> {
+    let mut cursor = Cursor { bytes, at: 0 };
+    let mut judge = Judge::new();
+    let mut series = Series::default();
+    for block in &mut series.blocks {
+        let (count, offset) = cursor.number()?;
+        accept(judge.count(count), offset)?;
+        for _ in 0..count {
+            let (a, offset) = cursor.number()?;
+            accept(judge.a(unfold(a)), offset)?;
+            let (b, offset) = cursor.number()?;
+            accept(judge.b(b as i64), offset)?;
+            let (c, offset) = cursor.number()?;
+            accept(judge.c(unfold(c)), offset)?;
+            block.push(Term { a: unfold(a), b: b as i64, c: unfold(c) });
+        }
+    }
+    if cursor.at < bytes.len() {
+        return refused(9, cursor.at as i64);
+    }
+    Ok(series)
+}
+
+/// The number of terms of packed bytes.
+pub fn check(bytes: &[u8]) -> Result<i64, Refused> {
+    let series = parse(bytes)?;
+    Ok(series.blocks.iter().map(|block| block.len() as i64).sum())
+}
+
+fn put_decimal(out: &mut Vec<u8>, v: i64) {
+    let sign = if v < 0 { "-" } else { "" };
+    let (whole, parts) = (v.abs() / PARTS, v.abs() % PARTS);
+    out.extend_from_slice(format!("{sign}{whole}.{parts:011}").as_bytes());
+}
+
+/// The plain text of a series: single spaces, none leading.
+pub fn text_of(series: &Series) -> Vec<u8> {
+    let mut out = Vec::new();
+    for block in &series.blocks {
+        out.extend_from_slice(format!("{}\n", block.len()).as_bytes());
+        for term in block {
+            put_decimal(&mut out, term.a);
+            out.push(b' ');
+            put_decimal(&mut out, term.b);
+            out.push(b' ');
+            put_decimal(&mut out, term.c);
+            out.push(b'\n');
+        }
+    }
+    out
+}
+
+/// Prints packed bytes into `text`: the length, or a refusal that leaves it untouched.
+pub fn print(bytes: &[u8], text: &mut [u8]) -> Result<usize, Refused> {
+    let printed = text_of(&parse(bytes)?);
+    if text.len() < printed.len() {
+        return refused(7, printed.len() as i64);
+    }
+    text[..printed.len()].copy_from_slice(&printed);
+    Ok(printed.len())
+}

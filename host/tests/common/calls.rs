@@ -1,0 +1,73 @@
+//! Every public call of document 01 as a function with one shape, so that vectors and comparisons are written once.
+
+use stephylax::plain;
+use stephylax::plain::text::{Answer, Reader};
+
+/// An answer, or the refusal's number and figure.
+pub type Outcome<A> = Result<A, (u64, i64)>;
+
+pub struct Calls {
+    pub name: &'static str,
+    pub day_of_date: fn(i64, i64, i64) -> Outcome<i64>,
+    pub date_of_day: fn(i64) -> Outcome<[i64; 3]>,
+    pub instant_of_date: fn([i64; 4]) -> Outcome<i64>,
+    pub date_of_instant: fn(i64) -> Outcome<[i64; 4]>,
+    pub read_text: fn(&[u8], &mut [u8]) -> Outcome<usize>,
+    /// Each piece in a call, the end, and then each piece and the end once more, which must change nothing.
+    pub read_pieces: fn(&[&[u8]], &mut [u8]) -> Outcome<usize>,
+    pub check: fn(&[u8]) -> Outcome<i64>,
+    pub print: fn(&[u8], &mut [u8]) -> Outcome<usize>,
+    pub coordinates_at: fn(&[u8], i64) -> Outcome<[i64; 3]>,
+    pub apparent_place: fn(&[u8], &[u8], i64) -> Outcome<[i64; 3]>,
+    pub mount_place: fn(&[u8], &[u8], i64) -> Result<[f64; 3], u64>,
+    /// Planet, Earth, then t0, minutes and keep-out, then the output.
+    pub sun_list: fn(&[u8], &[u8], [i64; 3], &mut [u64]) -> Outcome<usize>,
+}
+
+fn outcome<A>(result: Result<A, plain::Refused>) -> Outcome<A> {
+    result.map_err(|refused| (refused.number, refused.figure))
+}
+
+fn plain_pieces(pieces: &[&[u8]], packed: &mut [u8]) -> Outcome<usize> {
+    let mut reader = Reader::start();
+    for _ in 0..2 {
+        for piece in pieces {
+            reader.piece(piece, packed);
+        }
+        reader.end();
+    }
+    match reader.answer() {
+        Answer::Refused(refused) => Err((refused.number, refused.figure)),
+        _ => Ok(reader.written()),
+    }
+}
+
+/// The independent implementation.
+pub const PLAIN: Calls = Calls {
+    name: "plain",
+    day_of_date: |year, month, day| outcome(plain::calendar::day_of_date(year, month, day)),
+    date_of_day: |n| outcome(plain::calendar::date_of_day(n).map(|d| [d.year, d.month, d.day])),
+    instant_of_date: |[year, month, day, ms]| outcome(plain::calendar::instant_of_date(year, month, day, ms)),
+    date_of_instant: |t| {
+        outcome(plain::calendar::date_of_instant(t).map(|(d, ms)| [d.year, d.month, d.day, ms]))
+    },
+    read_text: |text, packed| outcome(plain::text::read_text(text, packed)),
+    read_pieces: plain_pieces,
+    check: |packed| outcome(plain::packed::check(packed)),
+    print: |packed, text| outcome(plain::packed::print(packed, text)),
+    coordinates_at: |packed, t| {
+        let answer = plain::series::coordinates_at(packed, t);
+        outcome(answer.map(|c| [c.longitude, c.latitude, c.radius]))
+    },
+    apparent_place: |planet, earth, t| {
+        let answer = plain::place::apparent_place(planet, earth, t);
+        outcome(answer.map(|p| [p.right_ascension, p.declination, p.distance]))
+    },
+    mount_place: |planet, earth, t| {
+        let answer = plain::place::mount_place(planet, earth, t);
+        answer.map(|m| [m.right_ascension, m.declination, m.distance])
+    },
+    sun_list: |planet, earth, [t0, minutes, keep_out], runs| {
+        outcome(plain::sun_list::sun_list(planet, earth, t0, minutes, keep_out, runs))
+    },
+};

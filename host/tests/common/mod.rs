@@ -1,0 +1,113 @@
+//! What the tests share: the repository's files, the fields of a vector line, and a random source.
+#![allow(dead_code)]
+
+pub mod calls;
+
+use std::path::PathBuf;
+
+pub fn repository(path: &str) -> PathBuf {
+    PathBuf::from(env!("CARGO_MANIFEST_DIR")).join("..").join(path)
+}
+
+/// The case lines of a vector file, with their line numbers.
+pub fn vectors(name: &str) -> Vec<(usize, String)> {
+    let path = repository("vectors").join(name);
+    let text = std::fs::read_to_string(&path).unwrap_or_else(|error| panic!("{}: {error}", path.display()));
+    let lines = text.lines().enumerate().map(|(i, line)| (i + 1, line.to_string()));
+    lines.filter(|(_, line)| !line.starts_with('#') && !line.is_empty()).collect()
+}
+
+/// The published series of a planet, as text.
+pub fn published(planet: &str) -> Vec<u8> {
+    let path = repository("data/vsop87d").join(format!("{planet}.txt"));
+    std::fs::read(&path).unwrap_or_else(|error| panic!("{}: {error}", path.display()))
+}
+
+/// The fields of a case line, taken from left to right.
+pub struct Fields<'a> {
+    words: std::str::SplitAsciiWhitespace<'a>,
+}
+
+impl<'a> Fields<'a> {
+    pub fn of(line: &'a str) -> Fields<'a> {
+        Fields { words: line.split_ascii_whitespace() }
+    }
+
+    pub fn word(&mut self) -> &'a str {
+        self.words.next().expect("a field more")
+    }
+
+    pub fn number(&mut self) -> i64 {
+        self.word().parse().expect("a number of 64 bits")
+    }
+
+    pub fn bytes(&mut self) -> Vec<u8> {
+        unhex(self.word())
+    }
+
+    /// N, then N times how often and which bytes.
+    pub fn repeated(&mut self) -> Vec<u8> {
+        let n = self.number();
+        let mut bytes = Vec::new();
+        for _ in 0..n {
+            let times = self.number() as usize;
+            bytes.extend(self.bytes().repeat(times));
+        }
+        bytes
+    }
+
+    pub fn done(&mut self) -> bool {
+        self.words.next().is_none()
+    }
+}
+
+pub fn unhex(word: &str) -> Vec<u8> {
+    if word == "-" {
+        return Vec::new();
+    }
+    let digits = word.as_bytes();
+    assert!(digits.len() % 2 == 0, "an even number of hex digits");
+    let digit = |d: u8| (d as char).to_digit(16).expect("a hex digit") as u8;
+    digits.chunks(2).map(|pair| 16 * digit(pair[0]) + digit(pair[1])).collect()
+}
+
+pub fn hex(bytes: &[u8]) -> String {
+    if bytes.is_empty() {
+        return "-".to_string();
+    }
+    bytes.iter().map(|byte| format!("{byte:02x}")).collect()
+}
+
+/// 64-bit FNV-1a.
+pub fn hash(bytes: &[u8]) -> u64 {
+    bytes.iter().fold(0xcbf29ce484222325, |h, &byte| (h ^ byte as u64).wrapping_mul(0x100000001b3))
+}
+
+/// A small random source (xorshift64*), so that a failing run can be repeated from its seed.
+pub struct Random(pub u64);
+
+impl Random {
+    pub fn next(&mut self) -> u64 {
+        self.0 ^= self.0 >> 12;
+        self.0 ^= self.0 << 25;
+        self.0 ^= self.0 >> 27;
+        self.0.wrapping_mul(0x2545F4914F6CDD1D)
+    }
+
+    /// From 0 to n - 1.
+    pub fn below(&mut self, n: u64) -> u64 {
+        self.next() % n
+    }
+
+    pub fn between(&mut self, low: i64, high: i64) -> i64 {
+        low + self.below((high - low + 1) as u64) as i64
+    }
+
+    pub fn one_in(&mut self, n: u64) -> bool {
+        self.below(n) == 0
+    }
+
+    pub fn pick<T: Copy>(&mut self, from: &[T]) -> T {
+        from[self.below(from.len() as u64) as usize]
+    }
+}

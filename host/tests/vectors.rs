@@ -1,0 +1,250 @@
+//! The vectors of every public call.
+
+mod common;
+
+use common::calls::{Calls, Outcome, PLAIN};
+use common::{hash, published, vectors, Fields, Random};
+use std::collections::HashMap;
+
+/// A number of refusal and its figure, or 0 and what `answer` reads.
+fn expected<A>(fields: &mut Fields, answer: impl FnOnce(&mut Fields) -> A) -> Outcome<A> {
+    match fields.number() {
+        0 => Ok(answer(fields)),
+        number => Err((number as u64, fields.number())),
+    }
+}
+
+fn numbers<const N: usize>(fields: &mut Fields) -> [i64; N] {
+    [0; N].map(|_| fields.number())
+}
+
+/// The packed form of each published series.
+fn packed_series() -> HashMap<&'static str, Vec<u8>> {
+    let mut all = HashMap::new();
+    for planet in ["mercury", "venus", "earth"] {
+        let mut packed = vec![0; 200_000];
+        let length = (PLAIN.read_text)(&published(planet), &mut packed).expect("the published series is good");
+        packed.truncate(length);
+        all.insert(planet, packed);
+    }
+    all
+}
+
+/// The planet's and Earth's series of a line that begins with `name PLANET` or `hex PLANET EARTH`.
+fn two_series(fields: &mut Fields, published: &HashMap<&str, Vec<u8>>) -> (Vec<u8>, Vec<u8>) {
+    match fields.word() {
+        "name" => (published[fields.word()].clone(), published["earth"].clone()),
+        _ => (fields.bytes(), fields.bytes()),
+    }
+}
+
+fn calendar(calls: &Calls) {
+    for (number, line) in vectors("calendar_days.txt") {
+        let fields = &mut Fields::of(&line);
+        if fields.word() == "day" {
+            let [year, month, day] = numbers(fields);
+            let answer = (calls.day_of_date)(year, month, day);
+            assert_eq!(answer, expected(fields, |fields| fields.number()), "line {number}: {line}");
+        } else {
+            let answer = (calls.date_of_day)(fields.number());
+            assert_eq!(answer, expected(fields, numbers), "line {number}: {line}");
+        }
+        assert!(fields.done(), "line {number}: {line}");
+    }
+    for (number, line) in vectors("calendar_instants.txt") {
+        let fields = &mut Fields::of(&line);
+        if fields.word() == "t" {
+            let answer = (calls.instant_of_date)(numbers(fields));
+            assert_eq!(answer, expected(fields, |fields| fields.number()), "line {number}: {line}");
+        } else {
+            let answer = (calls.date_of_instant)(fields.number());
+            assert_eq!(answer, expected(fields, numbers), "line {number}: {line}");
+        }
+        assert!(fields.done(), "line {number}: {line}");
+    }
+}
+
+/// A text cut at random into pieces, some of them empty.
+fn cut<'a>(text: &'a [u8], random: &mut Random) -> Vec<&'a [u8]> {
+    let mut pieces = Vec::new();
+    let mut rest = text;
+    let longest = random.pick(&[1, 2, 7, 60, 5000]);
+    while !rest.is_empty() {
+        let length = (random.below(longest + 1) as usize).min(rest.len());
+        let (piece, after) = rest.split_at(length);
+        pieces.push(piece);
+        rest = after;
+    }
+    pieces
+}
+
+/// The output that a text answer must leave: what is packed, then the bytes that were there.
+fn text_case(calls: &Calls, room: usize, text: &[u8], answer: Outcome<usize>, output: &[u8], random: &mut Random) {
+    let mut wanted = vec![0xA5; room];
+    wanted[..output.len()].copy_from_slice(output);
+    let mut packed = vec![0xA5; room];
+    assert_eq!((calls.read_text)(text, &mut packed), answer);
+    assert_eq!(packed, wanted);
+    let mut packed = vec![0xA5; room];
+    assert_eq!((calls.read_pieces)(&cut(text, random), &mut packed), answer);
+    assert_eq!(packed, wanted);
+}
+
+fn text(calls: &Calls) {
+    let mut random = Random(1);
+    for (number, line) in vectors("text.txt") {
+        println!("line {number}: {line}");
+        let fields = &mut Fields::of(&line);
+        match fields.word() {
+            "text" => {
+                let (room, text) = (fields.number() as usize, fields.bytes());
+                let answer = expected(fields, |fields| fields.number() as usize);
+                text_case(calls, room, &text, answer, &fields.bytes(), &mut random);
+            }
+            "rule" => {
+                let (room, text) = (fields.number() as usize, fields.repeated());
+                let answer = expected(fields, |fields| fields.number() as usize);
+                text_case(calls, room, &text, answer, &fields.repeated(), &mut random);
+            }
+            _ => {
+                let (text, room) = (published(fields.word()), fields.number() as usize);
+                let answer = expected(fields, |fields| fields.number() as usize);
+                let mut packed = vec![0xA5; room];
+                assert_eq!((calls.read_text)(&text, &mut packed), answer);
+                let end = packed.iter().rposition(|&byte| byte != 0xA5).map_or(0, |at| at + 1);
+                assert_eq!(hash(&packed[..end]), u64::from_str_radix(fields.word(), 16).unwrap());
+                let wanted = packed[..end].to_vec();
+                text_case(calls, room, &text, answer, &wanted, &mut random);
+            }
+        }
+        assert!(fields.done());
+    }
+}
+
+fn packed(calls: &Calls) {
+    for (number, line) in vectors("packed.txt") {
+        let fields = &mut Fields::of(&line);
+        let bytes = if fields.word() == "rule" { fields.repeated() } else { fields.bytes() };
+        let answer = (calls.check)(&bytes);
+        assert_eq!(answer, expected(fields, |fields| fields.number()), "line {number}: {line}");
+        assert!(fields.done(), "line {number}: {line}");
+    }
+}
+
+fn print(calls: &Calls) {
+    let series = packed_series();
+    for (number, line) in vectors("print.txt") {
+        let fields = &mut Fields::of(&line);
+        let (named, bytes, room) = if fields.word() == "name" {
+            let bytes = series[fields.word()].clone();
+            (true, bytes, fields.number() as usize)
+        } else {
+            let room = fields.number() as usize;
+            (false, fields.bytes(), room)
+        };
+        let mut text = vec![0xA5; room];
+        let answer = (calls.print)(&bytes, &mut text);
+        let wanted = expected(fields, |fields| fields.number() as usize);
+        assert_eq!(answer, wanted, "line {number}: {line}");
+        let length = wanted.unwrap_or(0);
+        if wanted.is_ok() && named {
+            assert_eq!(hash(&text[..length]), u64::from_str_radix(fields.word(), 16).unwrap(), "line {number}");
+        } else if wanted.is_ok() {
+            assert_eq!(text[..length], fields.bytes(), "line {number}: {line}");
+        }
+        assert!(text[length..].iter().all(|&byte| byte == 0xA5), "line {number}: {line}");
+        assert!(fields.done(), "line {number}: {line}");
+    }
+}
+
+fn coordinates(calls: &Calls) {
+    let series = packed_series();
+    for (number, line) in vectors("lbr.txt") {
+        let fields = &mut Fields::of(&line);
+        let bytes = if fields.word() == "name" { series[fields.word()].clone() } else { fields.bytes() };
+        let answer = (calls.coordinates_at)(&bytes, fields.number());
+        assert_eq!(answer, expected(fields, numbers), "line {number}: {line}");
+        assert!(fields.done(), "line {number}: {line}");
+    }
+}
+
+fn place(calls: &Calls) {
+    let series = packed_series();
+    for (number, line) in vectors("place.txt") {
+        let fields = &mut Fields::of(&line);
+        if line.starts_with("light") {
+            continue;
+        }
+        let (planet, earth) = two_series(fields, &series);
+        let t = fields.number();
+        let answer = (calls.apparent_place)(&planet, &earth, t);
+        let mount = (calls.mount_place)(&planet, &earth, t);
+        let wanted = expected(fields, |fields| {
+            let _: [i64; 11] = numbers(fields);
+            numbers(fields)
+        });
+        assert_eq!(answer, wanted, "line {number}: {line}");
+        let mount_wanted = match wanted {
+            Ok(_) => Ok([0; 3].map(|_| u64::from_str_radix(fields.word(), 16).unwrap())),
+            Err((refusal, _)) => Err(refusal),
+        };
+        assert_eq!(mount.map(|figures| figures.map(f64::to_bits)), mount_wanted, "line {number}: {line}");
+        assert!(fields.done(), "line {number}: {line}");
+    }
+}
+
+fn sun_list(calls: &Calls) {
+    let series = packed_series();
+    for (number, line) in vectors("sunlist.txt") {
+        let fields = &mut Fields::of(&line);
+        let (planet, earth) = two_series(fields, &series);
+        let window = numbers(fields);
+        let untouched = 0xA5A5_A5A5_A5A5_A5A5;
+        let mut runs = vec![untouched; fields.number() as usize];
+        let answer = (calls.sun_list)(&planet, &earth, window, &mut runs);
+        let wanted = expected(fields, |fields| fields.number() as usize);
+        assert_eq!(answer, wanted, "line {number}: {line}");
+        let count = wanted.unwrap_or(0);
+        let wanted_runs: Vec<u64> = (0..count).map(|_| fields.number() as u64).collect();
+        assert_eq!(runs[..count], wanted_runs, "line {number}: {line}");
+        assert!(runs[count..].iter().all(|&v| v == untouched), "line {number}: {line}");
+        assert!(fields.done(), "line {number}: {line}");
+    }
+}
+
+macro_rules! vectors_of {
+    ($module:ident, $calls:expr) => {
+        mod $module {
+            #[test]
+            fn calendar() {
+                super::calendar(&$calls);
+            }
+            #[test]
+            fn text() {
+                super::text(&$calls);
+            }
+            #[test]
+            fn packed() {
+                super::packed(&$calls);
+            }
+            #[test]
+            fn print() {
+                super::print(&$calls);
+            }
+            #[test]
+            fn coordinates() {
+                super::coordinates(&$calls);
+            }
+            #[test]
+            fn place() {
+                super::place(&$calls);
+            }
+            #[test]
+            fn sun_list() {
+                super::sun_list(&$calls);
+            }
+        }
+    };
+}
+
+vectors_of!(plain, super::PLAIN);
