@@ -1,1 +1,4 @@
+pub mod Decode
+pub mod Encode
+pub mod Folding
 pub mod Theorems

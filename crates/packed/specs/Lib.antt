@@ -3,3 +3,4 @@ pub mod Limits
 pub mod Numbers
 pub mod Series
 pub mod Tables
+pub mod Answers

@@ -1,4 +1,6 @@
 // Packed numbers and packed series: document 01, "Series, as text and packed".
+pub mod numbers;
+
 use units::Refusal;
 
 // A term of a series, in parts: a times the cosine of b + c tau.
