@@ -1,0 +1,1 @@
+// Direction and latitude of a vector, in hundredths of an arcsecond.

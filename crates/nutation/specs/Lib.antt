@@ -1,0 +1,3 @@
+-- Document 01, "Places": nutation and obliquity.
+pub mod Table
+pub mod Nutation

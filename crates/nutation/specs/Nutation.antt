@@ -1,0 +1,90 @@
+-- Document 01, "Places": nutation and obliquity, by document 000's five arguments and its table.
+use mathlib.Core.List.{List, [], _∷_}
+use Prim.Native.Nat.{ℕ}
+use lib.IntN.{ℤ, pos, _+ℤ_, _*ℤ_}
+use Rattle.integers.specs.Division.{rounded}
+use Rattle.units.specs.Units.{U, millennium}
+use Rattle.cosine.specs.Cosine.{cosine, sine}
+use Rattle.direction.specs.Angles.{units-angle}
+use Rattle.nutation.specs.declared.Row.{Row}
+use Rattle.nutation.specs.Table.{neg, rows}
+
+-- "Highest power first, each product by n/T rounded": the coefficients from the constant one up.
+unfoldable pub polynomial : ℤ → List ℤ → ℤ
+polynomial n [] = pos 0
+polynomial n (c ∷ cs) = c +ℤ rounded (polynomial n cs *ℤ n) millennium
+
+-- "Arguments in 10^-8 arcsecond, highest power first, each product by 10t/T rounded".
+abbrev pub argument : ℤ → List ℤ → ℤ
+argument t cs = polynomial (pos 10 *ℤ t) cs
+
+-- D, the Moon's mean elongation.
+unfoldable pub mean-elongation : ℤ → ℤ
+mean-elongation t = argument t (pos 107226073512000 ∷ pos 160296160146030000 ∷ neg 586810000 ∷ pos 659500 ∷ neg 3184 ∷ [])
+
+-- M, the Sun's mean anomaly.
+unfoldable pub sun-anomaly : ℤ → ℤ
+sun-anomaly t = argument t (pos 128710479304800 ∷ pos 12959658104740000 ∷ neg 55290000 ∷ pos 14700 ∷ [])
+
+-- M', the Moon's mean anomaly.
+unfoldable pub moon-anomaly : ℤ → ℤ
+moon-anomaly t = argument t (pos 48586828096800 ∷ pos 171791592347280000 ∷ pos 3238930000 ∷ pos 5165100 ∷ neg 24470 ∷ [])
+
+-- F, the Moon's argument of latitude.
+unfoldable pub latitude-argument : ℤ → ℤ
+latitude-argument t = argument t (pos 33577955755200 ∷ pos 173952726309830000 ∷ neg 1225050000 ∷ neg 102100 ∷ pos 417 ∷ [])
+
+-- The longitude of the Moon's ascending node.
+unfoldable pub moon-node : ℤ → ℤ
+moon-node t = argument t (pos 45016039814400 ∷ neg 696289026560000 ∷ pos 747420000 ∷ pos 770200 ∷ neg 5939 ∷ [])
+
+-- "A row's s is the sum of its multipliers times the arguments."
+unfoldable pub row-sum : ℤ → Row → ℤ
+row-sum t r = r .elongation *ℤ mean-elongation t +ℤ r .sun *ℤ sun-anomaly t +ℤ r .moon *ℤ moon-anomaly t +ℤ r .latitude *ℤ latitude-argument t +ℤ r .node *ℤ moon-node t
+
+-- "The units in a turn": 10^-8 arcsecond for the arguments, 10^-5 for the sums.
+abbrev pub argument-turn : ℕ
+argument-turn = 129600000000000
+
+abbrev pub sum-turn : ℕ
+sum-turn = 129600000000
+
+unfoldable pub row-angle : ℤ → Row → ℤ
+row-angle t r = units-angle argument-turn (row-sum t r)
+
+-- "Its coefficient in 10^-5 arcsecond is ten times the first figure plus rounded rate part"
+unfoldable pub coefficient : ℤ → ℤ → ℤ → ℤ
+coefficient t first rate = pos 10 *ℤ first +ℤ rounded (rate *ℤ (pos 10 *ℤ t)) millennium
+
+-- "times sine or cosine over U, rounded".
+unfoldable pub longitude-term : ℤ → Row → ℤ
+longitude-term t r = rounded (coefficient t (r .psi) (r .psit) *ℤ sine (row-angle t r)) U
+
+unfoldable pub obliquity-term : ℤ → Row → ℤ
+obliquity-term t r = rounded (coefficient t (r .eps) (r .epst) *ℤ cosine (row-angle t r)) U
+
+-- The terms of the rows, added to a sum in their order.
+unfoldable pub add-up : (Row → ℤ) → ℤ → List Row → ℤ
+add-up term sum [] = sum
+add-up term sum (r ∷ rs) = add-up term (sum +ℤ term r) rs
+
+-- The nutation in longitude and in obliquity, in 10^-5 arcsecond.
+unfoldable pub longitude-nutation : ℤ → ℤ
+longitude-nutation t = add-up (longitude-term t) (pos 0) rows
+
+unfoldable pub obliquity-nutation : ℤ → ℤ
+obliquity-nutation t = add-up (obliquity-term t) (pos 0) rows
+
+-- "Mean obliquity likewise, in 10^-5 arcsecond, but its polynomial is in tau, so by t/T. True obliquity adds the nutation in obliquity."
+unfoldable pub mean-obliquity : ℤ → ℤ
+mean-obliquity t = polynomial t (pos 8438144800 ∷ neg 46815000 ∷ neg 5900 ∷ pos 181300 ∷ [])
+
+unfoldable pub true-obliquity : ℤ → ℤ
+true-obliquity t = mean-obliquity t +ℤ obliquity-nutation t
+
+-- Both as angles, in 10^-13 radian.
+unfoldable pub nutation-angle : ℤ → ℤ
+nutation-angle t = units-angle sum-turn (longitude-nutation t)
+
+unfoldable pub obliquity-angle : ℤ → ℤ
+obliquity-angle t = units-angle sum-turn (true-obliquity t)
