@@ -1,0 +1,194 @@
+-- P2's ladder: a term, a block and the running sum against the exact ones. Assumes nothing.
+use mathlib.Core.Path.{_≡_, refl, sym, ap, ap₂, _∙_, subst, subst₂}
+use mathlib.Core.Bool.{Bool, true, false, cond, _&&_}
+use mathlib.Core.List.{List, [], _∷_}
+use Prim.Native.Nat.{ℕ, zero, suc, _+_, _*_, _^_, _≤_, _<_}
+use native.Mathlib.Omega.{arith}
+use borrow.Author.Tests.{eqb-true}
+use lib.Dec.{T, eqb}
+use lib.IntN.{ℤ, pos, negsuc, natAbs, _+ℤ_, _-ℤ_, _*ℤ_, zero-*ℤ}
+use Rattle.integers.specs.Order.{_≼_, _≺_}
+use Rattle.integers.specs.Division.{floor, rounded, modulo}
+use Rattle.integers.specs.Fractions.{Fraction, _*ᶠ_, _+ᶠ_, wholeᶠ, overᶠ, powerᶠ}
+use Rattle.integers.proofs.Auto.{polys, ring!, cert!, gap, gap≡, _⊞_, _⊛_, _·_}
+use Rattle.integers.proofs.Pairs.{nonneg}
+use Rattle.integers.proofs.Order.{natAbs-low, natAbs-high, ≼-antisym, cancel}
+use Rattle.integers.proofs.Division.{rounded-add}
+use Rattle.integers.proofs.Bounds.{Bd, bd-rounded, bd-neg, bd-as}
+use Rattle.units.specs.Units.{U, millennium, t-limit, tau-limit}
+use Rattle.cosine.specs.Cosine.{cosine}
+use Rattle.cosine.specs.Reference.{Within}
+use Rattle.cosine.specs.Terms.{Allowed, term-angle, term-cosine, term-value, term-reference}
+use Rattle.cosine.proofs.Promise.{P1, P1-constant}
+use Rattle.cosine.proofs.Figures.{figures}
+use Rattle.packed.specs.declared.Term.{Term}
+use Rattle.packed.specs.Limits.{constant, weight, coarse-share}
+use Rattle.series.specs.Sums.{block-sum, running-sum}
+use Rattle.series.specs.Exact.{tau, exact-term, exact-block, exact-sum}
+use Rattle.series.proofs.Close.{Close, close-zero, close-+, close-term, close-constant, close-step, power-lower, power-bound}
+use Rattle.series.proofs.Weights.{block-weight, coarseness, roundings, In-limits, All-in, Blocks-in}
+
+abbrev u : ℤ
+u = pos U
+
+-- |z| ≤ n both ways
+pub bd-natAbs : (z : ℤ) (n : ℕ) → natAbs z ≤ n → Bd (pos n) z
+bd-natAbs z n h = record { low = natAbs-low z n h; high = natAbs-high z n h }
+
+-- ---- a term
+
+both : (x y : Bool) → (x && y) ≡ true → (x ≡ true) × (y ≡ true)
+both true true e = (refl, refl)
+both true false e = (refl, e)
+both false y e = (e, absurd (let z : T false = subst T (sym e) tt in z))
+
+zero-size : (c : ℤ) → natAbs c ≡ 0 → c ≡ pos 0
+zero-size (pos n) e = ap pos e
+zero-size (negsuc n) e = absurd (omega arith)
+
+constant-is : (b : ℕ) (c : ℤ) → constant b c ≡ true → (b ≡ 0) × (c ≡ pos 0)
+unfolding constant
+constant-is b c e =
+    let h = both (eqb b 0) (eqb (natAbs c) 0) e in
+    (eqb-true b 0 (h .0), zero-size c (eqb-true (natAbs c) 0 (h .1)))
+
+-- the cosine of a constant term is U
+constant-cosine : (t : ℤ) → term-cosine 0 (pos 0) t ≡ u
+unfolding term-cosine term-angle rounded floor modulo
+constant-cosine t = ap (λ z. cosine (pos (modulo (pos 0 +ℤ rounded z millennium) 62831853071796))) (zero-*ℤ t) ∙ ap head figures
+  where
+    head : List ℤ → ℤ
+    head [] = pos 0
+    head (x ∷ xs) = x
+
+-- so its value is a
+whole-rounded : (a : ℤ) → rounded (a *ℤ u) U ≡ a
+whole-rounded a =
+    ap (λ z. rounded z U) (ring! (a ∷ []) {y = u *ℤ a +ℤ pos 0} (search polys depth 60 fits 100000) (search polys depth 60 fits 100000) tt)
+    ∙ rounded-add a (pos 0) U (omega arith) ∙ unfold rounded floor in ring! (a ∷ []) (search polys depth 60 fits 100000) (search polys depth 60 fits 100000) tt
+
+-- and its reference cosine is 1
+constant-reference : (t : ℤ) → term-reference 0 (pos 0) t .upper ≡ term-reference 0 (pos 0) t .lower
+constant-reference t =
+    let z = term-reference 0 (pos 0) t in
+    let h = subst (λ x. Within 0 x z) (constant-cosine t) (P1-constant t) in
+    ≼-antisym (z .upper) (z .lower)
+    (cert! (z .upper ∷ z .lower ∷ []) 999999999 (gap (h .least)) (search polys depth 60 fits 100000) (search polys depth 60 fits 100000) (search polys depth 60 fits 100000) tt)
+    (cert! (z .upper ∷ z .lower ∷ []) 999999999 (gap (h .most)) (search polys depth 60 fits 100000) (search polys depth 60 fits 100000) (search polys depth 60 fits 100000) tt)
+
+module _ (t : ℤ) (ht : natAbs t ≤ t-limit) (i : ℕ) where
+  abbrev p : ℤ
+  p = powerᶠ (tau t) i .upper
+
+  abbrev q : ℤ
+  q = powerᶠ (tau t) i .lower
+
+  q-positive : pos 0 ≺ q
+  q-positive = power-lower t millennium i (omega arith)
+
+  p-bound : Bd (pos (tau-limit ^ i) *ℤ q) p
+  p-bound = power-bound tau-limit t millennium i (bd-natAbs t t-limit ht)
+
+  constant-close : (a : ℤ) → Close u (pos 0) p q (term-value a 0 (pos 0) t) (wholeᶠ a *ᶠ powerᶠ (tau t) i *ᶠ term-reference 0 (pos 0) t)
+  unfolding term-value
+  constant-close a =
+      subst (λ x. Close u (pos 0) p q x (wholeᶠ a *ᶠ powerᶠ (tau t) i *ᶠ term-reference 0 (pos 0) t))
+      (sym (ap (λ c. rounded (a *ℤ c) U) (constant-cosine t) ∙ whole-rounded a))
+      (close-constant u p q a (term-reference 0 (pos 0) t) q-positive (P1-constant t .positive) (constant-reference t))
+
+  other-close : (x : Term) → In-limits x → Close u (pos (tau-limit ^ i * (coarse-share * natAbs (x .a) + U))) p q (term-value (x .a) (x .b) (x .c) t) (exact-term t i x)
+  unfolding term-value exact-term
+  other-close x h =
+      let c = term-cosine (x .b) (x .c) t in
+      let z = term-reference (x .b) (x .c) t in
+      let w = P1 (x .b) (x .c) t (record { b-in = h .b-in; c-in = h .c-in; t-in = ht }) in
+      close-term u (pos 7) (pos (natAbs (x .a))) (pos (tau-limit ^ i)) p q (x .a) c (rounded (x .a *ℤ c) U) z q-positive (w .positive) (nonneg 7) p-bound (bd-natAbs (x .a) (natAbs (x .a)) (omega arith))
+      (bd-rounded (x .a *ℤ c) U (omega arith)) (record { low = w .least; high = w .most })
+
+  term-close : (x : Term) → In-limits x → Close u (pos (weight (tau-limit ^ i) (x .a) (x .b) (x .c))) p q (term-value (x .a) (x .b) (x .c) t) (exact-term t i x)
+  unfolding weight exact-term
+  term-close x h = go (constant (x .b) (x .c)) refl
+    where
+      go : (k : Bool) → constant (x .b) (x .c) ≡ k → Close u (pos (cond k 0 (tau-limit ^ i * (coarse-share * natAbs (x .a) + U)))) p q (term-value (x .a) (x .b) (x .c) t) (exact-term t i x)
+      go true e = let h = constant-is (x .b) (x .c) e in subst₂ (λ (b : ℕ) (c : ℤ). Close u (pos 0) p q (term-value (x .a) b c t) (wholeᶠ (x .a) *ᶠ powerᶠ (tau t) i *ᶠ term-reference b c t)) (sym (h .0)) (sym (h .1)) (constant-close (x .a))
+      go false e = other-close x h
+
+  -- ---- a block
+  block-close : (xs : List Term) → All-in xs → Close u (pos (block-weight (tau-limit ^ i) xs)) p q (block-sum t xs) (exact-block t i xs)
+  unfolding block-weight block-sum exact-block All-in
+  block-close [] h = close-zero u p q
+  block-close (x ∷ xs) h =
+      close-+ u (pos (weight (tau-limit ^ i) (x .a) (x .b) (x .c))) (pos (block-weight (tau-limit ^ i) xs)) p q
+      (term-value (x .a) (x .b) (x .c) t) (block-sum t xs) (exact-term t i x) (exact-block t i xs) (term-close x (h .0)) (block-close xs (h .1))
+
+-- ---- the running sum
+
+pub running-step : (t : ℤ) (b c : List Term) (bs : List (List Term)) → running-sum t (b ∷ c ∷ bs) ≡ block-sum t b +ℤ rounded (running-sum t (c ∷ bs) *ℤ t) millennium
+unfolding running-sum
+running-step t b c bs = refl
+
+pub running-one : (t : ℤ) (b : List Term) → running-sum t (b ∷ []) ≡ block-sum t b
+unfolding running-sum
+running-one t b = refl
+
+errors-step : (i : ℕ) (b c : List Term) (bs : List (List Term))
+    → pos (block-weight (tau-limit ^ i) b) +ℤ pos (tau-limit ^ i) *ℤ u +ℤ pos (coarseness (suc i) (c ∷ bs) + U * roundings (suc i) (c ∷ bs)) ≡ pos (coarseness i (b ∷ c ∷ bs) + U * roundings i (b ∷ c ∷ bs))
+errors-step i b c bs = ap pos (add (block-weight (tau-limit ^ i) b) (tau-limit ^ i) (coarseness (suc i) (c ∷ bs)) (roundings (suc i) (c ∷ bs)) _ _ (coarse-is i b (c ∷ bs)) (roundings-is i b c bs))
+  where
+    add : (m w k r k′ r′ : ℕ) → k′ ≡ m + k → r′ ≡ w + r → m + w * U + (k + U * r) ≡ k′ + U * r′
+    add m w k r k′ r′ e f = omega arith
+
+    coarse-is : (i : ℕ) (b : List Term) (bs : List (List Term)) → coarseness i (b ∷ bs) ≡ block-weight (tau-limit ^ i) b + coarseness (suc i) bs
+    coarse-is i b bs = unfold coarseness in refl
+
+    roundings-is : (i : ℕ) (b c : List Term) (bs : List (List Term)) → roundings i (b ∷ c ∷ bs) ≡ tau-limit ^ i + roundings (suc i) (c ∷ bs)
+    roundings-is i b c bs = unfold roundings in refl
+
+errors-one : (i : ℕ) (b : List Term) → pos (block-weight (tau-limit ^ i) b) +ℤ pos 0 ≡ pos (coarseness i (b ∷ []) + U * roundings i (b ∷ []))
+unfolding coarseness roundings
+errors-one i b = ap pos (omega arith)
+
+exact-step : (t : ℤ) (i : ℕ) (b : List Term) (bs : List (List Term)) → exact-sum t i (b ∷ bs) ≡ exact-block t i b +ᶠ exact-sum t (suc i) bs
+unfolding exact-sum
+exact-step t i b bs = refl
+
+in-head : (b : List Term) (bs : List (List Term)) → Blocks-in (b ∷ bs) → All-in b
+unfolding Blocks-in
+in-head b bs h = h .0 .limits
+
+in-tail : (b : List Term) (bs : List (List Term)) → Blocks-in (b ∷ bs) → Blocks-in bs
+unfolding Blocks-in
+in-tail b bs h = h .1
+
+-- the value and the exact sum of blocks from power i on, with their error
+abbrev Sum-close : ℤ → ℕ → List (List Term) → Type 0
+Sum-close t i bs = Close u (pos (coarseness i bs + U * roundings i bs)) (powerᶠ (tau t) i .upper) (powerᶠ (tau t) i .lower) (running-sum t bs) (exact-sum t i bs)
+
+exact-none : (t : ℤ) (i : ℕ) → exact-sum t i [] ≡ wholeᶠ (pos 0)
+unfolding exact-sum
+exact-none t i = refl
+
+plus-zero : (x : ℤ) → x ≡ x +ℤ pos 0
+plus-zero x = ring! (x ∷ []) (search polys depth 60 fits 100000) (search polys depth 60 fits 100000) tt
+
+one-close : (t : ℤ) → natAbs t ≤ t-limit → (i : ℕ) (b : List Term) → All-in b → Sum-close t i (b ∷ [])
+one-close t ht i b h =
+    rw (running-one t b ∙ plus-zero (block-sum t b), exact-step t i b [] ∙ ap (λ f. exact-block t i b +ᶠ f) (exact-none t (suc i)), ← errors-one i b)
+    (close-+ u (pos (block-weight (tau-limit ^ i) b)) (pos 0) (powerᶠ (tau t) i .upper) (powerᶠ (tau t) i .lower) (block-sum t b) (pos 0) (exact-block t i b) (wholeᶠ (pos 0)) (block-close t ht i b h) (close-zero u (powerᶠ (tau t) i .upper) (powerᶠ (tau t) i .lower)))
+
+more-close : (t : ℤ) → natAbs t ≤ t-limit → (i : ℕ) (b c : List Term) (bs : List (List Term)) → All-in b → Sum-close t (suc i) (c ∷ bs) → Sum-close t i (b ∷ c ∷ bs)
+more-close t ht i b c bs h k =
+    let v = running-sum t (c ∷ bs) in
+    rw (running-step t b c bs, exact-step t i b (c ∷ bs), ← errors-step i b c bs)
+    (close-step u (pos (block-weight (tau-limit ^ i) b)) (pos (coarseness (suc i) (c ∷ bs) + U * roundings (suc i) (c ∷ bs))) (pos (tau-limit ^ i)) (powerᶠ (tau t) i .upper) (powerᶠ (tau t) i .lower) t (pos millennium)
+    (block-sum t b) v (rounded (v *ℤ t) millennium) (exact-block t i b) (exact-sum t (suc i) (c ∷ bs)) (nonneg U) (q-positive t ht i) (record { lt = tt }) (p-bound t ht i) (bd-rounded (v *ℤ t) millennium (omega arith))
+    (block-close t ht i b h) (power-next t i k))
+  where
+    power-next : (t : ℤ) (i : ℕ) {m x : ℤ} {f : Fraction} → Close u m (powerᶠ (tau t) (suc i) .upper) (powerᶠ (tau t) (suc i) .lower) x f
+        → Close u m (t *ℤ powerᶠ (tau t) i .upper) (pos millennium *ℤ powerᶠ (tau t) i .lower) x f
+    power-next t i h = unfold powerᶠ _*ᶠ_ in h
+
+pub sum-close : (t : ℤ) → natAbs t ≤ t-limit → (i : ℕ) (bs : List (List Term)) → Blocks-in bs → Sum-close t i bs
+sum-close t ht i [] h = unfold coarseness roundings running-sum exact-sum in close-zero u (powerᶠ (tau t) i .upper) (powerᶠ (tau t) i .lower)
+sum-close t ht i (b ∷ []) h = one-close t ht i b (in-head b [] h)
+sum-close t ht i (b ∷ c ∷ bs) h = more-close t ht i b c bs (in-head b (c ∷ bs) h) (sum-close t ht (suc i) (c ∷ bs) (in-tail b (c ∷ bs) h))

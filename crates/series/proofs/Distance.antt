@@ -1,0 +1,66 @@
+-- From the error of the running sum to a distance in parts, for each coordinate of an accepted series. Assumes nothing.
+use mathlib.Core.Path.{_≡_, refl, sym, ap, _∙_, subst}
+use mathlib.Core.List.{List, [], _∷_}
+use Prim.Native.Nat.{ℕ, zero, suc, _+_, _*_, _^_, _≤_}
+use native.Mathlib.Omega.{arith}
+use lib.Dec.{le→leb}
+use lib.IntN.{ℤ, pos, natAbs, negℤ, _+ℤ_, _-ℤ_, _*ℤ_}
+use lib.ListN.{take, drop}
+use Rattle.integers.specs.Order.{_≼_, _≺_}
+use Rattle.integers.specs.Fractions.{Fraction, _*ᶠ_, _+ᶠ_, negᶠ, wholeᶠ, overᶠ, powerᶠ, Apart}
+use Rattle.integers.proofs.Auto.{polys, cert!, gap, _⊞_, _⊛_, _·_}
+use Rattle.integers.proofs.Order.{≺-≼}
+use Rattle.units.specs.Units.{U, t-limit, tau-limit}
+use Rattle.packed.specs.declared.Term.{Term}
+use Rattle.packed.specs.Limits.{coarse-base, coarse-limit}
+use Rattle.series.specs.Sums.{running-sum}
+use Rattle.series.specs.Exact.{tau, exact-sum}
+use Rattle.series.proofs.Close.{Close}
+use Rattle.series.proofs.Weights.{coarseness, roundings, Blocks-in}
+use Rattle.series.proofs.Accuracy.{sum-close}
+
+pub in-take : (n : ℕ) (bs : List (List Term)) → Blocks-in bs → Blocks-in (take n bs)
+unfolding Blocks-in
+in-take zero bs h = tt
+in-take (suc n) [] h = tt
+in-take (suc n) (b ∷ bs) h = (h .0, in-take n bs (h .1))
+
+pub in-drop : (n : ℕ) (bs : List (List Term)) → Blocks-in bs → Blocks-in (drop n bs)
+unfolding Blocks-in
+in-drop zero bs h = h
+in-drop (suc n) [] h = tt
+in-drop (suc n) (b ∷ bs) h = in-drop n bs (h .1)
+
+-- 1 + 2 + 4 + 8 + 16
+five-roundings : (bs : List (List Term)) → roundings 0 (take 6 bs) ≤ 31
+unfolding roundings
+five-roundings [] = omega arith
+five-roundings (a ∷ []) = omega arith
+five-roundings (a ∷ b ∷ []) = omega arith
+five-roundings (a ∷ b ∷ c ∷ []) = omega arith
+five-roundings (a ∷ b ∷ c ∷ d ∷ []) = omega arith
+five-roundings (a ∷ b ∷ c ∷ d ∷ e ∷ []) = omega arith
+five-roundings (a ∷ b ∷ c ∷ d ∷ e ∷ f ∷ bs) = omega arith
+
+-- 2U·|x − f| ≤ m with m at most 2·10^14 puts x within 10^5 of f
+within : (m : ℕ) (x : ℤ) (f : Fraction) → m ≤ coarse-limit → Close (pos U) (pos m) (pos 1) (pos 1) x f → Apart (wholeᶠ (pos 100000)) (wholeᶠ x) f
+unfolding _+ᶠ_ negᶠ
+within m x f h c =
+    let l : pos m ≼ pos coarse-limit = record { le = le→leb m coarse-limit h } in
+    record {
+      lower-e = record { lt = tt };
+      lower-f = record { lt = tt };
+      lower-g = c .lower;
+      most = cert! (pos m ∷ x ∷ f .upper ∷ f .lower ∷ []) 1999999999 (gap (c .bound .high) ⊞ gap l ⊛ ≺-≼ (c .lower)) (search polys depth 60 fits 100000) (search polys depth 60 fits 100000) (search polys depth 60 fits 100000) tt;
+      least = cert! (pos m ∷ x ∷ f .upper ∷ f .lower ∷ []) 1999999999 (gap (c .bound .low) ⊞ gap l ⊛ ≺-≼ (c .lower)) (search polys depth 60 fits 100000) (search polys depth 60 fits 100000) (search polys depth 60 fits 100000) tt;
+    }
+
+pub distance : (t : ℤ) → natAbs t ≤ t-limit → (bs : List (List Term)) → Blocks-in bs → coarse-base + coarseness 0 (take 6 bs) ≤ coarse-limit
+    → Apart (wholeᶠ (pos 100000)) (wholeᶠ (running-sum t (take 6 bs))) (exact-sum t 0 (take 6 bs))
+distance t ht bs h l =
+    let r = five-roundings bs in
+    within (coarseness 0 (take 6 bs) + U * roundings 0 (take 6 bs)) (running-sum t (take 6 bs)) (exact-sum t 0 (take 6 bs)) (small (coarseness 0 (take 6 bs)) (roundings 0 (take 6 bs)) l r)
+    (unfold powerᶠ in sum-close t ht 0 (take 6 bs) (in-take 6 bs h))
+  where
+    small : (c r : ℕ) → coarse-base + c ≤ coarse-limit → r ≤ 31 → c + U * r ≤ coarse-limit
+    small c r h k = omega arith

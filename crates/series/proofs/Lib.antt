@@ -1,0 +1,8 @@
+-- P2 from its ladder: `Promise` states it. `Close`, `Weights`, `Accuracy`: the error of a term, a block and the running sum; `Accepted`: what an accepted series keeps; `Distance`: the error in parts; `Answered`: what an answer says.
+pub mod Close
+pub mod Weights
+pub mod Accuracy
+pub mod Accepted
+pub mod Distance
+pub mod Answered
+pub mod Promise

@@ -1,0 +1,53 @@
+-- Document 01, "Working cosine and sums": S_i, V and L, B, R at t; and what the call answers.
+use mathlib.Core.Bool.{cond}
+use mathlib.Core.List.{List, [], _∷_}
+use Prim.Native.Nat.{ℕ, _*_}
+use lib.IntN.{ℤ, pos, _+ℤ_, _*ℤ_}
+use lib.ListN.{take, drop}
+use Rattle.integers.specs.Division.{rounded}
+use Rattle.units.specs.Units.{millennium, in-limit}
+use Rattle.units.specs.declared.Instant.{Instant}
+use Rattle.units.specs.declared.Coordinates.{Coordinates}
+use Rattle.units.specs.declared.Refusal.the-variants.{PastLimit}
+use Rattle.cosine.specs.Terms.{term-value}
+use Rattle.packed.specs.declared.Term.{Term}
+use Rattle.packed.specs.Limits.{powers}
+use Rattle.packed.specs.Series.{Parsed, accepted, refused, parse}
+use Rattle.series.specs.declared.CoordinatesAnswer.{CoordinatesAnswer}
+use Rattle.series.specs.declared.CoordinatesAnswer.the-variants.{At, NoCoordinates}
+
+-- "S_i is the sum of block i."
+unfoldable pub block-sum : ℤ → List Term → ℤ
+block-sum t [] = pos 0
+block-sum t (x ∷ xs) = term-value (x .a) (x .b) (x .c) t +ℤ block-sum t xs
+
+-- "V = S_5, then for i = 4 to 0, V becomes S_i + rounded V*t/T": V of the blocks of a coordinate from power i on.
+unfoldable pub running-sum : ℤ → List (List Term) → ℤ
+running-sum t [] = pos 0
+running-sum t (b ∷ []) = block-sum t b
+running-sum t (b ∷ c ∷ bs) = block-sum t b +ℤ rounded (running-sum t (c ∷ bs) *ℤ t) millennium
+
+-- "18 blocks: powers 0 to 5 of longitude L, then of latitude B, then of radius R."
+unfoldable pub longitude-blocks : List (List Term) → List (List Term)
+longitude-blocks blocks = take powers blocks
+
+unfoldable pub latitude-blocks : List (List Term) → List (List Term)
+latitude-blocks blocks = take powers (drop powers blocks)
+
+unfoldable pub radius-blocks : List (List Term) → List (List Term)
+radius-blocks blocks = take powers (drop (2 * powers) blocks)
+
+unfoldable pub coordinates : ℤ → List (List Term) → Coordinates
+coordinates t blocks = record {
+  longitude = running-sum t (longitude-blocks blocks);
+  latitude = running-sum t (latitude-blocks blocks);
+  radius = running-sum t (radius-blocks blocks);
+}
+
+-- "For L, B, R: 2, series."
+unfoldable pub of-parsed : Instant → Parsed → CoordinatesAnswer
+of-parsed t (accepted blocks) = At (coordinates (t .ms) blocks)
+of-parsed t (refused r) = NoCoordinates r
+
+unfoldable pub coordinates-answer : List ℕ → Instant → CoordinatesAnswer
+coordinates-answer bytes t = cond (in-limit (t .ms)) (of-parsed t (parse bytes)) (NoCoordinates (PastLimit t))
