@@ -1,0 +1,264 @@
+-- Q5: the working unit vectors of the Sun and of the planet are close enough to the exact directions. Assumes nothing.
+use mathlib.Core.Path.{_≡_, refl, sym, ap, ap₂, _∙_, subst, subst₂}
+use mathlib.Core.Logic.{_⊎_, inl, inr}
+use mathlib.Core.List.{List, [], _∷_}
+use Prim.Native.Nat.{ℕ, zero, suc, _+_, _*_, _-_, _≤_, _<_}
+use native.Mathlib.Omega.{arith}
+use lib.Dec.{le→leb, leb→le}
+use lib.IntN.{ℤ, pos, negsuc, negℤ, natAbs, _+ℤ_, _-ℤ_, _*ℤ_}
+use Rattle.integers.specs.Order.{_≼_, _≺_}
+use Rattle.integers.specs.Division.{rounded}
+use Rattle.integers.proofs.Pairs.{nonneg, ≤ℤ-trans}
+use Rattle.integers.proofs.Auto.{polys, ring!, cert!, cert<!, gap, gap<, gap≡, _⊞_, _⊛_, _·_, sqr}
+use Rattle.integers.proofs.Order.{≺-≼, product-pos}
+use Rattle.integers.proofs.Division.{rounded-low, rounded-high}
+use Rattle.integers.proofs.Bounds.{Bd, bd-*, bd-+, bd-neg, bd-self, bd-le, bd-cancel, bd-as, bd-rounded}
+use Rattle.units.specs.Units.{U}
+use Rattle.vectors.specs.declared.Vector.{Vector}
+use Rattle.vectors.specs.Vectors.{geocentric, sun, length, unit}
+use Rattle.separation.proofs.Row.{eps}
+use Rattle.separation.proofs.Form.{dot, scl, sub, Bd³}
+use Rattle.separation.proofs.Sizes.{Unit³}
+use Rattle.separation.proofs.Halves.{Close}
+use Rattle.separation.proofs.Units.{unitBy, unit-near, unit-is, length-high², shorter}
+use Rattle.separation.proofs.Places.{Figures, Faithful, OneFar, placed, toward, exactPlace, place-near, long, times, bx, by, bz, within-of}
+
+-- ---- Q5
+
+-- one component of the Sun: u is rounded over l, n the exact direction, q = Q², p the exact R
+sun-part : (l q R p T u a n : ℤ) → pos 0 ≼ q → pos 0 ≼ p → Bd l (pos 2 *ℤ (l *ℤ u -ℤ pos U *ℤ (negℤ a))) → Bd T (pos U *ℤ (q *ℤ a -ℤ R *ℤ n))
+    → Bd (p *ℤ (q *ℤ l +ℤ pos 2 *ℤ T)) (pos 2 *ℤ pos U *ℤ R *ℤ (negℤ (p *ℤ n)) -ℤ pos 2 *ℤ (l *ℤ q) *ℤ p *ℤ u)
+sun-part l q R p T u a n hq hp hu ha =
+    let r = pos 2 *ℤ (l *ℤ u -ℤ pos U *ℤ (negℤ a)) in
+    let t = pos U *ℤ (q *ℤ a -ℤ R *ℤ n) in
+    bd-as _ _ _ _ refl (ring! (l ∷ q ∷ R ∷ p ∷ u ∷ a ∷ n ∷ []) (search polys depth 60 fits 100000) (search polys depth 60 fits 100000) tt)
+    (times p (q *ℤ l +ℤ pos 2 *ℤ T) (q *ℤ negℤ r +ℤ pos 2 *ℤ t) hp
+    (bd-+ (q *ℤ l) (pos 2 *ℤ T) (q *ℤ negℤ r) (pos 2 *ℤ t) (times q l (negℤ r) hq (bd-neg l r hu)) (times (pos 2) T t (nonneg 2) ha)))
+
+-- one component of a whole place, with R's own error; Q·q is Q³
+full-part : (Q q R p T a n : ℤ) → pos 0 ≼ Q → Bd q n → Bd (pos 200000 *ℤ Q) (Q *ℤ R -ℤ p) → Bd T (pos U *ℤ (q *ℤ a -ℤ R *ℤ n))
+    → Bd (Q *ℤ T +ℤ pos U *ℤ (pos 200000 *ℤ Q *ℤ q)) (pos U *ℤ (Q *ℤ q *ℤ a -ℤ p *ℤ n))
+full-part Q q R p T a n hQ hn hR ha =
+    let t = pos U *ℤ (q *ℤ a -ℤ R *ℤ n) in
+    bd-as _ _ _ _ refl (ring! (Q ∷ q ∷ R ∷ p ∷ a ∷ n ∷ []) (search polys depth 60 fits 100000) (search polys depth 60 fits 100000) tt)
+    (bd-+ (Q *ℤ T) (pos U *ℤ (pos 200000 *ℤ Q *ℤ q)) (Q *ℤ t) (pos U *ℤ ((Q *ℤ R -ℤ p) *ℤ n))
+    (times Q T t hQ ha) (times (pos U) (pos 200000 *ℤ Q *ℤ q) ((Q *ℤ R -ℤ p) *ℤ n) (nonneg U) (bd-* (pos 200000 *ℤ Q) q (Q *ℤ R -ℤ p) n hR hn)))
+
+-- one component of the planet: c is Q³, E and F the bounds of the two places
+planet-part : (D c E F v a b m n : ℤ) → pos 0 ≼ c → Bd D (pos 2 *ℤ (D *ℤ v -ℤ pos U *ℤ (a -ℤ b))) → Bd E (pos U *ℤ (c *ℤ a -ℤ m)) → Bd F (pos U *ℤ (c *ℤ b -ℤ n))
+    → Bd (c *ℤ D +ℤ (pos 2 *ℤ E +ℤ pos 2 *ℤ F)) (pos 2 *ℤ pos U *ℤ (m -ℤ n) -ℤ pos 2 *ℤ (D *ℤ c) *ℤ v)
+planet-part D c E F v a b m n hc hv ha hb =
+    let r = pos 2 *ℤ (D *ℤ v -ℤ pos U *ℤ (a -ℤ b)) in
+    let s = pos U *ℤ (c *ℤ a -ℤ m) in
+    let t = pos U *ℤ (c *ℤ b -ℤ n) in
+    bd-as _ _ _ _ refl (ring! (D ∷ c ∷ v ∷ a ∷ b ∷ m ∷ n ∷ []) (search polys depth 60 fits 100000) (search polys depth 60 fits 100000) tt)
+    (bd-+ (c *ℤ D) (pos 2 *ℤ E +ℤ pos 2 *ℤ F) (c *ℤ negℤ r) (pos 2 *ℤ negℤ s +ℤ pos 2 *ℤ t) (times c D (negℤ r) hc (bd-neg D r hv))
+    (bd-+ (pos 2 *ℤ E) (pos 2 *ℤ F) (pos 2 *ℤ negℤ s) (pos 2 *ℤ t) (times (pos 2) E (negℤ s) (nonneg 2) (bd-neg E s ha)) (times (pos 2) F t (nonneg 2) hb)))
+
+-- η is at most 10,469 of W, ζ at most 118,721 of its own
+sun-small : (l q R p : ℤ) → pos 0 ≼ q → pos 0 ≼ p → pos 47 *ℤ R ≼ pos 100 *ℤ l → pos 4700000000 ≼ l
+    → p *ℤ (q *ℤ l +ℤ pos 2 *ℤ (q *ℤ (pos U +ℤ pos 4920 *ℤ R))) ≼ pos 10469 *ℤ (pos 2 *ℤ (l *ℤ q) *ℤ p)
+sun-small l q R p hq hp hR hl = cert! (l ∷ q ∷ R ∷ p ∷ []) 46 ((hp ⊛ hq) ⊛ (9840 · gap hR ⊞ 39 · gap hl ⊞ nonneg 89300000000)) (search polys depth 60 fits 100000) (search polys depth 60 fits 100000) (search polys depth 60 fits 100000) tt
+
+planet-small : (D Q q R S : ℤ) → pos 0 ≼ Q → pos 0 ≼ q → R +ℤ S ≼ pos 16 *ℤ D → pos 10000000000 ≼ D
+    → Q *ℤ q *ℤ D +ℤ (pos 2 *ℤ (Q *ℤ (q *ℤ (pos U +ℤ pos 4920 *ℤ R)) +ℤ pos U *ℤ (pos 200000 *ℤ Q *ℤ q)) +ℤ pos 2 *ℤ (Q *ℤ (q *ℤ (pos U +ℤ pos 4920 *ℤ S)) +ℤ pos U *ℤ (pos 200000 *ℤ Q *ℤ q)))
+    ≼ pos 118721 *ℤ (pos 2 *ℤ (D *ℤ (Q *ℤ q)))
+planet-small D Q q R S hQ hq hR hD =
+    cert! (D ∷ Q ∷ q ∷ R ∷ S ∷ []) 0 ((hQ ⊛ hq) ⊛ (9840 · gap hR ⊞ 80001 · gap hD ⊞ nonneg 6000000000)) (search polys depth 60 fits 100000) (search polys depth 60 fits 100000) (search polys depth 60 fits 100000) tt
+
+-- two lower numbers, Y and W, become one
+wide-part : (m t a Y c u : ℤ) → pos 0 ≼ m → Bd t (a *ℤ c -ℤ Y *ℤ u) → Bd (m *ℤ t) (m *ℤ a *ℤ c -ℤ m *ℤ Y *ℤ u)
+wide-part m t a Y c u hm h = bd-as _ _ _ _ refl (ring! (m ∷ a ∷ Y ∷ c ∷ u ∷ []) (search polys depth 60 fits 100000) (search polys depth 60 fits 100000) tt) (times m t (a *ℤ c -ℤ Y *ℤ u) hm h)
+
+wide : (m t a Y : ℤ) (s u : Vector) → pos 0 ≼ m → Bd³ t (sub (scl a s) (scl Y u)) → Bd³ (m *ℤ t) (sub (scl (m *ℤ a) s) (scl (m *ℤ Y) u))
+unfolding geocentric scl
+wide m t a Y s u hm w =
+    within-of _ _ (wide-part m t a Y (s .x) (u .x) hm (bx _ _ w)) (wide-part m t a Y (s .y) (u .y) hm (by _ _ w)) (wide-part m t a Y (s .z) (u .z) hm (bz _ _ w))
+
+common : (u v s g : Vector) (a b Y W η ζ : ℤ) → pos 0 ≺ a → pos 0 ≺ b → pos 0 ≺ Y → pos 0 ≺ W → Bd³ η (sub (scl a s) (scl Y u)) → Bd³ ζ (sub (scl b g) (scl W v))
+    → η ≼ pos 10469 *ℤ Y → ζ ≼ pos 118721 *ℤ W → Close u v s g
+common u v s g a b Y W η ζ ha hb hY hW ws wg hη hζ = record {
+  a = W *ℤ a;
+  b = Y *ℤ b;
+  W = W *ℤ Y;
+  η = W *ℤ η;
+  ζ = Y *ℤ ζ;
+  a-pos = product-pos W a hW ha;
+  b-pos = product-pos Y b hY hb;
+  W-pos = product-pos W Y hW hY;
+  near-u = wide W η a Y s u (≺-≼ hW) ws;
+  near-v = subst (λ (m : ℤ). Bd³ (Y *ℤ ζ) (sub (scl (Y *ℤ b) g) (scl m v))) (ring! (W ∷ Y ∷ []) (search polys depth 60 fits 100000) (search polys depth 60 fits 100000) tt) (wide Y ζ b W g v (≺-≼ hY) wg);
+  small = cert! (Y ∷ W ∷ η ∷ ζ ∷ []) 0 (≺-≼ hW ⊛ gap hη ⊞ ≺-≼ hY ⊛ gap hζ ⊞ 810 · (≺-≼ hW ⊛ ≺-≼ hY)) (search polys depth 60 fits 100000) (search polys depth 60 fits 100000) (search polys depth 60 fits 100000) tt;
+}
+
+-- ---- the two directions
+
+-- what makes a place usable
+pub record Usable (planet earth : Figures) (D : ℕ) : Type 0 where
+  pub planet-far : pos 10000000000 ≼ planet .R
+  pub earth-far : pos 10000000000 ≼ earth .R
+  pub apart : pos 10000000000 ≼ pos D
+  pub ratio : planet .R +ℤ earth .R ≼ pos 16 *ℤ pos D
+
+component-x : (a : Vector) → a .x *ℤ a .x ≼ dot a a
+unfolding dot
+component-x a = cert! (a .x ∷ a .y ∷ a .z ∷ []) 0 (sqr (a .y) ⊞ sqr (a .z)) (search polys depth 60 fits 100000) (search polys depth 60 fits 100000) (search polys depth 60 fits 100000) tt
+
+component-y : (a : Vector) → a .y *ℤ a .y ≼ dot a a
+unfolding dot
+component-y a = cert! (a .x ∷ a .y ∷ a .z ∷ []) 0 (sqr (a .x) ⊞ sqr (a .z)) (search polys depth 60 fits 100000) (search polys depth 60 fits 100000) (search polys depth 60 fits 100000) tt
+
+component-z : (a : Vector) → a .z *ℤ a .z ≼ dot a a
+unfolding dot
+component-z a = cert! (a .x ∷ a .y ∷ a .z ∷ []) 0 (sqr (a .x) ⊞ sqr (a .y)) (search polys depth 60 fits 100000) (search polys depth 60 fits 100000) (search polys depth 60 fits 100000) tt
+
+within-length : (a : Vector) → Bd³ (pos (length a)) a
+within-length a =
+    within-of (pos (length a)) a
+    (shorter (length a) (dot a a) (a .x) (component-x a) (length-high² a))
+    (shorter (length a) (dot a a) (a .y) (component-y a) (length-high² a))
+    (shorter (length a) (dot a a) (a .z) (component-z a) (length-high² a))
+
+sun-within : (l : ℤ) (a : Vector) → Bd³ l (sun a) → Bd³ l a
+unfolding sun scl
+sun-within l a w = record {
+  lowx = cert! (l ∷ a .x ∷ []) 0 (gap (w .highx)) (search polys depth 60 fits 100000) (search polys depth 60 fits 100000) (search polys depth 60 fits 100000) tt;
+  highx = cert! (l ∷ a .x ∷ []) 0 (gap (w .lowx)) (search polys depth 60 fits 100000) (search polys depth 60 fits 100000) (search polys depth 60 fits 100000) tt;
+  lowy = cert! (l ∷ a .y ∷ []) 0 (gap (w .highy)) (search polys depth 60 fits 100000) (search polys depth 60 fits 100000) (search polys depth 60 fits 100000) tt;
+  highy = cert! (l ∷ a .y ∷ []) 0 (gap (w .lowy)) (search polys depth 60 fits 100000) (search polys depth 60 fits 100000) (search polys depth 60 fits 100000) tt;
+  lowz = cert! (l ∷ a .z ∷ []) 0 (gap (w .highz)) (search polys depth 60 fits 100000) (search polys depth 60 fits 100000) (search polys depth 60 fits 100000) tt;
+  highz = cert! (l ∷ a .z ∷ []) 0 (gap (w .lowz)) (search polys depth 60 fits 100000) (search polys depth 60 fits 100000) (search polys depth 60 fits 100000) tt;
+}
+
+toward-within : (Q : ℤ) (w e : Figures) → pos 0 ≼ Q → Faithful Q w e → Bd³ (Q *ℤ Q) (toward Q e)
+unfolding toward
+toward-within Q w e hQ h =
+    within-of _ _ (bd-* Q Q _ _ (h .cosB .exact) (h .cosL .exact)) (bd-* Q Q _ _ (h .cosB .exact) (h .sinL .exact)) (bd-* Q Q _ _ (bd-self Q hQ) (h .sinB .exact))
+
+module _ (Q : ℤ) (hQ : pos 0 ≺ Q) where
+  Q₀ : pos 0 ≼ Q
+  Q₀ = ≺-≼ hQ
+
+  sun-near : (l : ℕ) (w e : Figures) → 0 < l → pos 0 ≼ w .R → pos 0 ≼ e .R → Faithful Q w e
+      → Bd³ (e .R *ℤ (Q *ℤ Q *ℤ pos l +ℤ pos 2 *ℤ (Q *ℤ Q *ℤ (pos U +ℤ pos 4920 *ℤ w .R))))
+      (sub (scl (pos 2 *ℤ pos U *ℤ w .R) (sun (exactPlace Q e))) (scl (pos 2 *ℤ (pos l *ℤ (Q *ℤ Q)) *ℤ e .R) (unitBy l (sun (placed w)))))
+  unfolding geocentric scl sun exactPlace
+  sun-near l w e hl hR hp h =
+      let q = Q *ℤ Q in
+      let T = q *ℤ (pos U +ℤ pos 4920 *ℤ w .R) in
+      let near = place-near Q w e Q₀ hR h in
+      let un = unit-near l (sun (placed w)) hl in
+      let u = unitBy l (sun (placed w)) in
+      let n = toward Q e in
+      within-of _ _
+      (sun-part (pos l) q (w .R) (e .R) T (u .x) (placed w .x) (n .x) (Q₀ ⊛ Q₀) hp (bx _ _ un) (bx _ _ near))
+      (sun-part (pos l) q (w .R) (e .R) T (u .y) (placed w .y) (n .y) (Q₀ ⊛ Q₀) hp (by _ _ un) (by _ _ near))
+      (sun-part (pos l) q (w .R) (e .R) T (u .z) (placed w .z) (n .z) (Q₀ ⊛ Q₀) hp (bz _ _ un) (bz _ _ near))
+
+  full-near : (w e : Figures) → pos 0 ≼ w .R → Faithful Q w e
+      → Bd³ (Q *ℤ (Q *ℤ Q *ℤ (pos U +ℤ pos 4920 *ℤ w .R)) +ℤ pos U *ℤ (pos 200000 *ℤ Q *ℤ (Q *ℤ Q))) (scl (pos U) (sub (scl (Q *ℤ (Q *ℤ Q)) (placed w)) (exactPlace Q e)))
+  unfolding geocentric scl exactPlace
+  full-near w e hR h =
+      let q = Q *ℤ Q in
+      let T = q *ℤ (pos U +ℤ pos 4920 *ℤ w .R) in
+      let near = place-near Q w e Q₀ hR h in
+      let t = toward-within Q w e Q₀ h in
+      let n = toward Q e in
+      within-of _ _
+      (full-part Q q (w .R) (e .R) T (placed w .x) (n .x) Q₀ (bx _ _ t) (h .radius) (bx _ _ near))
+      (full-part Q q (w .R) (e .R) T (placed w .y) (n .y) Q₀ (by _ _ t) (h .radius) (by _ _ near))
+      (full-part Q q (w .R) (e .R) T (placed w .z) (n .z) Q₀ (bz _ _ t) (h .radius) (bz _ _ near))
+
+  planet-near : (D : ℕ) (p pe w we : Figures) → 0 < D → pos 0 ≼ p .R → pos 0 ≼ w .R → Faithful Q p pe → Faithful Q w we
+      → Bd³ (Q *ℤ (Q *ℤ Q) *ℤ pos D +ℤ (pos 2 *ℤ (Q *ℤ (Q *ℤ Q *ℤ (pos U +ℤ pos 4920 *ℤ p .R)) +ℤ pos U *ℤ (pos 200000 *ℤ Q *ℤ (Q *ℤ Q))) +ℤ pos 2 *ℤ (Q *ℤ (Q *ℤ Q *ℤ (pos U +ℤ pos 4920 *ℤ w .R)) +ℤ pos U *ℤ (pos 200000 *ℤ Q *ℤ (Q *ℤ Q)))))
+      (sub (scl (pos 2 *ℤ pos U) (sub (exactPlace Q pe) (exactPlace Q we))) (scl (pos 2 *ℤ (pos D *ℤ (Q *ℤ (Q *ℤ Q)))) (unitBy D (sub (placed p) (placed w)))))
+  unfolding geocentric scl
+  planet-near D p pe w we hD hp hw h k =
+      let c = Q *ℤ (Q *ℤ Q) in
+      let E = Q *ℤ (Q *ℤ Q *ℤ (pos U +ℤ pos 4920 *ℤ p .R)) +ℤ pos U *ℤ (pos 200000 *ℤ Q *ℤ (Q *ℤ Q)) in
+      let F = Q *ℤ (Q *ℤ Q *ℤ (pos U +ℤ pos 4920 *ℤ w .R)) +ℤ pos U *ℤ (pos 200000 *ℤ Q *ℤ (Q *ℤ Q)) in
+      let un = unit-near D (sub (placed p) (placed w)) hD in
+      let v = unitBy D (sub (placed p) (placed w)) in
+      let a = full-near p pe hp h in
+      let b = full-near w we hw k in
+      within-of _ _
+      (planet-part (pos D) c E F (v .x) (placed p .x) (placed w .x) (exactPlace Q pe .x) (exactPlace Q we .x) (Q₀ ⊛ (Q₀ ⊛ Q₀)) (bx _ _ un) (bx _ _ a) (bx _ _ b))
+      (planet-part (pos D) c E F (v .y) (placed p .y) (placed w .y) (exactPlace Q pe .y) (exactPlace Q we .y) (Q₀ ⊛ (Q₀ ⊛ Q₀)) (by _ _ un) (by _ _ a) (by _ _ b))
+      (planet-part (pos D) c E F (v .z) (placed p .z) (placed w .z) (exactPlace Q pe .z) (exactPlace Q we .z) (Q₀ ⊛ (Q₀ ⊛ Q₀)) (bz _ _ un) (bz _ _ a) (bz _ _ b))
+
+-- ---- for the core statement
+
+at-least : (k l : ℕ) → 0 < k → pos k ≼ pos l → 0 < l
+at-least k l h g = let m : k ≤ l = leb→le k l (g .le) in omega arith
+
+pub sun-long : (w : Figures) → pos 10000000000 ≼ w .R → OneFar (w .cosB) (w .sinB) → OneFar (w .cosL) (w .sinL) → pos 47 *ℤ w .R ≼ pos 100 *ℤ pos (length (sun (placed w)))
+sun-long w h f g = long (pos (length (sun (placed w)))) w h f g (sun-within _ (placed w) (within-length (sun (placed w))))
+
+length-least : (R l : ℤ) → pos 10000000000 ≼ R → pos 47 *ℤ R ≼ pos 100 *ℤ l → pos 4700000000 ≼ l
+length-least R l h k = cert! (R ∷ l ∷ []) 99 (gap k ⊞ 47 · gap h) (search polys depth 60 fits 100000) (search polys depth 60 fits 100000) (search polys depth 60 fits 100000) tt
+
+radius-pos : (Q R p : ℤ) → pos 0 ≺ Q → pos 10000000000 ≼ R → Bd (pos 200000 *ℤ Q) (Q *ℤ R -ℤ p) → pos 0 ≺ p
+radius-pos Q R p hQ hR b = cert<! (Q ∷ R ∷ p ∷ []) 0 (gap (b .high) ⊞ gap< hQ ⊛ gap hR ⊞ gap hR ⊞ 9999800000 · gap< hQ) (search polys depth 60 fits 100000) (search polys depth 60 fits 100000) (search polys depth 60 fits 100000) tt
+
+-- all that is asked: exact figures over Q, faithful working ones, usable; no working cosine and sine are both small
+pub record Sky (Q : ℤ) (planet earth planet* earth* : Figures) : Type 0 where
+  pub Q-pos : pos 0 ≺ Q
+  pub planet-faithful : Faithful Q planet planet*
+  pub earth-faithful : Faithful Q earth earth*
+  pub usable : Usable planet earth (length (sub (placed planet) (placed earth)))
+  pub far-B : OneFar (earth .cosB) (earth .sinB)
+  pub far-L : OneFar (earth .cosL) (earth .sinL)
+
+module _ (Q : ℤ) (planet earth planet* earth* : Figures) (sky : Sky Q planet earth planet* earth*) where
+  abbrev l : ℕ
+  l = length (sun (placed earth))
+
+  abbrev D : ℕ
+  D = length (sub (placed planet) (placed earth))
+
+  R₀ : pos 0 ≼ earth .R
+  R₀ = ≤ℤ-trans (nonneg 10000000000) (sky .usable .earth-far)
+
+  P₀ : pos 0 ≼ planet .R
+  P₀ = ≤ℤ-trans (nonneg 10000000000) (sky .usable .planet-far)
+
+  l-long : pos 47 *ℤ earth .R ≼ pos 100 *ℤ pos l
+  l-long = sun-long earth (sky .usable .earth-far) (sky .far-B) (sky .far-L)
+
+  l-least : pos 4700000000 ≼ pos l
+  l-least = length-least (earth .R) (pos l) (sky .usable .earth-far) l-long
+
+  p-pos : pos 0 ≺ earth* .R
+  p-pos = radius-pos Q (earth .R) (earth* .R) (sky .Q-pos) (sky .usable .earth-far) (sky .earth-faithful .radius)
+
+  l-pos : 0 < l
+  l-pos = at-least 4700000000 l (omega arith) l-least
+
+  D-pos : 0 < D
+  D-pos = at-least 10000000000 D (omega arith) (sky .usable .apart)
+
+  lift< : (n : ℕ) → 0 < n → pos 0 ≺ pos n
+  lift< n h = record { lt = le→leb 1 n h }
+
+  pub close : Close (unit (sun (placed earth))) (unit (sub (placed planet) (placed earth))) (sun (exactPlace Q earth*)) (sub (exactPlace Q planet*) (exactPlace Q earth*))
+  unfolding unit unitBy
+  close =
+      let hQ = sky .Q-pos in
+      let q = Q *ℤ Q in
+      let Q₁ = ≺-≼ hQ in
+      common (unit (sun (placed earth))) (unit (sub (placed planet) (placed earth))) (sun (exactPlace Q earth*)) (sub (exactPlace Q planet*) (exactPlace Q earth*))
+      (pos 2 *ℤ pos U *ℤ earth .R) (pos 2 *ℤ pos U) (pos 2 *ℤ (pos l *ℤ q) *ℤ earth* .R) (pos 2 *ℤ (pos D *ℤ (Q *ℤ q))) _ _
+      (product-pos (pos 2 *ℤ pos U) (earth .R) (record { lt = tt }) (cert<! (earth .R ∷ []) 0 (gap (sky .usable .earth-far)) (search polys depth 60 fits 100000) (search polys depth 60 fits 100000) (search polys depth 60 fits 100000) tt))
+      (record { lt = tt })
+      (product-pos (pos 2 *ℤ (pos l *ℤ q)) (earth* .R) (product-pos (pos 2) (pos l *ℤ q) (record { lt = tt }) (product-pos (pos l) q (lift< l l-pos) (product-pos Q Q hQ hQ))) p-pos)
+      (product-pos (pos 2) (pos D *ℤ (Q *ℤ q)) (record { lt = tt }) (product-pos (pos D) (Q *ℤ q) (lift< D D-pos) (product-pos Q q hQ (product-pos Q Q hQ hQ))))
+      (sun-near Q hQ l earth earth* l-pos R₀ (≺-≼ p-pos) (sky .earth-faithful))
+      (planet-near Q hQ D planet planet* earth earth* D-pos P₀ R₀ (sky .planet-faithful) (sky .earth-faithful))
+      (sun-small (pos l) q (earth .R) (earth* .R) (Q₁ ⊛ Q₁) (≺-≼ p-pos) l-long l-least)
+      (planet-small (pos D) Q q (planet .R) (earth .R) Q₁ (Q₁ ⊛ Q₁) (sky .usable .ratio) (sky .usable .apart))
+
+  pub unit-sun : Unit³ (unit (sun (placed earth)))
+  unit-sun = unit-is (sun (placed earth)) (≤ℤ-trans (record { le = tt }) l-least)
+
+  pub unit-seen : Unit³ (unit (sub (placed planet) (placed earth)))
+  unit-seen = unit-is (sub (placed planet) (placed earth)) (≤ℤ-trans (record { le = tt }) (sky .usable .apart))

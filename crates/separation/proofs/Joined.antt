@@ -1,0 +1,173 @@
+-- The two halves for working coordinates and exact ones, given that the figures made of them are near. Assumes nothing.
+use mathlib.Core.Path.{_≡_, refl, sym, subst}
+use mathlib.Core.List.{List, [], _∷_}
+use mathlib.Core.Bool.{Bool, true, false, _&&_}
+use Prim.Native.Nat.{ℕ, _+_, _*_, _-_, _/_, _≤_}
+use native.Mathlib.Omega.{arith}
+use lib.Dec.{T, leb}
+use lib.IntN.{ℤ, pos, _+ℤ_, _*ℤ_}
+use lib.Signed.{leZ}
+use Rattle.integers.specs.Order.{_≼_, _≺_}
+use Rattle.integers.specs.Fractions.{Fraction}
+use Rattle.integers.proofs.Auto.{polys, cert<!, gap, gap<, _⊞_}
+use Rattle.integers.proofs.Order.{product-pos}
+use Rattle.units.specs.Units.{parts, angle-per-part}
+use Rattle.units.specs.declared.Coordinates.{Coordinates}
+use Rattle.cosine.specs.Cosine.{cosine, sine}
+use Rattle.vectors.specs.declared.Vector.{Vector}
+use Rattle.vectors.specs.Vectors.{geocentric, sun, squared, length, unit, radius-usable, usable}
+use Rattle.vectors.specs.Rectangular.{rectangular, place, distance, places-usable}
+use Rattle.separation.specs.Exact.{Exact-coordinates, exact-place, exact-sun, exact-geocentric, cosine-of-arcminutes, WithinArcminutes}
+use Rattle.separation.specs.Listed.{squared-separation, threshold, listed}
+use Rattle.separation.proofs.Tests.{and-left, and-right}
+use Rattle.separation.proofs.Form.{dot, sub}
+use Rattle.separation.proofs.Row.{Row}
+use Rattle.separation.proofs.Transfer.{Passes}
+use Rattle.separation.proofs.Halves.{exact-listed, listed-exact}
+use Rattle.separation.proofs.Table.{witness, table}
+use Rattle.separation.proofs.Places.{Figures, placed, exactPlace}
+use Rattle.separation.proofs.Closeness.{Usable, Sky, close, unit-sun, unit-seen}
+use Rattle.separation.proofs.WholeTest.{Over³, to-whole, of-whole}
+use Rattle.separation.proofs.Whole.{Five, five-of, Near⁵, Held⁵, product, product-positive, held, left⁵, right⁵, whole, faithful, place-over, sun-over, geocentric-over}
+use Rattle.separation.proofs.Angles.{one-far}
+
+-- The working figures of a body.
+unfoldable pub figures : Coordinates → Figures
+figures c = record {
+  R = c .radius;
+  cosB = cosine (pos angle-per-part *ℤ c .latitude);
+  sinB = sine (pos angle-per-part *ℤ c .latitude);
+  cosL = cosine (pos angle-per-part *ℤ c .longitude);
+  sinL = sine (pos angle-per-part *ℤ c .longitude);
+}
+
+placed-is : (c : Coordinates) → placed (figures c) ≡ place c
+unfolding placed figures place rectangular
+placed-is c = refl
+
+-- ---- the computed answers as facts
+
+true-T : (b : Bool) → b ≡ true → T b
+true-T b e = subst (λ (a : Bool). T a) (sym e) tt
+
+T-true : (b : Bool) → T b → b ≡ true
+T-true true t = refl
+T-true false t = absurd t
+
+radius-least : (r : ℤ) → T (radius-usable r) → pos 10000000000 ≼ r
+unfolding radius-usable
+radius-least r t = record { le = and-left (leZ (pos (parts / 10)) r) (leZ r (pos (64 * parts))) t }
+
+usable-of : (p e : Coordinates) → places-usable p e ≡ true → Usable (figures p) (figures e) (length (sub (placed (figures p)) (placed (figures e))))
+unfolding places-usable usable distance figures placed place rectangular
+usable-of p e h =
+    let D = distance p e in
+    let d = leb (parts / 10) D in
+    let s = leZ (p .radius +ℤ e .radius) (pos (16 * D)) in
+    let t = true-T (radius-usable (p .radius) && (radius-usable (e .radius) && (d && s))) h in
+    let t′ = and-right (radius-usable (p .radius)) (radius-usable (e .radius) && (d && s)) t in
+    let t″ = and-right (radius-usable (e .radius)) (d && s) t′ in
+    record {
+      planet-far = radius-least (p .radius) (and-left (radius-usable (p .radius)) (radius-usable (e .radius) && (d && s)) t);
+      earth-far = radius-least (e .radius) (and-left (radius-usable (e .radius)) (d && s) t′);
+      apart = record { le = and-left d s t″ };
+      ratio = record { le = and-right d s t″ };
+    }
+
+abbrev Near-sun : ℕ → Coordinates → Coordinates → Type 0
+Near-sun k p e = let u = unit (sun (placed (figures e))) in let v = unit (sub (placed (figures p)) (placed (figures e))) in dot (sub u v) (sub u v) ≼ threshold k
+
+listed-of : (k : ℕ) (p e : Coordinates) → Near-sun k p e → listed k p e ≡ true
+unfolding listed squared-separation squared dot placed figures place rectangular
+listed-of k p e h = T-true _ (h .le)
+
+of-listed : (k : ℕ) (p e : Coordinates) → listed k p e ≡ true → Near-sun k p e
+unfolding listed squared-separation squared dot placed figures place rectangular
+of-listed k p e h = record { le = true-T _ h }
+
+-- ---- the two halves
+
+module _ (p e : Coordinates) (p* e* : Exact-coordinates) (hp : Near⁵ (figures p) (five-of p*)) (he : Near⁵ (figures e) (five-of e*)) (ok : places-usable p e ≡ true) where
+  P₀ : pos 0 ≺ product (five-of p*)
+  P₀ = product-positive (figures p) (five-of p*) hp
+
+  E₀ : pos 0 ≺ product (five-of e*)
+  E₀ = product-positive (figures e) (five-of e*) he
+
+  abbrev Q : ℤ
+  Q = product (five-of p*) *ℤ product (five-of e*)
+
+  abbrev W : ℤ
+  W = Q *ℤ (Q *ℤ Q)
+
+  Q₀ : pos 0 ≺ Q
+  Q₀ = product-pos (product (five-of p*)) (product (five-of e*)) P₀ E₀
+
+  W₀ : pos 0 ≺ W
+  W₀ = product-pos Q (Q *ℤ Q) Q₀ (product-pos Q Q Q₀ Q₀)
+
+  abbrev heldP : Held⁵ Q (five-of p*)
+  heldP = left⁵ (product (five-of p*)) (product (five-of e*)) (five-of p*) E₀ (held (figures p) (five-of p*) hp)
+
+  abbrev heldE : Held⁵ Q (five-of e*)
+  heldE = right⁵ (product (five-of e*)) (product (five-of p*)) (five-of e*) P₀ (held (figures e) (five-of e*) he)
+
+  abbrev P : Figures
+  P = whole Q (five-of p*) heldP
+
+  abbrev E : Figures
+  E = whole Q (five-of e*) heldE
+
+  sky : Sky Q (figures p) (figures e) P E
+  unfolding figures
+  sky = record {
+    Q-pos = Q₀;
+    planet-faithful = faithful Q (figures p) (five-of p*) heldP hp;
+    earth-faithful = faithful Q (figures e) (five-of e*) heldE he;
+    usable = usable-of p e ok;
+    far-B = one-far (pos angle-per-part *ℤ e .latitude);
+    far-L = one-far (pos angle-per-part *ℤ e .longitude);
+  }
+
+  abbrev S : Vector
+  S = sun (exactPlace Q E)
+
+  abbrev G : Vector
+  G = sub (exactPlace Q P) (exactPlace Q E)
+
+  over-S : Over³ W (exact-sun e*) S
+  over-S = sun-over W e* (exactPlace Q E) (place-over Q e* heldE)
+
+  over-G : Over³ W (exact-geocentric p* e*) G
+  over-G = geocentric-over W p* e* (exactPlace Q P) (exactPlace Q E) (place-over Q p* heldP) (place-over Q e* heldE)
+
+  lower-pos : (k : ℕ) → 60 ≤ k → k ≤ 2702 → pos 0 ≺ cosine-of-arcminutes k .lower
+  lower-pos k h l =
+      let c = cosine-of-arcminutes k in
+      let r = table k h l in
+      cert<! (c .upper ∷ c .lower ∷ []) 0 (gap< (r .positive) ⊞ gap (r .atMost)) (search polys depth 60 fits 100000) (search polys depth 60 fits 100000) (search polys depth 60 fits 100000) tt
+
+  abbrev u : Vector
+  u = unit (sun (placed (figures e)))
+
+  abbrev v : Vector
+  v = unit (sub (placed (figures p)) (placed (figures e)))
+
+  pub exact-then-listed : (k : ℕ) → 60 ≤ k → k ≤ 2700 → WithinArcminutes k p* e* → listed k p e ≡ true
+  exact-then-listed k h l t =
+      listed-of k p e
+      (exact-listed u v S G (unit-sun Q (figures p) (figures e) P E sky) (unit-seen Q (figures p) (figures e) P E sky) (close Q (figures p) (figures e) P E sky)
+      (cosine-of-arcminutes k) (witness k) (threshold k) (threshold (k - 2)) (table k h (omega arith))
+      (to-whole k (lower-pos k h (omega arith)) W W₀ (exact-sun e*) (exact-geocentric p* e*) S G over-S over-G t))
+
+  row-after : (k : ℕ) → 60 ≤ k → k ≤ 2700 → Row (cosine-of-arcminutes (k + 2)) (witness (k + 2)) (threshold (k + 2)) (threshold k)
+  row-after k h l = subst (λ (m : ℕ). Row (cosine-of-arcminutes (k + 2)) (witness (k + 2)) (threshold (k + 2)) (threshold m)) (same k) (table (k + 2) (omega arith) (omega arith))
+    where
+      same : (k : ℕ) → k + 2 - 2 ≡ k
+      same k = omega arith
+
+  pub listed-then-exact : (k : ℕ) → 60 ≤ k → k ≤ 2700 → listed k p e ≡ true → WithinArcminutes (k + 2) p* e*
+  listed-then-exact k h l t =
+      of-whole (k + 2) (lower-pos (k + 2) (omega arith) (omega arith)) W W₀ (exact-sun e*) (exact-geocentric p* e*) S G over-S over-G
+      (listed-exact u v S G (unit-sun Q (figures p) (figures e) P E sky) (unit-seen Q (figures p) (figures e) P E sky) (close Q (figures p) (figures e) P E sky)
+      (cosine-of-arcminutes (k + 2)) (witness (k + 2)) (threshold (k + 2)) (threshold k) (row-after k h l) (of-listed k p e t))

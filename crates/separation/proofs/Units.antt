@@ -1,0 +1,123 @@
+-- Q4: the unit vector, rounded over the floored length, has a squared length within 4U of U². Assumes nothing.
+use mathlib.Core.Path.{_≡_, refl, sym, ap, ap₂, _∙_, subst, subst₂}
+use mathlib.Core.Logic.{_⊎_, inl, inr}
+use mathlib.Core.List.{List, [], _∷_}
+use Prim.Native.Nat.{ℕ, zero, suc, _+_, _*_, _-_, _≤_, _<_}
+use native.Mathlib.Omega.{arith}
+use lib.IntN.{ℤ, pos, negsuc, negℤ, natAbs, _+ℤ_, _-ℤ_, _*ℤ_}
+use lib.Dec.{le→leb, leb→le}
+use Rattle.integers.specs.Order.{_≼_, _≺_}
+use Rattle.integers.specs.Division.{rounded}
+use Rattle.integers.specs.Root.{root}
+use Rattle.integers.proofs.Pairs.{nonneg, ≤ℤ-trans}
+use Rattle.integers.proofs.Auto.{polys, ring!, cert!, cert<!, gap, gap<, gap≡, _⊞_, _⊛_, _·_, sqr}
+use Rattle.integers.proofs.Order.{≼-or-≺, ≺-≼, cert*! }
+use Rattle.integers.proofs.Root.{root-spec, IsRoot}
+use Rattle.integers.proofs.Bounds.{Bd, bd-rounded}
+use Rattle.units.specs.Units.{U}
+use Rattle.vectors.specs.declared.Vector.{Vector}
+use Rattle.vectors.specs.Vectors.{geocentric, squared, length, unit}
+use Rattle.separation.proofs.Form.{dot, scl, sub, Bd³, product-low, product-high}
+use Rattle.separation.proofs.Sizes.{Unit³}
+
+-- rounded U·component over l
+unfoldable pub unitBy : ℕ → Vector → Vector
+unitBy l a = record { x = rounded (pos U *ℤ a .x) l; y = rounded (pos U *ℤ a .y) l; z = rounded (pos U *ℤ a .z) l }
+
+-- ---- the length, by its two bounds
+
+square-nonneg : (a : Vector) → pos 0 ≼ dot a a
+unfolding dot
+square-nonneg a = sqr (a .x) ⊞ sqr (a .y) ⊞ sqr (a .z)
+
+natAbs-of : (z : ℤ) → pos 0 ≼ z → pos (natAbs z) ≡ z
+natAbs-of (pos n) h = refl
+natAbs-of (negsuc n) h = absurd (h .le)
+
+lift≤ : (m n : ℕ) → m ≤ n → pos m ≼ pos n
+lift≤ m n h = record { le = le→leb m n h }
+
+pub length-low² : (a : Vector) → pos (length a) *ℤ pos (length a) ≼ dot a a
+unfolding length squared dot
+length-low² a = subst (λ (t : ℤ). pos (root (natAbs (dot a a)) * root (natAbs (dot a a))) ≼ t) (natAbs-of (dot a a) (square-nonneg a)) (lift≤ _ _ (root-spec (natAbs (dot a a)) .low))
+
+pub length-high² : (a : Vector) → dot a a ≼ pos (length a) *ℤ pos (length a) +ℤ pos 2 *ℤ pos (length a)
+unfolding length squared dot
+length-high² a =
+    let r = root (natAbs (dot a a)) in
+    let h : natAbs (dot a a) ≤ r * r + 2 * r = below r (natAbs (dot a a)) (root-spec (natAbs (dot a a)) .high) in
+    subst (λ (t : ℤ). t ≼ pos (r * r + 2 * r)) (natAbs-of (dot a a) (square-nonneg a)) (lift≤ _ _ h)
+  where
+    below : (r n : ℕ) → n < (r + 1) * (r + 1) → n ≤ r * r + 2 * r
+    below r n h = omega arith
+
+-- ---- Q4
+
+-- 2(l·u − U·a) is within l in each component
+pub unit-near : (l : ℕ) (a : Vector) → 0 < l → Bd³ (pos l) (scl (pos 2) (sub (scl (pos l) (unitBy l a)) (scl (pos U) a)))
+unfolding scl geocentric unitBy
+unit-near l a h =
+    let p = bd-rounded (pos U *ℤ a .x) l h in
+    let q = bd-rounded (pos U *ℤ a .y) l h in
+    let r = bd-rounded (pos U *ℤ a .z) l h in
+    record { lowx = p .low; highx = p .high; lowy = q .low; highy = q .high; lowz = r .low; highz = r .high }
+
+-- l²|u|² = U²|a|² + U·(2r·a) + |r|², r = l·u − U·a, in fourths
+expand : (l : ℤ) (u a : Vector) → let r = scl (pos 2) (sub (scl l u) (scl (pos U) a)) in
+    pos 4 *ℤ (l *ℤ l *ℤ dot u u) ≡ pos 4 *ℤ (pos (U * U) *ℤ dot a a) +ℤ pos U *ℤ (pos 4 *ℤ dot r a) +ℤ dot r r
+unfolding dot scl geocentric
+expand l u a = ring! (l ∷ u .x ∷ u .y ∷ u .z ∷ a .x ∷ a .y ∷ a .z ∷ []) (search polys depth 60 fits 100000) (search polys depth 60 fits 100000) tt
+
+square-high : (η : ℤ) (r : Vector) → Bd³ η r → dot r r ≼ pos 3 *ℤ (η *ℤ η)
+unfolding dot
+square-high η r w =
+    cert! (η ∷ r .x ∷ r .y ∷ r .z ∷ []) 0 (gap (w .lowx) ⊛ gap (w .highx) ⊞ gap (w .lowy) ⊛ gap (w .highy) ⊞ gap (w .lowz) ⊛ gap (w .highz)) (search polys depth 60 fits 100000) (search polys depth 60 fits 100000) (search polys depth 60 fits 100000) tt
+
+-- q = |u|², X = |a|², m = 4(2r·a), e = |2r|²
+high-end : (l q X m e : ℤ) → pos U ≼ l → X ≼ l *ℤ l +ℤ pos 2 *ℤ l → m ≼ pos 7 *ℤ l *ℤ (l +ℤ pos 1) → e ≼ pos 3 *ℤ (l *ℤ l)
+    → pos 4 *ℤ (l *ℤ l *ℤ q) ≡ pos 4 *ℤ (pos (U * U) *ℤ X) +ℤ pos U *ℤ m +ℤ e → q ≼ pos (U * U + 4 * U)
+high-end l q X m e hl hX hm he eq =
+    cert*! (l ∷ q ∷ X ∷ m ∷ e ∷ []) (pos 4 *ℤ (l *ℤ l)) (cert<! (l ∷ []) 0 (4 · (gap hl ⊛ gap hl) ⊞ 8000000000 · gap hl) (search polys depth 60 fits 100000) (search polys depth 60 fits 100000) (search polys depth 60 fits 100000) tt)
+    (gap≡ eq ⊞ 4000000000000000000 · gap hX ⊞ 1000000000 · gap hm ⊞ gap he ⊞ 8999999997 · (gap hl ⊛ gap hl) ⊞ 9999999987000000000 · gap hl ⊞ nonneg 999999990000000000000000000) (search polys depth 60 fits 100000) (search polys depth 60 fits 100000) (search polys depth 60 fits 100000) (search polys depth 60 fits 100000) tt
+
+low-end : (l q X m e : ℤ) → pos U ≼ l → l *ℤ l ≼ X → negℤ (pos 7 *ℤ l *ℤ (l +ℤ pos 1)) ≼ m → pos 0 ≼ e
+    → pos 4 *ℤ (l *ℤ l *ℤ q) ≡ pos 4 *ℤ (pos (U * U) *ℤ X) +ℤ pos U *ℤ m +ℤ e → pos (U * U) ≼ q +ℤ pos (4 * U)
+low-end l q X m e hl hX hm he eq =
+    cert*! (l ∷ q ∷ X ∷ m ∷ e ∷ []) (pos 4 *ℤ (l *ℤ l)) (cert<! (l ∷ []) 0 (4 · (gap hl ⊛ gap hl) ⊞ 8000000000 · gap hl) (search polys depth 60 fits 100000) (search polys depth 60 fits 100000) (search polys depth 60 fits 100000) tt)
+    (gap≡ (sym eq) ⊞ 4000000000000000000 · gap hX ⊞ 1000000000 · gap hm ⊞ he ⊞ 9000000000 · (gap hl ⊛ gap hl) ⊞ 17999999993000000000 · gap hl ⊞ nonneg 8999999993000000000000000000) (search polys depth 60 fits 100000) (search polys depth 60 fits 100000) (search polys depth 60 fits 100000) (search polys depth 60 fits 100000) tt
+
+pub unit-by : (l : ℕ) (a : Vector) → pos U ≼ pos l → pos l *ℤ pos l ≼ dot a a → dot a a ≼ pos l *ℤ pos l +ℤ pos 2 *ℤ pos l → Unit³ (unitBy l a)
+unit-by l a hl lo hi =
+    let u = unitBy l a in
+    let r = scl (pos 2) (sub (scl (pos l) u) (scl (pos U) a)) in
+    let l₀ : 0 < l = above l hl in
+    let w : Bd³ (pos l) r = unit-near l a l₀ in
+    let h : dot a a ≼ (pos l +ℤ pos 1) *ℤ (pos l +ℤ pos 1) = cert! (pos l ∷ dot a a ∷ []) 0 (gap hi) (search polys depth 60 fits 100000) (search polys depth 60 fits 100000) (search polys depth 60 fits 100000) tt in
+    let k : pos 0 ≼ pos l +ℤ pos 1 = nonneg (l + 1) in
+    record {
+      least = low-end (pos l) (dot u u) (dot a a) (pos 4 *ℤ dot r a) (dot r r) hl lo (product-low (pos l) (pos l +ℤ pos 1) r a w k h) (square-nonneg r) (expand (pos l) u a);
+      most = high-end (pos l) (dot u u) (dot a a) (pos 4 *ℤ dot r a) (dot r r) hl hi (product-high (pos l) (pos l +ℤ pos 1) r a w k h) (square-high (pos l) r w) (expand (pos l) u a);
+    }
+  where
+    above : (l : ℕ) → pos U ≼ pos l → 0 < l
+    above l h = let k : U ≤ l = leb→le U l (h .le) in omega arith
+
+pub unit-is : (a : Vector) → pos U ≼ pos (length a) → Unit³ (unit a)
+unfolding unit unitBy
+unit-is a h = unit-by (length a) a h (length-low² a) (length-high² a)
+
+-- no component is longer than the length
+pub shorter : (l : ℕ) (X c : ℤ) → c *ℤ c ≼ X → X ≼ pos l *ℤ pos l +ℤ pos 2 *ℤ pos l → Bd (pos l) c
+shorter l X c h k = record { low = lower (≼-or-≺ (negℤ (pos l)) c); high = upper (≼-or-≺ c (pos l)) }
+  where
+    lower : (negℤ (pos l) ≼ c) ⊎ (c ≺ negℤ (pos l)) → negℤ (pos l) ≼ c
+    lower (inl g) = g
+    lower (inr g) =
+        let bad : pos 1 ≼ pos 0 = cert! (pos l ∷ X ∷ c ∷ []) 0 (gap h ⊞ gap k ⊞ gap< g ⊛ gap< g ⊞ 2 · (gap< g ⊛ nonneg (l + 1))) (search polys depth 60 fits 100000) (search polys depth 60 fits 100000) (search polys depth 60 fits 100000) tt in
+        absurd (bad .le)
+
+    upper : (c ≼ pos l) ⊎ (pos l ≺ c) → c ≼ pos l
+    upper (inl g) = g
+    upper (inr g) =
+        let bad : pos 1 ≼ pos 0 = cert! (pos l ∷ X ∷ c ∷ []) 0 (gap h ⊞ gap k ⊞ gap< g ⊛ gap< g ⊞ 2 · (gap< g ⊛ nonneg (l + 1))) (search polys depth 60 fits 100000) (search polys depth 60 fits 100000) (search polys depth 60 fits 100000) tt in
+        absurd (bad .le)

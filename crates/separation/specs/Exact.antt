@@ -1,0 +1,61 @@
+-- Document 01, "Sun list": the exact place, the exact vectors of the Sun and of the planet, and the exact test; all in fractions, unrounded.
+use Prim.Native.Nat.{ℕ, _*_, _^_}
+use lib.IntN.{pos, natAbs}
+use Rattle.integers.specs.Order.{_≺_}
+use Rattle.integers.specs.Fractions.{Fraction, _*ᶠ_, _+ᶠ_, _-ᶠ_, negᶠ, _≤ᶠ_}
+use Rattle.units.specs.Units.{parts}
+use Rattle.cosine.specs.Reference.{two-pi, reference-cosine, reference-sine}
+
+-- The exact L, B and R of a body, in parts, each a fraction whose lower number is positive.
+pub record Exact-coordinates : Type 0 where
+  pub longitude : Fraction
+  pub latitude : Fraction
+  pub radius : Fraction
+
+pub record Vectorᶠ : Type 0 where
+  pub x : Fraction
+  pub y : Fraction
+  pub z : Fraction
+
+-- The reference cosine and sine of an angle in parts.
+unfoldable pub cosᶠ : Fraction → Fraction
+cosᶠ angle = reference-cosine (angle .upper) (parts * natAbs (angle .lower))
+
+unfoldable pub sinᶠ : Fraction → Fraction
+sinᶠ angle = reference-sine (angle .upper) (parts * natAbs (angle .lower))
+
+-- "Exact place: R cos B cos L, R cos B sin L and R sin B."
+unfoldable pub exact-place : Exact-coordinates → Vectorᶠ
+exact-place c = record {
+  x = c .radius *ᶠ cosᶠ (c .latitude) *ᶠ cosᶠ (c .longitude);
+  y = c .radius *ᶠ cosᶠ (c .latitude) *ᶠ sinᶠ (c .longitude);
+  z = c .radius *ᶠ sinᶠ (c .latitude);
+}
+
+-- "The exact vector of the Sun is minus Earth's exact place, that of the planet its exact place less Earth's."
+unfoldable pub exact-sun : Exact-coordinates → Vectorᶠ
+exact-sun earth = record { x = negᶠ (exact-place earth .x); y = negᶠ (exact-place earth .y); z = negᶠ (exact-place earth .z) }
+
+unfoldable pub exact-geocentric : Exact-coordinates → Exact-coordinates → Vectorᶠ
+exact-geocentric planet earth = record {
+  x = exact-place planet .x -ᶠ exact-place earth .x;
+  y = exact-place planet .y -ᶠ exact-place earth .y;
+  z = exact-place planet .z -ᶠ exact-place earth .z;
+}
+
+-- The scalar product.
+unfoldable pub dotᶠ : Vectorᶠ → Vectorᶠ → Fraction
+dotᶠ a b = a .x *ᶠ b .x +ᶠ a .y *ᶠ b .y +ᶠ a .z *ᶠ b .z
+
+-- "The reference cosine of k/21,600 of the reference's 2 pi", which is two-pi/10^30.
+unfoldable pub cosine-of-arcminutes : ℕ → Fraction
+cosine-of-arcminutes k = reference-cosine (pos (k * two-pi)) (21600 * 10 ^ 30)
+
+-- "Exact test for k arcminutes: the scalar product of these two vectors is positive, and its square is at least the squared reference cosine times both squared lengths."
+pub record ExactTest (k : ℕ) (sun planet : Vectorᶠ) : Type 0 where
+  pub ahead : pos 0 ≺ dotᶠ sun planet .upper
+  pub close : cosine-of-arcminutes k *ᶠ cosine-of-arcminutes k *ᶠ (dotᶠ sun sun *ᶠ dotᶠ planet planet) ≤ᶠ dotᶠ sun planet *ᶠ dotᶠ sun planet
+
+-- "The planet is within k arcminutes exactly when the test for k holds."
+abbrev pub WithinArcminutes : ℕ → Exact-coordinates → Exact-coordinates → Type 0
+WithinArcminutes k planet earth = ExactTest k (exact-sun earth) (exact-geocentric planet earth)
