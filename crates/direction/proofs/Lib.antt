@@ -1,3 +1,5 @@
 -- Laws of the definitions of specs/.
 pub mod Rising
 pub mod Quarter
+pub mod Halving
+pub mod Turns

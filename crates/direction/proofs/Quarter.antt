@@ -12,9 +12,10 @@ use Rattle.integers.proofs.Pairs.{nonneg, ≤ℤ-trans}
 use Rattle.integers.proofs.Auto.{ring!, cert!, cert<!, polys, gap, gap<, _⊞_, _⊛_, _·_}
 use Rattle.integers.proofs.Order.{≼-or-≺}
 use Rattle.integers.proofs.Division.{floor-is, rounded-low, rounded-high}
+use Rattle.integers.proofs.Rounding.{rounded-mono}
 use Rattle.units.specs.Units.{quarter, angle-step}
 use Rattle.cosine.specs.Cosine.{horner, evens, y-of, even-part, odd-part, q-of, r-of, w-of, cosine-by, sine-by, working-cosine, working-sine, cosine, sine}
-use Rattle.direction.proofs.Rising.{rounded-mono, y-neg, even-falls, odd-rises, odd-rises⁻, w-most}
+use Rattle.direction.proofs.Rising.{y-neg, even-falls, odd-rises, odd-rises⁻, w-most}
 
 -- ---- in the lower half of the quarter q is 0, in the upper half 1
 

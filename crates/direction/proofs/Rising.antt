@@ -12,34 +12,10 @@ use Rattle.integers.specs.Division.{floor, rounded, modulo}
 use Rattle.integers.proofs.Pairs.{nonneg, ≤ℤ-trans}
 use Rattle.integers.proofs.Auto.{ring!, cert!, cert<!, polys, gap, gap<, gap≡, _⊞_, _⊛_, _·_}
 use Rattle.integers.proofs.Order.{≼-or-≺, ≺-≼}
-use Rattle.integers.proofs.Division.{floor-is, rounded-low, rounded-high}
+use Rattle.integers.proofs.Division.{rounded-low, rounded-high}
+use Rattle.integers.proofs.Rounding.{rounded-le, rounded-mono, rounded-zero}
 use Rattle.units.specs.Units.{U, quarter, angle-step}
 use Rattle.cosine.specs.Cosine.{horner, y-of, even-part, odd-part, evens, odds, q-of, r-of, w-of, cosine-by, sine-by, working-cosine, working-sine, cosine, sine}
-
--- ---- rounding keeps the order, also past a multiple of the divisor
-pub rounded-le : (m n k : ℤ) (d : ℕ) → 0 < d → m ≼ pos d *ℤ k +ℤ n → rounded m d ≼ k +ℤ rounded n d
-rounded-le m n k d h l = go (≼-or-≺ (rounded m d) (k +ℤ rounded n d))
-  where
-    go : (rounded m d ≼ k +ℤ rounded n d) ⊎ (k +ℤ rounded n d ≺ rounded m d) → rounded m d ≼ k +ℤ rounded n d
-    go (inl l) = l
-    go (inr g) =
-        let bad : pos 1 ≼ pos 0 =
-        cert! (m ∷ n ∷ k ∷ pos d ∷ rounded m d ∷ rounded n d ∷ []) 0 (gap (rounded-low m d h) ⊞ gap< (rounded-high n d h) ⊞ 2 · gap l ⊞ 2 · (nonneg d ⊛ gap< g)) (search polys depth 60 fits 100000) (search polys depth 60 fits 100000) (search polys depth 60 fits 100000) tt in
-        absurd (bad .le)
-
-pub rounded-mono : (m n : ℤ) (d : ℕ) → 0 < d → m ≼ n → rounded m d ≼ rounded n d
-rounded-mono m n d h l =
-    cert! (rounded m d ∷ rounded n d ∷ []) 0 (gap (rounded-le m n (pos 0) d h (cert! (m ∷ n ∷ pos d ∷ []) 0 (gap l) (search polys depth 60 fits 100000) (search polys depth 60 fits 100000) (search polys depth 60 fits 100000) tt))) (search polys depth 60 fits 100000) (search polys depth 60 fits 100000) (search polys depth 60 fits 100000) tt
-
-pub rounded-zero : (d : ℕ) → 0 < d → rounded (pos 0) d ≡ pos 0
-unfolding rounded
-rounded-zero d h =
-    floor-is (pos 2 *ℤ pos 0 +ℤ pos d) (pos 0) (2 * d) (omega arith)
-    (cert! (pos d ∷ []) 0 (nonneg d) (search polys depth 60 fits 100000) (search polys depth 60 fits 100000) (search polys depth 60 fits 100000) tt)
-    (cert<! (pos d ∷ []) 0 (gap (above d h)) (search polys depth 60 fits 100000) (search polys depth 60 fits 100000) (search polys depth 60 fits 100000) tt)
-  where
-    above : (d : ℕ) → 0 < d → pos 1 ≼ pos d
-    above d h = record { le = le→leb 1 d h }
 
 -- ---- the Horner values fall as y rises, by no more than y rises
 -- y and y′, y the lower one, and a Horner value at each

@@ -4,6 +4,7 @@ pub mod Ring
 pub mod Auto
 pub mod Order
 pub mod Division
+pub mod Rounding
 pub mod Root
 pub mod Bounds
 pub mod Near

@@ -1,0 +1,118 @@
+-- The law that makes halving right: past one k, X*sin is above Y*cos at every later one; and a k with the property, past which none has it, is the greatest.
+-- Assumes nothing.
+use mathlib.Core.Path.{_≡_, refl, sym, ap, ap₂, _∙_, subst}
+use mathlib.Core.Bool.{Bool, true, false, cond}
+use mathlib.Core.List.{List, [], _∷_}
+use Prim.Native.Nat.{ℕ, zero, suc, _+_, _*_, _≤_, _<_}
+use native.Mathlib.Omega.{arith}
+use native.Mathlib.Decide.{decLe}
+use borrow.Author.Tests.{le-leb}
+use lib.Dec.{T, lit<, le→leb}
+use lib.IntN.{ℤ, pos, _+ℤ_, _*ℤ_}
+use lib.Signed.{leZ, ≤ℤ-refl}
+use Rattle.integers.specs.Order.{_≼_, _≺_}
+use Rattle.integers.specs.Division.{floor, rounded, modulo}
+use Rattle.integers.proofs.Pairs.{nonneg, ≤ℤ-trans}
+use Rattle.integers.proofs.Auto.{cert!, polys, gap, _⊞_, _⊛_, _·_}
+use Rattle.units.specs.Units.{U, quarter, turn}
+use Rattle.cosine.specs.Cosine.{horner, y-of, even-part, odd-part, q-of, r-of, w-of, cosine-by, sine-by, working-cosine, working-sine, cosine, sine}
+use Rattle.direction.specs.Angles.{units-angle}
+use Rattle.direction.specs.Direction.{quarter-steps, turn-steps, steps-angle, not-past, greatest}
+use Rattle.integers.proofs.Rounding.{rounded-mono, rounded-zero}
+use Rattle.direction.proofs.Quarter.{Opens, quarter-opens}
+
+-- ---- the angles of the steps rise from 0 to a quarter
+≼-nat : (m n : ℕ) → m ≤ n → pos m ≼ pos n
+≼-nat m n h = record { le = le→leb m n h }
+
+steps-rise : (j k : ℕ) → j ≤ k → steps-angle (pos j) ≼ steps-angle (pos k)
+unfolding steps-angle units-angle
+steps-rise j k l =
+    rounded-mono (pos j *ℤ pos turn) (pos k *ℤ pos turn) turn-steps (lit< tt)
+    (cert! (pos j ∷ pos k ∷ []) 0 (turn · gap (≼-nat j k l)) (search polys depth 60 fits 100000) (search polys depth 60 fits 100000) (search polys depth 60 fits 100000) tt)
+
+pub steps-least : (k : ℕ) → pos 0 ≼ steps-angle (pos k)
+unfolding steps-angle units-angle
+steps-least k = subst (λ t. t ≼ rounded (pos k *ℤ pos turn) turn-steps) (rounded-zero turn-steps (lit< tt)) (steps-rise 0 k (omega arith))
+
+pub steps-most : (k : ℕ) → k ≤ quarter-steps → steps-angle (pos k) ≼ pos quarter
+unfolding steps-angle units-angle rounded floor
+steps-most k l = steps-rise k quarter-steps l
+
+-- ---- sine and cosine at the steps
+pub steps-open : (j k : ℕ) → j ≤ k → k ≤ quarter-steps → Opens (steps-angle (pos j)) (steps-angle (pos k))
+steps-open j k l h = quarter-opens (steps-angle (pos j)) (steps-angle (pos k)) (steps-least j) (steps-rise j k l) (steps-most k h)
+
+steps-first : steps-angle (pos 0) ≡ pos 0
+unfolding steps-angle units-angle rounded floor
+steps-first = refl
+
+steps-last : steps-angle (pos quarter-steps) ≡ pos quarter
+unfolding steps-angle units-angle rounded floor
+steps-last = refl
+
+-- by cosine's definition, computed
+sine-0 : sine (pos 0) ≡ pos 0
+unfolding sine working-sine sine-by modulo q-of w-of r-of odd-part horner y-of rounded floor
+sine-0 = refl
+
+cosine-0 : cosine (pos 0) ≡ pos U
+unfolding cosine working-cosine cosine-by modulo q-of w-of r-of even-part horner y-of rounded floor
+cosine-0 = refl
+
+cosine-quarter : cosine (pos quarter) ≡ pos 0
+unfolding cosine working-cosine cosine-by modulo q-of w-of r-of odd-part horner y-of rounded floor
+cosine-quarter = refl
+
+pub steps-sine : (k : ℕ) → k ≤ quarter-steps → pos 0 ≼ sine (steps-angle (pos k))
+steps-sine k h = subst (λ t. t ≼ sine (steps-angle (pos k))) (ap sine steps-first ∙ sine-0) (steps-open 0 k (omega arith) h .sine-rises)
+
+pub steps-cosine : (k : ℕ) → k ≤ quarter-steps → pos 0 ≼ cosine (steps-angle (pos k))
+steps-cosine k h = subst (λ t. t ≼ cosine (steps-angle (pos k))) cosine-last (steps-open k quarter-steps h (omega arith) .cosine-falls)
+  where
+    cosine-last : cosine (steps-angle (pos quarter-steps)) ≡ pos 0
+    cosine-last = ap cosine steps-last ∙ cosine-quarter
+
+-- ---- past one step, past all later ones
+implied : (a b : Bool) → (T a → T b) → b ≡ false → a ≡ false
+implied false b f e = refl
+implied true false f e = absurd (f tt)
+implied true true f e = e
+
+pub past-on : (x y j k : ℕ) → j ≤ k → k ≤ quarter-steps → not-past (pos x) (pos y) j ≡ false → not-past (pos x) (pos y) k ≡ false
+unfolding not-past
+past-on x y j k l h e = implied _ _ back e
+  where
+    back : T (leZ (pos x *ℤ sine (steps-angle (pos k))) (pos y *ℤ cosine (steps-angle (pos k)))) → T (leZ (pos x *ℤ sine (steps-angle (pos j))) (pos y *ℤ cosine (steps-angle (pos j))))
+    back t =
+        let o = steps-open j k l h in
+        let s = sine (steps-angle (pos j)) in
+        let s′ = sine (steps-angle (pos k)) in
+        let c = cosine (steps-angle (pos j)) in
+        let c′ = cosine (steps-angle (pos k)) in
+        let g : pos x *ℤ s′ ≼ pos y *ℤ c′ = record { le = t } in
+        let r : pos x *ℤ s ≼ pos y *ℤ c =
+        cert! (pos x ∷ pos y ∷ s ∷ s′ ∷ c ∷ c′ ∷ []) 0 (gap g ⊞ nonneg x ⊛ gap (o .sine-rises) ⊞ nonneg y ⊛ gap (o .cosine-falls)) (search polys depth 60 fits 100000) (search polys depth 60 fits 100000) (search polys depth 60 fits 100000) tt in
+        r .le
+
+-- 0 is past nothing
+pub start-not-past : (x y : ℕ) → not-past (pos x) (pos y) 0 ≡ true
+unfolding not-past
+start-not-past x y =
+    ap (λ a. leZ (pos x *ℤ sine a) (pos y *ℤ cosine a)) steps-first
+    ∙ ap₂ (λ s c. leZ (pos x *ℤ s) (pos y *ℤ c)) sine-0 cosine-0
+    ∙ le-leb (x * 0) (y * U) (omega arith)
+
+-- ---- the greatest
+pub greatest-is : (p : ℕ → Bool) (n k : ℕ) → k < n → p k ≡ true → ((j : ℕ) → k < j → j < n → p j ≡ false) → greatest p n ≡ k
+unfolding greatest
+greatest-is p zero k h e f = absurd (omega arith)
+greatest-is p (suc n) k h e f = go (decLe n k) (λ l. greatest-is p n k l e (λ j a b. f j a (omega arith)))
+  where
+    go : Dec (n ≤ k) → (k < n → greatest p n ≡ k) → cond (p n) n (greatest p n) ≡ k
+    go (yes l) r =
+        let same : n ≡ k = omega arith in
+        ap (λ b. cond b n (greatest p n)) (ap p same ∙ e) ∙ same
+    go (no g) r =
+        let l : k < n = omega arith in
+        ap (λ b. cond b n (greatest p n)) (f n l (omega arith)) ∙ r l

@@ -1,0 +1,57 @@
+-- The quarter turns of a direction, by the signs of X and Y. Assumes nothing.
+use mathlib.Core.Path.{_≡_, refl, sym, ap, ap₂, _∙_}
+use mathlib.Core.Bool.{Bool, true, false, cond}
+use Prim.Native.Nat.{ℕ, zero, suc, _+_, _*_, _≤_, _<_}
+use native.Mathlib.Omega.{arith}
+use borrow.Author.Tests.{lt-ltb, le-leb, ne-eqb}
+use lib.IntN.{ℤ, pos, negsuc, negℤ, natAbs}
+use Rattle.integers.specs.Signs.{sgn}
+use Rattle.direction.specs.Direction.{quarter-steps, in-quarter, first-quarter, turned-in, direction}
+
+-- ---- one step of the definition
+no-origin : (x y : ℤ) → 0 < natAbs x + natAbs y → direction x y ≡ turned-in 3 x y
+unfolding direction
+no-origin x y h = rw (ne-eqb (natAbs x + natAbs y) 0 (λ e. omega (arith, e))) refl
+
+stop : (t x y : ℕ) → 0 < x → turned-in t (pos x) (pos y) ≡ in-quarter (pos x) (pos y)
+unfolding turned-in first-quarter
+stop zero x y h = refl
+stop (suc t) x y h = rw (lt-ltb 0 x h, le-leb 0 y (omega arith)) refl
+
+turn-neg : (t m : ℕ) (y : ℤ) → turned-in (suc t) (negℤ (pos m)) y ≡ quarter-steps + turned-in t y (pos m)
+unfolding turned-in first-quarter
+turn-neg t zero y = refl
+turn-neg t (suc m) y = refl
+
+turn-below : (t n : ℕ) (x : ℤ) → turned-in (suc t) x (negsuc n) ≡ quarter-steps + turned-in t (negsuc n) (negℤ x)
+unfolding turned-in first-quarter
+turn-below t n (pos m) = either (lib.Dec.ltb 0 m)
+  where
+    either : (b : Bool) → cond (cond b false false) (in-quarter (pos m) (negsuc n)) (quarter-steps + turned-in t (negsuc n) (negℤ (pos m))) ≡ quarter-steps + turned-in t (negsuc n) (negℤ (pos m))
+    either true = refl
+    either false = refl
+turn-below t n (negsuc m) = refl
+
+abs-neg : (m : ℕ) → natAbs (negℤ (pos m)) ≡ m
+abs-neg zero = refl
+abs-neg (suc m) = refl
+
+-- ---- the four quarters; 0 has either sign
+pub no-turn : (x y : ℕ) → 0 < x → direction (sgn false x) (sgn false y) ≡ 0 * quarter-steps + in-quarter (pos x) (pos y)
+unfolding sgn
+no-turn x y h = no-origin (pos x) (pos y) (omega arith) ∙ stop 3 x y h ∙ omega arith
+
+pub one-turn : (x y : ℕ) → 0 < y → direction (sgn true x) (sgn false y) ≡ 1 * quarter-steps + in-quarter (pos y) (pos x)
+unfolding sgn
+one-turn x y h = no-origin (negℤ (pos x)) (pos y) (omega arith) ∙ turn-neg 2 x (pos y) ∙ omega (arith, stop 2 y x h)
+
+pub two-turns : (x y : ℕ) → 0 < x → direction (sgn true x) (sgn true y) ≡ 2 * quarter-steps + in-quarter (pos x) (pos y)
+unfolding sgn
+two-turns x y h =
+    no-origin (negℤ (pos x)) (negℤ (pos y)) (omega (arith, abs-neg x)) ∙ turn-neg 2 x (negℤ (pos y)) ∙ omega (arith, turn-neg 1 y (pos x), stop 1 x y h)
+
+pub three-turns : (x y : ℕ) → 0 < y → direction (sgn false x) (sgn true y) ≡ 3 * quarter-steps + in-quarter (pos y) (pos x)
+unfolding sgn
+three-turns x zero h = absurd (omega arith)
+three-turns x (suc n) h =
+    no-origin (pos x) (negsuc n) (omega arith) ∙ turn-below 2 n (pos x) ∙ omega (arith, turn-neg 1 (suc n) (negℤ (pos x)), turn-neg 0 x (pos (suc n)), stop 0 (suc n) x (omega arith))
