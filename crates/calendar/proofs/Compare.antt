@@ -1,0 +1,26 @@
+-- A test of two whole numbers that are differences of naturals is a test of naturals. Assumes nothing.
+use mathlib.Core.Path.{_≡_, refl, sym, _∙_}
+use mathlib.Core.Bool.{Bool, true, false}
+use Prim.Native.Nat.{ℕ, _+_, _≤_}
+use native.Mathlib.Decide.{decLe}
+use native.Mathlib.Omega.{arith}
+use borrow.Author.Tests.{le-leb, lt-leb}
+use lib.Dec.{T, leb}
+use lib.IntN.{ℤ}
+use lib.Signed.{leZ}
+use Rattle.integers.proofs.Pairs.{Is, less, less⁻¹}
+
+is-true : (b : Bool) → T b → b ≡ true
+is-true true t = refl
+is-true false t = absurd t
+
+is-false : (b : Bool) → (T b → ⊥) → b ≡ false
+is-false true f = absurd (f tt)
+is-false false f = refl
+
+pub leZ-is : {x y : ℤ} {a b c d : ℕ} → Is x a b → Is y c d → leZ x y ≡ leb (a + d) (c + b)
+leZ-is {x} {y} {a} {b} {c} {d} h k = go (decLe (a + d) (c + b))
+  where
+    go : Dec (a + d ≤ c + b) → leZ x y ≡ leb (a + d) (c + b)
+    go (yes l) = is-true (leZ x y) (less h k l .le) ∙ sym (le-leb (a + d) (c + b) l)
+    go (no f) = is-false (leZ x y) (λ t. f (less⁻¹ h k (record { le = t }))) ∙ sym (lt-leb (a + d) (c + b) (omega arith))

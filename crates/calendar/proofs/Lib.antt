@@ -1,0 +1,10 @@
+pub mod Below
+pub mod Compare
+pub mod Fields
+pub mod Literal
+pub mod Calls
+pub mod Answers
+pub mod Bounds
+pub mod Facts
+pub mod Round
+pub mod Back
