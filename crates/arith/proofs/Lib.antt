@@ -3,3 +3,5 @@ pub mod Signs
 pub mod Long
 pub mod Residues
 pub mod Naturals
+pub mod Split
+pub mod Ranges

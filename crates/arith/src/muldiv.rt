@@ -1,12 +1,14 @@
 // Products that pass 64 bits, divided and rounded. For the crates above.
 ghost use mathlib.Core.Path.{_≡_};
 ghost use Prim.Native.Nat.{_+_, _-_, _*_, _/_, _%_, _<_, _≤_, _^_};
-ghost use lib.IntN.{ℤ, natAbs, _*ℤ_};
+ghost use lib.IntN.{ℤ, pos, natAbs, _*ℤ_};
 ghost use Rattle.integers.specs.Division.{rounded};
+ghost use Rattle.units.specs.Units.{U};
 use crate::round::nearest;
 use crate::signed::abs;
 use crate::signed::of_parts;
 use crate::signed::signs_differ;
+use crate::signed::wide;
 
 pub struct Quot {
     pub q: u64,
@@ -44,4 +46,35 @@ pub fn mul_div_round(a: i64, b: i64, d: u64) -> i64
     let neg = signs_differ(a, b);
     let z = mul_div(abs(a), abs(b), d);
     of_parts(neg, nearest(neg, z.q, z.r, d))
+}
+
+// m·k by U: the quotient and the rest. m is split at U.
+pub fn scaled(m: u64, k: u64) -> Quot
+    requires { ⌜ k ≤ U ⌝ }
+    ensures { λ z. ⌜ (z .q ≡ m * k / U) × (z .r ≡ m * k % U) ⌝ }
+{
+    let p = m % 1000000000 * k;
+    Quot {
+        q: m / 1000000000 * k + p / 1000000000,
+        r: p % 1000000000,
+    }
+}
+
+// a·c / U rounded, for a cosine c.
+pub fn scale(a: i64, c: i64) -> i64
+    requires { ⌜ (natAbs a < 2 ^ 63) × (natAbs c ≤ U) ⌝ }
+    ensures { λ r. ⌜ r ≡ rounded (a *ℤ c) U ⌝ }
+{
+    let neg = signs_differ(a, c);
+    let z = scaled(abs(a), abs(c));
+    of_parts(neg, nearest(neg, z.q, z.r, 1000000000))
+}
+
+// a·x / (s·t) rounded: the floor by s, x split there, and then the rounding by t, which has to be even.
+pub fn mul_div_round_wide(a: u64, x: u64, s: u64, t: u64) -> i64
+    requires { ⌜ (0 < s) × (0 < t) × (t % 2 ≡ 0) × (a * s < 2 ^ 64) × (a * x < s * (2 ^ 63 - 1)) ⌝ }
+    ensures { λ r. ⌜ r ≡ rounded (pos a *ℤ pos x) (s * t) ⌝ }
+{
+    let e = x / s * a + x % s * a / s;
+    wide(nearest(false, e / t, e % t, t))
 }

@@ -128,6 +128,12 @@ unfolding near
 near-le false m d h = div-below (2 * m + d) (2 * d) m (omega (arith, mul-le-mul-left m h))
 near-le true m d h = div-below (2 * m + (d - 1)) (2 * d) m (omega (arith, mul-le-mul-left m h))
 
+-- a magnitude of at most k divisors rounds to at most k
+pub near-most : (s : Bool) (k m d : ℕ) → 0 < d → m ≤ k * d → near s m d ≤ k
+unfolding near
+near-most false k m d h l = div-below (2 * m + d) (2 * d) k (omega arith)
+near-most true k m d h l = div-below (2 * m + (d - 1)) (2 * d) k (omega arith)
+
 -- at most one more than the quotient
 pub near-next : (s : Bool) (q r d : ℕ) → r < d → near s (q * d + r) d ≤ q + 1
 unfolding near

@@ -1,0 +1,31 @@
+-- How large a rounded quotient is. Assumes nothing.
+use mathlib.Core.Path.{_≡_, refl, sym, ap, _∙_, subst}
+use mathlib.Core.Bool.{Bool, true, false}
+use Prim.Native.Nat.{ℕ, zero, suc, _+_, _*_, _^_, _≤_, _<_}
+use native.Mathlib.Nat.{le-trans, mul-le-mul, lt-of-le-of-lt}
+use lib.IntN.{ℤ, pos, negsuc, negℤ, natAbs, _*ℤ_}
+use Rattle.integers.specs.Division.{rounded}
+use Rattle.integers.specs.Signs.{negative, sgn, near}
+use Rattle.integers.proofs.Division.{rounded-by, near-most, near-le}
+use Rattle.integers.proofs.Order.{natAbs-*}
+
+pub natAbs-sgn : (s : Bool) (m : ℕ) → natAbs (sgn s m) ≡ m
+unfolding sgn
+natAbs-sgn false m = refl
+natAbs-sgn true zero = refl
+natAbs-sgn true (suc m) = refl
+
+pub natAbs-rounded : (n : ℤ) (d : ℕ) → 0 < d → natAbs (rounded n d) ≡ near (negative n) (natAbs n) d
+natAbs-rounded n d h = ap natAbs (rounded-by n d h) ∙ natAbs-sgn (negative n) (near (negative n) (natAbs n) d)
+
+-- |n| ≤ k·d gives |rounded n d| ≤ k
+pub rounded-within : (n : ℤ) (d k : ℕ) → 0 < d → natAbs n ≤ k * d → natAbs (rounded n d) ≤ k
+rounded-within n d k h l = subst (λ (t : ℕ). t ≤ k) (sym (natAbs-rounded n d h)) (near-most (negative n) k (natAbs n) d h l)
+
+-- and it is never larger than n
+pub rounded-smaller : (n : ℤ) (d : ℕ) → 0 < d → natAbs (rounded n d) ≤ natAbs n
+rounded-smaller n d h = subst (λ (t : ℕ). t ≤ natAbs n) (sym (natAbs-rounded n d h)) (near-le (negative n) (natAbs n) d h)
+
+-- a product by no more than the divisor
+pub scaled-within : (a c : ℤ) (d k : ℕ) → 0 < d → natAbs a ≤ k → natAbs c ≤ d → natAbs (rounded (a *ℤ c) d) ≤ k
+scaled-within a c d k h l m = rounded-within (a *ℤ c) d k h (subst (λ (t : ℕ). t ≤ k * d) (sym (natAbs-* a c)) (mul-le-mul l m))

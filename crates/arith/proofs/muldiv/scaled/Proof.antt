@@ -1,0 +1,30 @@
+-- `arith::muldiv::scaled` meets its contract: m split at U. Assumes nothing.
+use Prim.Native.Nat.{ℕ, _+_, _*_, _/_, _%_, _<_, _^_}
+use native.Mathlib.Omega.{arith}
+use native.Mathlib.Nat.{lt-of-le-of-lt, mul-le-mul-right}
+use lib.Dec.{lit<}
+use Rattle.arith.proofs.Long.{quotient}
+use Rattle.arith.proofs.Split.{split, split-below, small-factor, low-factor, first}
+use Rattle.arith.proofs.muldiv.scaled.Statement.{statement}
+use Rattle.arith.proofs.muldiv.scaled.Tie as tie
+
+whole : (c : tie.Start) → c .args .m / 1000000000 * c .args .k + c .args .m % 1000000000 * c .args .k / 1000000000 < 2 ^ 64
+whole c =
+    split-below (c .args .m) (c .args .k) 1000000000 _ (lit< tt)
+    (small-factor (c .args .m) (c .args .k) 1000000000 _ (lit< tt) (c .pre) (c .fits .m .fits))
+
+mul-p : tie.Need-mul-p
+mul-p c =
+    record { fits = low-factor (c .args .m) (c .args .k) 1000000000 _ (lit< tt) (lt-of-le-of-lt (mul-le-mul-right 1000000000 (c .pre)) (lit< tt)) }
+
+mul-t5 : tie.Need-mul-t5
+mul-t5 c = record { fits = first _ _ (whole c) }
+
+add-t7 : tie.Need-add-t7
+add-t7 c = record { fits = whole c }
+
+returns : tie.Need-returns
+returns c = quotient _ _ _ _ (split (c .args .m) (c .args .k) 1000000000 (lit< tt))
+
+pub scaled-spec : {M : Type 1} → statement M
+scaled-spec = tie.close (tie.spec mul-p mul-t5 add-t7 returns)
