@@ -9,14 +9,14 @@ use Rattle.direction.specs.Angles.{units-angle}
 use Rattle.nutation.specs.declared.Row.{Row}
 use Rattle.nutation.specs.Table.{neg, rows}
 
--- "Highest power first, each product by n/T rounded": the coefficients from the constant one up.
-unfoldable pub polynomial : ℤ → List ℤ → ℤ
-polynomial n [] = pos 0
-polynomial n (c ∷ cs) = c +ℤ rounded (polynomial n cs *ℤ n) millennium
+-- "Highest power first, each product by n/d rounded": the coefficients from the constant one up.
+unfoldable pub polynomial : ℤ → ℕ → List ℤ → ℤ
+polynomial n d [] = pos 0
+polynomial n d (c ∷ cs) = c +ℤ rounded (polynomial n d cs *ℤ n) d
 
 -- "Arguments in 10^-8 arcsecond, highest power first, each product by 10t/T rounded".
 abbrev pub argument : ℤ → List ℤ → ℤ
-argument t cs = polynomial (pos 10 *ℤ t) cs
+argument t cs = polynomial (pos 10 *ℤ t) millennium cs
 
 -- D, the Moon's mean elongation.
 unfoldable pub mean-elongation : ℤ → ℤ
@@ -77,7 +77,7 @@ obliquity-nutation t = add-up (obliquity-term t) (pos 0) rows
 
 -- "Mean obliquity likewise, in 10^-5 arcsecond, but its polynomial is in tau, so by t/T. True obliquity adds the nutation in obliquity."
 unfoldable pub mean-obliquity : ℤ → ℤ
-mean-obliquity t = polynomial t (pos 8438144800 ∷ neg 46815000 ∷ neg 5900 ∷ pos 181300 ∷ [])
+mean-obliquity t = polynomial t millennium (pos 8438144800 ∷ neg 46815000 ∷ neg 5900 ∷ pos 181300 ∷ [])
 
 unfoldable pub true-obliquity : ℤ → ℤ
 true-obliquity t = mean-obliquity t +ℤ obliquity-nutation t

@@ -1,4 +1,5 @@
 // Nutation and obliquity at an instant: document 01, "Places".
+pub mod polynomial;
 
 // A row of document 000's table: the figures of longitude and obliquity in 10^-4 arcsecond, their rates in 10^-5 a century, and the multipliers of D, M, M', F and the node.
 pub struct Row {
