@@ -1,28 +1,29 @@
 -- What the cosine and the sine give for places: of each angle one of the two is at least 0.69 in size, and those of working coordinates
 -- are near the reference's of exact ones (Q1). Assumes nothing.
-use mathlib.Core.Path.{_≡_, subst}
-use mathlib.Core.Logic.{_⊎_, inl, inr}
-use mathlib.Core.List.{List, [], _∷_}
-use Prim.Native.Nat.{ℕ, zero, suc, _*_, _^_, _≤_, _<_}
+use mathlib.Core.Logic.{inl, inr}
+use mathlib.Core.List.{[], _∷_}
+use Prim.Native.Nat.{ℕ, zero, suc, _*_, _≤_, _<_}
 use native.Mathlib.Omega.{arith}
 use lib.Dec.{leb→le}
-use lib.IntN.{ℤ, pos, negsuc, negℤ, natAbs, _+ℤ_, _-ℤ_, _*ℤ_}
-use Rattle.integers.specs.Order.{_≼_, _≺_}
+use lib.IntN.{ℤ, pos, negsuc, negℤ, natAbs, _-ℤ_, _*ℤ_}
+use Rattle.integers.specs.Order.{_≺_}
 use Rattle.integers.specs.Division.{modulo}
-use Rattle.integers.specs.Fractions.{Fraction, _+ᶠ_, negᶠ, wholeᶠ, Apart}
+use Rattle.integers.specs.Fractions.{Fraction, wholeᶠ, Apart}
 use Rattle.integers.proofs.Auto.{polys, cert!, gap, _·_}
 use Rattle.integers.proofs.Bounds.{Bd}
 use Rattle.units.specs.Units.{U, parts, quarter, angle-step, angle-per-part}
 use Rattle.cosine.specs.Cosine.{q-of, w-of, even-part, odd-part, cosine-by, sine-by, working-cosine, working-sine, cosine, sine}
-use Rattle.cosine.specs.Reference.{Within, reference-cosine, reference-sine}
+use Rattle.cosine.specs.Reference.{Within}
 use Rattle.cosine.proofs.Part.{Angle}
 use Rattle.cosine.proofs.Any.{w-angle}
 use Rattle.cosine.proofs.Within.{the-turn}
 use Rattle.cosine.proofs.Ranges.{Unit-fraction, In-U, cosine-unit, sine-unit, cosine-range, sine-range, even-large}
 use Rattle.cosine.proofs.Longitude.{Near-longitude, Q1-cosine, Q1-sine}
 use Rattle.separation.specs.Exact.{cosᶠ, sinᶠ}
-use Rattle.separation.proofs.Places.{Far, OneFar}
+use Rattle.separation.specs.Near.{tolerance, angle-limit}
+use Rattle.separation.proofs.Places.{Far, One-far}
 use Rattle.separation.proofs.Whole.{Near}
+use Rattle.separation.proofs.Apart.{apart-bd}
 
 -- ---- one of the two is large
 
@@ -32,28 +33,20 @@ far-even w a = inl (cert! (even-part w ∷ []) 0 (gap (even-large a)) (search po
 far-minus : (w : ℤ) → Angle w (pos U) → Far (pos 1) (pos 690000000) (negℤ (even-part w))
 far-minus w a = inr (cert! (even-part w ∷ []) 0 (gap (even-large a)) (search polys depth 60 fits 100000) (search polys depth 60 fits 100000) (search polys depth 60 fits 100000) tt)
 
-far-by : (k : ℕ) (w : ℤ) → Angle w (pos U) → OneFar (cosine-by negℤ k (even-part w) (odd-part w)) (sine-by negℤ k (even-part w) (odd-part w))
+far-by : (k : ℕ) (w : ℤ) → Angle w (pos U) → One-far (cosine-by negℤ k (even-part w) (odd-part w)) (sine-by negℤ k (even-part w) (odd-part w))
 unfolding cosine-by sine-by
 far-by zero w a = inl (far-even w a)
 far-by (suc zero) w a = inr (far-even w a)
 far-by (suc (suc zero)) w a = inl (far-minus w a)
 far-by (suc (suc (suc k))) w a = inr (far-minus w a)
 
-pub one-far : (x : ℤ) → OneFar (cosine x) (sine x)
+pub one-far : (x : ℤ) → One-far (cosine x) (sine x)
 unfolding cosine sine working-cosine working-sine
 one-far x = far-by (modulo (q-of quarter x) 4) (w-of quarter angle-step x) (w-angle the-turn x)
 
 -- ---- a working coordinate x and the exact one f
 
--- |x - f| is at most A, by cross products
-pub apart-bd : (A x : ℤ) (f : Fraction) → Apart (wholeᶠ A) (wholeᶠ x) f → Bd (A *ℤ f .lower) (f .lower *ℤ x -ℤ f .upper)
-unfolding _+ᶠ_ negᶠ
-apart-bd A x f h = record {
-  low = cert! (A ∷ x ∷ f .lower ∷ f .upper ∷ []) 0 (gap (h .least)) (search polys depth 60 fits 100000) (search polys depth 60 fits 100000) (search polys depth 60 fits 100000) tt;
-  high = cert! (A ∷ x ∷ f .lower ∷ f .upper ∷ []) 0 (gap (h .most)) (search polys depth 60 fits 100000) (search polys depth 60 fits 100000) (search polys depth 60 fits 100000) tt;
-}
-
-natural : (x n : ℤ) (d : ℕ) → 0 < d → natAbs x ≤ 630000000000000000 → Bd (pos 200000 *ℤ pos d) (pos d *ℤ x -ℤ n) → Near-longitude x n (parts * d)
+natural : (x n : ℤ) (d : ℕ) → 0 < d → natAbs x ≤ angle-limit → Bd (pos tolerance *ℤ pos d) (pos d *ℤ x -ℤ n) → Near-longitude x n (parts * d)
 natural x n d hd hx b = record {
   N-pos = omega arith;
   limit = hx;
@@ -61,7 +54,7 @@ natural x n d hd hx b = record {
   least = cert! (x ∷ n ∷ pos d ∷ []) 0 (100000000000 · gap (b .low)) (search polys depth 60 fits 100000) (search polys depth 60 fits 100000) (search polys depth 60 fits 100000) tt;
 }
 
-longitude : (x n l : ℤ) → pos 0 ≺ l → natAbs x ≤ 630000000000000000 → Bd (pos 200000 *ℤ l) (l *ℤ x -ℤ n) → Near-longitude x n (parts * natAbs l)
+longitude : (x n l : ℤ) → pos 0 ≺ l → natAbs x ≤ angle-limit → Bd (pos tolerance *ℤ l) (l *ℤ x -ℤ n) → Near-longitude x n (parts * natAbs l)
 longitude x n (pos d) h hx b = natural x n d (leb→le 1 d (h .lt)) hx b
 longitude x n (negsuc d) h hx b = absurd (h .lt)
 
@@ -73,9 +66,9 @@ near-of x f i u w = record {
   near = record { low = w .least; high = w .most };
 }
 
-module _ (x : ℤ) (f : Fraction) (hx : natAbs x ≤ 630000000000000000) (h : Apart (wholeᶠ (pos 200000)) (wholeᶠ x) f) where
+module _ (x : ℤ) (f : Fraction) (hx : natAbs x ≤ angle-limit) (h : Apart (wholeᶠ (pos tolerance)) (wholeᶠ x) f) where
   angle : Near-longitude x (f .upper) (parts * natAbs (f .lower))
-  angle = longitude x (f .upper) (f .lower) (h .lower-g) hx (apart-bd (pos 200000) x f h)
+  angle = longitude x (f .upper) (f .lower) (h .lower-g) hx (apart-bd (pos tolerance) x f h)
 
   pub cosine-near : Near (cosine (pos angle-per-part *ℤ x)) (cosᶠ f)
   unfolding cosᶠ

@@ -1,27 +1,23 @@
 -- Q5: the working unit vectors of the Sun and of the planet are close enough to the exact directions. Assumes nothing.
-use mathlib.Core.Path.{_≡_, refl, sym, ap, ap₂, _∙_, subst, subst₂}
-use mathlib.Core.Logic.{_⊎_, inl, inr}
-use mathlib.Core.List.{List, [], _∷_}
-use Prim.Native.Nat.{ℕ, zero, suc, _+_, _*_, _-_, _≤_, _<_}
+use mathlib.Core.Path.{refl, subst}
+use mathlib.Core.List.{[], _∷_}
+use Prim.Native.Nat.{ℕ, _≤_, _<_}
 use native.Mathlib.Omega.{arith}
 use lib.Dec.{le→leb, leb→le}
-use lib.IntN.{ℤ, pos, negsuc, negℤ, natAbs, _+ℤ_, _-ℤ_, _*ℤ_}
+use lib.IntN.{ℤ, pos, negℤ, _+ℤ_, _-ℤ_, _*ℤ_}
 use Rattle.integers.specs.Order.{_≼_, _≺_}
-use Rattle.integers.specs.Division.{rounded}
 use Rattle.integers.proofs.Pairs.{nonneg, ≤ℤ-trans}
-use Rattle.integers.proofs.Auto.{polys, ring!, cert!, cert<!, gap, gap<, gap≡, _⊞_, _⊛_, _·_, sqr}
+use Rattle.integers.proofs.Auto.{polys, ring!, cert!, cert<!, gap, gap<, _⊞_, _⊛_, _·_, sqr}
 use Rattle.integers.proofs.Order.{≺-≼, product-pos}
-use Rattle.integers.proofs.Division.{rounded-low, rounded-high}
-use Rattle.integers.proofs.Bounds.{Bd, bd-*, bd-+, bd-neg, bd-self, bd-le, bd-cancel, bd-as, bd-rounded}
+use Rattle.integers.proofs.Bounds.{Bd, bd-*, bd-+, bd-neg, bd-self, bd-as}
 use Rattle.units.specs.Units.{U}
 use Rattle.vectors.specs.declared.Vector.{Vector}
 use Rattle.vectors.specs.Vectors.{geocentric, sun, length, unit}
-use Rattle.separation.proofs.Row.{eps}
 use Rattle.separation.proofs.Form.{dot, scl, sub, Bd³}
 use Rattle.separation.proofs.Sizes.{Unit³}
 use Rattle.separation.proofs.Halves.{Close}
-use Rattle.separation.proofs.Units.{unitBy, unit-near, unit-is, length-high², shorter}
-use Rattle.separation.proofs.Places.{Figures, Faithful, OneFar, placed, toward, exactPlace, place-near, long, times, bx, by, bz, within-of}
+use Rattle.separation.proofs.Units.{unit-over, unit-near, unit-is, length-high², shorter}
+use Rattle.separation.proofs.Places.{Figures, Faithful, One-far, placed, toward, whole-place, place-near, long, times, bx, by, bz, within-of}
 
 -- ---- Q5
 
@@ -141,14 +137,14 @@ module _ (Q : ℤ) (hQ : pos 0 ≺ Q) where
 
   sun-near : (l : ℕ) (w e : Figures) → 0 < l → pos 0 ≼ w .R → pos 0 ≼ e .R → Faithful Q w e
       → Bd³ (e .R *ℤ (Q *ℤ Q *ℤ pos l +ℤ pos 2 *ℤ (Q *ℤ Q *ℤ (pos U +ℤ pos 4920 *ℤ w .R))))
-      (sub (scl (pos 2 *ℤ pos U *ℤ w .R) (sun (exactPlace Q e))) (scl (pos 2 *ℤ (pos l *ℤ (Q *ℤ Q)) *ℤ e .R) (unitBy l (sun (placed w)))))
-  unfolding geocentric scl sun exactPlace
+      (sub (scl (pos 2 *ℤ pos U *ℤ w .R) (sun (whole-place Q e))) (scl (pos 2 *ℤ (pos l *ℤ (Q *ℤ Q)) *ℤ e .R) (unit-over l (sun (placed w)))))
+  unfolding geocentric scl sun whole-place
   sun-near l w e hl hR hp h =
       let q = Q *ℤ Q in
       let T = q *ℤ (pos U +ℤ pos 4920 *ℤ w .R) in
       let near = place-near Q w e Q₀ hR h in
       let un = unit-near l (sun (placed w)) hl in
-      let u = unitBy l (sun (placed w)) in
+      let u = unit-over l (sun (placed w)) in
       let n = toward Q e in
       within-of _ _
       (sun-part (pos l) q (w .R) (e .R) T (u .x) (placed w .x) (n .x) (Q₀ ⊛ Q₀) hp (bx _ _ un) (bx _ _ near))
@@ -156,8 +152,8 @@ module _ (Q : ℤ) (hQ : pos 0 ≺ Q) where
       (sun-part (pos l) q (w .R) (e .R) T (u .z) (placed w .z) (n .z) (Q₀ ⊛ Q₀) hp (bz _ _ un) (bz _ _ near))
 
   full-near : (w e : Figures) → pos 0 ≼ w .R → Faithful Q w e
-      → Bd³ (Q *ℤ (Q *ℤ Q *ℤ (pos U +ℤ pos 4920 *ℤ w .R)) +ℤ pos U *ℤ (pos 200000 *ℤ Q *ℤ (Q *ℤ Q))) (scl (pos U) (sub (scl (Q *ℤ (Q *ℤ Q)) (placed w)) (exactPlace Q e)))
-  unfolding geocentric scl exactPlace
+      → Bd³ (Q *ℤ (Q *ℤ Q *ℤ (pos U +ℤ pos 4920 *ℤ w .R)) +ℤ pos U *ℤ (pos 200000 *ℤ Q *ℤ (Q *ℤ Q))) (scl (pos U) (sub (scl (Q *ℤ (Q *ℤ Q)) (placed w)) (whole-place Q e)))
+  unfolding geocentric scl whole-place
   full-near w e hR h =
       let q = Q *ℤ Q in
       let T = q *ℤ (pos U +ℤ pos 4920 *ℤ w .R) in
@@ -171,27 +167,27 @@ module _ (Q : ℤ) (hQ : pos 0 ≺ Q) where
 
   planet-near : (D : ℕ) (p pe w we : Figures) → 0 < D → pos 0 ≼ p .R → pos 0 ≼ w .R → Faithful Q p pe → Faithful Q w we
       → Bd³ (Q *ℤ (Q *ℤ Q) *ℤ pos D +ℤ (pos 2 *ℤ (Q *ℤ (Q *ℤ Q *ℤ (pos U +ℤ pos 4920 *ℤ p .R)) +ℤ pos U *ℤ (pos 200000 *ℤ Q *ℤ (Q *ℤ Q))) +ℤ pos 2 *ℤ (Q *ℤ (Q *ℤ Q *ℤ (pos U +ℤ pos 4920 *ℤ w .R)) +ℤ pos U *ℤ (pos 200000 *ℤ Q *ℤ (Q *ℤ Q)))))
-      (sub (scl (pos 2 *ℤ pos U) (sub (exactPlace Q pe) (exactPlace Q we))) (scl (pos 2 *ℤ (pos D *ℤ (Q *ℤ (Q *ℤ Q)))) (unitBy D (sub (placed p) (placed w)))))
+      (sub (scl (pos 2 *ℤ pos U) (sub (whole-place Q pe) (whole-place Q we))) (scl (pos 2 *ℤ (pos D *ℤ (Q *ℤ (Q *ℤ Q)))) (unit-over D (sub (placed p) (placed w)))))
   unfolding geocentric scl
   planet-near D p pe w we hD hp hw h k =
       let c = Q *ℤ (Q *ℤ Q) in
       let E = Q *ℤ (Q *ℤ Q *ℤ (pos U +ℤ pos 4920 *ℤ p .R)) +ℤ pos U *ℤ (pos 200000 *ℤ Q *ℤ (Q *ℤ Q)) in
       let F = Q *ℤ (Q *ℤ Q *ℤ (pos U +ℤ pos 4920 *ℤ w .R)) +ℤ pos U *ℤ (pos 200000 *ℤ Q *ℤ (Q *ℤ Q)) in
       let un = unit-near D (sub (placed p) (placed w)) hD in
-      let v = unitBy D (sub (placed p) (placed w)) in
+      let v = unit-over D (sub (placed p) (placed w)) in
       let a = full-near p pe hp h in
       let b = full-near w we hw k in
       within-of _ _
-      (planet-part (pos D) c E F (v .x) (placed p .x) (placed w .x) (exactPlace Q pe .x) (exactPlace Q we .x) (Q₀ ⊛ (Q₀ ⊛ Q₀)) (bx _ _ un) (bx _ _ a) (bx _ _ b))
-      (planet-part (pos D) c E F (v .y) (placed p .y) (placed w .y) (exactPlace Q pe .y) (exactPlace Q we .y) (Q₀ ⊛ (Q₀ ⊛ Q₀)) (by _ _ un) (by _ _ a) (by _ _ b))
-      (planet-part (pos D) c E F (v .z) (placed p .z) (placed w .z) (exactPlace Q pe .z) (exactPlace Q we .z) (Q₀ ⊛ (Q₀ ⊛ Q₀)) (bz _ _ un) (bz _ _ a) (bz _ _ b))
+      (planet-part (pos D) c E F (v .x) (placed p .x) (placed w .x) (whole-place Q pe .x) (whole-place Q we .x) (Q₀ ⊛ (Q₀ ⊛ Q₀)) (bx _ _ un) (bx _ _ a) (bx _ _ b))
+      (planet-part (pos D) c E F (v .y) (placed p .y) (placed w .y) (whole-place Q pe .y) (whole-place Q we .y) (Q₀ ⊛ (Q₀ ⊛ Q₀)) (by _ _ un) (by _ _ a) (by _ _ b))
+      (planet-part (pos D) c E F (v .z) (placed p .z) (placed w .z) (whole-place Q pe .z) (whole-place Q we .z) (Q₀ ⊛ (Q₀ ⊛ Q₀)) (bz _ _ un) (bz _ _ a) (bz _ _ b))
 
 -- ---- for the core statement
 
 at-least : (k l : ℕ) → 0 < k → pos k ≼ pos l → 0 < l
 at-least k l h g = let m : k ≤ l = leb→le k l (g .le) in omega arith
 
-pub sun-long : (w : Figures) → pos 10000000000 ≼ w .R → OneFar (w .cosB) (w .sinB) → OneFar (w .cosL) (w .sinL) → pos 47 *ℤ w .R ≼ pos 100 *ℤ pos (length (sun (placed w)))
+pub sun-long : (w : Figures) → pos 10000000000 ≼ w .R → One-far (w .cosB) (w .sinB) → One-far (w .cosL) (w .sinL) → pos 47 *ℤ w .R ≼ pos 100 *ℤ pos (length (sun (placed w)))
 sun-long w h f g = long (pos (length (sun (placed w)))) w h f g (sun-within _ (placed w) (within-length (sun (placed w))))
 
 length-least : (R l : ℤ) → pos 10000000000 ≼ R → pos 47 *ℤ R ≼ pos 100 *ℤ l → pos 4700000000 ≼ l
@@ -206,8 +202,8 @@ pub record Sky (Q : ℤ) (planet earth planet* earth* : Figures) : Type 0 where
   pub planet-faithful : Faithful Q planet planet*
   pub earth-faithful : Faithful Q earth earth*
   pub usable : Usable planet earth (length (sub (placed planet) (placed earth)))
-  pub far-B : OneFar (earth .cosB) (earth .sinB)
-  pub far-L : OneFar (earth .cosL) (earth .sinL)
+  pub far-B : One-far (earth .cosB) (earth .sinB)
+  pub far-L : One-far (earth .cosL) (earth .sinL)
 
 module _ (Q : ℤ) (planet earth planet* earth* : Figures) (sky : Sky Q planet earth planet* earth*) where
   abbrev l : ℕ
@@ -240,13 +236,13 @@ module _ (Q : ℤ) (planet earth planet* earth* : Figures) (sky : Sky Q planet e
   lift< : (n : ℕ) → 0 < n → pos 0 ≺ pos n
   lift< n h = record { lt = le→leb 1 n h }
 
-  pub close : Close (unit (sun (placed earth))) (unit (sub (placed planet) (placed earth))) (sun (exactPlace Q earth*)) (sub (exactPlace Q planet*) (exactPlace Q earth*))
-  unfolding unit unitBy
+  pub close : Close (unit (sun (placed earth))) (unit (sub (placed planet) (placed earth))) (sun (whole-place Q earth*)) (sub (whole-place Q planet*) (whole-place Q earth*))
+  unfolding unit unit-over
   close =
       let hQ = sky .Q-pos in
       let q = Q *ℤ Q in
       let Q₁ = ≺-≼ hQ in
-      common (unit (sun (placed earth))) (unit (sub (placed planet) (placed earth))) (sun (exactPlace Q earth*)) (sub (exactPlace Q planet*) (exactPlace Q earth*))
+      common (unit (sun (placed earth))) (unit (sub (placed planet) (placed earth))) (sun (whole-place Q earth*)) (sub (whole-place Q planet*) (whole-place Q earth*))
       (pos 2 *ℤ pos U *ℤ earth .R) (pos 2 *ℤ pos U) (pos 2 *ℤ (pos l *ℤ q) *ℤ earth* .R) (pos 2 *ℤ (pos D *ℤ (Q *ℤ q))) _ _
       (product-pos (pos 2 *ℤ pos U) (earth .R) (record { lt = tt }) (cert<! (earth .R ∷ []) 0 (gap (sky .usable .earth-far)) (search polys depth 60 fits 100000) (search polys depth 60 fits 100000) (search polys depth 60 fits 100000) tt))
       (record { lt = tt })

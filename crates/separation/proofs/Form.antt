@@ -1,12 +1,10 @@
 -- Whole vectors, the form F, and what a small change of both vectors does to it. Assumes nothing.
-use mathlib.Core.Path.{_≡_, refl, sym, ap, ap₂, _∙_, subst}
-use mathlib.Core.List.{List, [], _∷_}
+use mathlib.Core.Path.{_≡_}
+use mathlib.Core.List.{[], _∷_}
 use mathlib.Core.Logic.{_⊎_, inl, inr}
-use Prim.Native.Nat.{ℕ, zero, suc, _+_, _*_}
-use lib.IntN.{ℤ, pos, negsuc, negℤ, _+ℤ_, _-ℤ_, _*ℤ_}
+use lib.IntN.{ℤ, pos, negℤ, _+ℤ_, _-ℤ_, _*ℤ_}
 use Rattle.integers.specs.Order.{_≼_, _≺_}
-use Rattle.integers.proofs.Pairs.{nonneg}
-use Rattle.integers.proofs.Auto.{polys, ring!, cert!, cert<!, gap, gap<, gap≡, _⊞_, _⊛_, _·_, sqr}
+use Rattle.integers.proofs.Auto.{polys, ring!, cert!, gap, gap<, _⊞_, _⊛_, _·_, sqr}
 use Rattle.integers.proofs.Order.{≼-or-≺}
 use Rattle.vectors.specs.declared.Vector.{Vector}
 use Rattle.vectors.specs.Vectors.{geocentric}

@@ -1,22 +1,18 @@
 -- Q10: both halves, for working unit vectors and any exact vectors close enough to them. Assumes nothing.
-use mathlib.Core.Path.{_≡_, refl, sym, ap, ap₂, _∙_, subst}
-use mathlib.Core.Logic.{_⊎_, inl, inr}
-use mathlib.Core.List.{List, [], _∷_}
-use Prim.Native.Nat.{ℕ, zero, suc, _+_, _*_, _-_, _≤_}
-use native.Mathlib.Omega.{arith}
-use lib.IntN.{ℤ, pos, negsuc, negℤ, _+ℤ_, _-ℤ_, _*ℤ_}
+use mathlib.Core.Path.{sym, subst}
+use mathlib.Core.List.{[], _∷_}
+use lib.IntN.{ℤ, pos, negℤ, _+ℤ_, _-ℤ_, _*ℤ_}
 use Rattle.integers.specs.Order.{_≼_, _≺_}
 use Rattle.integers.proofs.Pairs.{nonneg, ≤ℤ-trans}
-use Rattle.integers.proofs.Auto.{polys, ring!, cert!, cert<!, gap, gap<, gap≡, _⊞_, _⊛_, _·_, sqr}
+use Rattle.integers.proofs.Auto.{polys, cert!, gap, _⊞_, _⊛_, sqr}
 use Rattle.integers.proofs.Order.{≺-≼, cert*!, product-pos, factor-pos}
 use Rattle.integers.specs.Fractions.{Fraction}
-use Rattle.units.specs.Units.{U}
 use Rattle.vectors.specs.declared.Vector.{Vector}
 use Rattle.vectors.specs.Vectors.{geocentric}
 use Rattle.separation.proofs.Row.{eps, Row}
 use Rattle.separation.proofs.Form.{dot, scl, sub, form, Bd³, apart, form-scl, dot-scl, within-nonneg}
 use Rattle.separation.proofs.Transfer.{transfer, Passes, passes, form-low}
-use Rattle.separation.proofs.Sizes.{Unit³, Sizes, sizes}
+use Rattle.separation.proofs.Sizes.{Unit³, sizes}
 use Rattle.separation.proofs.Ends.{turn-exact, turn-working, listed-end, clear-end, exact-end, form-nonneg}
 
 -- a/W times s is within η/W of u, and b/W times g within ζ/W of v, in each component; η/W + ζ/W is at most eps.
@@ -65,15 +61,15 @@ module _ (W η ζ : ℤ) (u v s g : Vector) (hW : pos 0 ≺ W) (hu : Unit³ u) (
       let low = c .lower in
       let t = pos 7 *ℤ eps *ℤ eps *ℤ (W *ℤ W) in
       let t₀ : pos 0 ≼ t = nonneg 118300000000 ⊛ sqr W in
-      let hF : negℤ (t *ℤ low) ≼ form up low s g = as-form up low t s g (form-low up low (dot s g) (dot s s) (dot g g) t (row .positive) (row .atMost) (z .sum-pos) t₀ (z .even) h) in
-      let low₀ : pos 0 ≼ low = ≤ℤ-trans (≺-≼ (row .positive)) (row .atMost) in
+      let hF : negℤ (t *ℤ low) ≼ form up low s g = as-form up low t s g (form-low up low (dot s g) (dot s s) (dot g g) t (row .positive) (row .at-most) (z .sum-pos) t₀ (z .even) h) in
+      let low₀ : pos 0 ≼ low = ≤ℤ-trans (≺-≼ (row .positive)) (row .at-most) in
       let tr =
-      transfer up low (low *ℤ G *ℤ W) η ζ s g (scl W u) (scl W v) (≺-≼ (row .positive)) (row .atMost) (back η s (scl W u) ws) (back ζ g (scl W v) wg)
+      transfer up low (low *ℤ G *ℤ W) η ζ s g (scl W u) (scl W v) (≺-≼ (row .positive)) (row .at-most) (back η s (scl W u) ws) (back ζ g (scl W v) wg)
       (low₀ ⊛ row .some ⊛ ≺-≼ hW)
-      (turn-exact up low G W (dot s s) (form up low s g) (row .positive) (row .atMost) (z .X-high) (row .sines) hF)
-      (turn-exact up low G W (dot g g) (form up low s g) (row .positive) (row .atMost) (z .Y-high) (row .sines) hF) in
+      (turn-exact up low G W (dot s s) (form up low s g) (row .positive) (row .at-most) (z .X-high) (row .sines) hF)
+      (turn-exact up low G W (dot g g) (form up low s g) (row .positive) (row .at-most) (z .Y-high) (row .sines) hF) in
       listed-end up low G W (η +ℤ ζ) (form up low s g) (form up low u v) (dot u u) (dot v v) (dot (sub u v) (sub u v)) T
-      (row .positive) (row .atMost) (row .some) hW (within-nonneg η (sub s (scl W u)) ws ⊞ within-nonneg ζ (sub g (scl W v)) wg) small (hu .most) (hv .most) (row .reached) hF
+      (row .positive) (row .at-most) (row .some) hW (within-nonneg η (sub s (scl W u)) ws ⊞ within-nonneg ζ (sub g (scl W v)) wg) small (hu .most) (hv .most) (row .reached) hF
       (subst (λ (f : ℤ). pos 2 *ℤ form up low s g ≼ pos 2 *ℤ f +ℤ pos 7 *ℤ (η +ℤ ζ) *ℤ (low *ℤ G *ℤ W) +ℤ pos 6 *ℤ low *ℤ ((η +ℤ ζ) *ℤ (η +ℤ ζ))) (form-scl up low W u v) tr)
       (apart up low u v)
 
@@ -82,20 +78,20 @@ module _ (W η ζ : ℤ) (u v s g : Vector) (hW : pos 0 ≺ W) (hu : Unit³ u) (
       let z = sizes W η ζ u v s g hW hu hv ws wg small in
       let up = c .upper in
       let low = c .lower in
-      let low₀ : pos 0 ≼ low = ≤ℤ-trans (≺-≼ (row .positive)) (row .atMost) in
+      let low₀ : pos 0 ≼ low = ≤ℤ-trans (≺-≼ (row .positive)) (row .at-most) in
       let f = form up low u v in
-      let hF = clear-end up low G f (dot u u) (dot v v) (dot (sub u v) (sub u v)) T′ (row .positive) (row .atMost) (hu .least) (hv .least) (row .cleared) (apart up low u v) h in
+      let hF = clear-end up low G f (dot u u) (dot v v) (dot (sub u v) (sub u v)) T′ (row .positive) (row .at-most) (hu .least) (hv .least) (row .cleared) (apart up low u v) h in
       let f₀ = form-nonneg low G f (row .some) low₀ hF in
       let turn : (a : Vector) → Unit³ a → (low *ℤ low -ℤ up *ℤ up) *ℤ dot (scl W a) (scl W a) -ℤ up *ℤ form up low (scl W u) (scl W v) ≼ low *ℤ G *ℤ W *ℤ (low *ℤ G *ℤ W) =
       λ (a : Vector) (ha : Unit³ a).
       subst (λ (d : ℤ). (low *ℤ low -ℤ up *ℤ up) *ℤ d -ℤ up *ℤ form up low (scl W u) (scl W v) ≼ low *ℤ G *ℤ W *ℤ (low *ℤ G *ℤ W)) (sym (dot-scl W W a a))
       (subst (λ (e : ℤ). (low *ℤ low -ℤ up *ℤ up) *ℤ (W *ℤ W *ℤ dot a a) -ℤ up *ℤ e ≼ low *ℤ G *ℤ W *ℤ (low *ℤ G *ℤ W)) (sym (form-scl up low W u v))
-      (turn-working up low G W (dot a a) f (row .positive) (row .atMost) (ha .most) (row .sines) f₀)) in
+      (turn-working up low G W (dot a a) f (row .positive) (row .at-most) (ha .most) (row .sines) f₀)) in
       let tr =
-      transfer up low (low *ℤ G *ℤ W) η ζ (scl W u) (scl W v) s g (≺-≼ (row .positive)) (row .atMost) ws wg
+      transfer up low (low *ℤ G *ℤ W) η ζ (scl W u) (scl W v) s g (≺-≼ (row .positive)) (row .at-most) ws wg
       (low₀ ⊛ row .some ⊛ ≺-≼ hW) (turn u hu) (turn v hv) in
       let g₀ =
-      exact-end up low G W (η +ℤ ζ) (form up low s g) f (row .positive) (row .atMost) (row .some) hW
+      exact-end up low G W (η +ℤ ζ) (form up low s g) f (row .positive) (row .at-most) (row .some) hW
       (within-nonneg η (sub s (scl W u)) ws ⊞ within-nonneg ζ (sub g (scl W v)) wg) small hF
       (subst (λ (e : ℤ). pos 2 *ℤ e ≼ pos 2 *ℤ form up low s g +ℤ pos 7 *ℤ (η +ℤ ζ) *ℤ (low *ℤ G *ℤ W) +ℤ pos 6 *ℤ low *ℤ ((η +ℤ ζ) *ℤ (η +ℤ ζ))) (form-scl up low W u v) tr) in
       passes up low (dot s g) (dot s s) (dot g g) (row .positive) low₀ (z .sum-pos) (of-form up low s g g₀)

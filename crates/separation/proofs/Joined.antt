@@ -1,6 +1,6 @@
 -- The two halves for working coordinates and exact ones, given that the figures made of them are near. Assumes nothing.
 use mathlib.Core.Path.{_≡_, refl, sym, subst}
-use mathlib.Core.List.{List, [], _∷_}
+use mathlib.Core.List.{[], _∷_}
 use mathlib.Core.Bool.{Bool, true, false, _&&_}
 use Prim.Native.Nat.{ℕ, _+_, _*_, _-_, _/_, _≤_}
 use native.Mathlib.Omega.{arith}
@@ -8,27 +8,25 @@ use lib.Dec.{T, leb}
 use lib.IntN.{ℤ, pos, _+ℤ_, _*ℤ_}
 use lib.Signed.{leZ}
 use Rattle.integers.specs.Order.{_≼_, _≺_}
-use Rattle.integers.specs.Fractions.{Fraction}
 use Rattle.integers.proofs.Auto.{polys, cert<!, gap, gap<, _⊞_}
 use Rattle.integers.proofs.Order.{product-pos}
 use Rattle.units.specs.Units.{parts, angle-per-part}
 use Rattle.units.specs.declared.Coordinates.{Coordinates}
 use Rattle.cosine.specs.Cosine.{cosine, sine}
 use Rattle.vectors.specs.declared.Vector.{Vector}
-use Rattle.vectors.specs.Vectors.{geocentric, sun, squared, length, unit, radius-usable, usable}
+use Rattle.vectors.specs.Vectors.{sun, squared, length, unit, radius-usable, usable}
 use Rattle.vectors.specs.Rectangular.{rectangular, place, distance, places-usable}
-use Rattle.separation.specs.Exact.{Exact-coordinates, exact-place, exact-sun, exact-geocentric, cosine-of-arcminutes, WithinArcminutes}
+use Rattle.separation.specs.Exact.{Exact-coordinates, exact-sun, exact-geocentric, cosine-of-arcminutes, Within-arcminutes}
 use Rattle.separation.specs.Listed.{squared-separation, threshold, listed}
 use Rattle.separation.proofs.Tests.{and-left, and-right}
 use Rattle.separation.proofs.Form.{dot, sub}
 use Rattle.separation.proofs.Row.{Row}
-use Rattle.separation.proofs.Transfer.{Passes}
 use Rattle.separation.proofs.Halves.{exact-listed, listed-exact}
 use Rattle.separation.proofs.Table.{witness, table}
-use Rattle.separation.proofs.Places.{Figures, placed, exactPlace}
+use Rattle.separation.proofs.Places.{Figures, placed, whole-place}
 use Rattle.separation.proofs.Closeness.{Usable, Sky, close, unit-sun, unit-seen}
 use Rattle.separation.proofs.WholeTest.{Over³, to-whole, of-whole}
-use Rattle.separation.proofs.Whole.{Five, five-of, Near⁵, Held⁵, product, product-positive, held, left⁵, right⁵, whole, faithful, place-over, sun-over, geocentric-over}
+use Rattle.separation.proofs.Whole.{five-of, Near⁵, Held⁵, product, product-positive, held, left⁵, right⁵, whole, faithful, place-over, sun-over, geocentric-over}
 use Rattle.separation.proofs.Angles.{one-far}
 
 -- The working figures of a body.
@@ -106,46 +104,46 @@ module _ (p e : Coordinates) (p* e* : Exact-coordinates) (hp : Near⁵ (figures 
   W₀ : pos 0 ≺ W
   W₀ = product-pos Q (Q *ℤ Q) Q₀ (product-pos Q Q Q₀ Q₀)
 
-  abbrev heldP : Held⁵ Q (five-of p*)
-  heldP = left⁵ (product (five-of p*)) (product (five-of e*)) (five-of p*) E₀ (held (figures p) (five-of p*) hp)
+  abbrev held-planet : Held⁵ Q (five-of p*)
+  held-planet = left⁵ (product (five-of p*)) (product (five-of e*)) (five-of p*) E₀ (held (figures p) (five-of p*) hp)
 
-  abbrev heldE : Held⁵ Q (five-of e*)
-  heldE = right⁵ (product (five-of e*)) (product (five-of p*)) (five-of e*) P₀ (held (figures e) (five-of e*) he)
+  abbrev held-earth : Held⁵ Q (five-of e*)
+  held-earth = right⁵ (product (five-of e*)) (product (five-of p*)) (five-of e*) P₀ (held (figures e) (five-of e*) he)
 
   abbrev P : Figures
-  P = whole Q (five-of p*) heldP
+  P = whole Q (five-of p*) held-planet
 
   abbrev E : Figures
-  E = whole Q (five-of e*) heldE
+  E = whole Q (five-of e*) held-earth
 
   sky : Sky Q (figures p) (figures e) P E
   unfolding figures
   sky = record {
     Q-pos = Q₀;
-    planet-faithful = faithful Q (figures p) (five-of p*) heldP hp;
-    earth-faithful = faithful Q (figures e) (five-of e*) heldE he;
+    planet-faithful = faithful Q (figures p) (five-of p*) held-planet hp;
+    earth-faithful = faithful Q (figures e) (five-of e*) held-earth he;
     usable = usable-of p e ok;
     far-B = one-far (pos angle-per-part *ℤ e .latitude);
     far-L = one-far (pos angle-per-part *ℤ e .longitude);
   }
 
   abbrev S : Vector
-  S = sun (exactPlace Q E)
+  S = sun (whole-place Q E)
 
   abbrev G : Vector
-  G = sub (exactPlace Q P) (exactPlace Q E)
+  G = sub (whole-place Q P) (whole-place Q E)
 
   over-S : Over³ W (exact-sun e*) S
-  over-S = sun-over W e* (exactPlace Q E) (place-over Q e* heldE)
+  over-S = sun-over W e* (whole-place Q E) (place-over Q e* held-earth)
 
   over-G : Over³ W (exact-geocentric p* e*) G
-  over-G = geocentric-over W p* e* (exactPlace Q P) (exactPlace Q E) (place-over Q p* heldP) (place-over Q e* heldE)
+  over-G = geocentric-over W p* e* (whole-place Q P) (whole-place Q E) (place-over Q p* held-planet) (place-over Q e* held-earth)
 
   lower-pos : (k : ℕ) → 60 ≤ k → k ≤ 2702 → pos 0 ≺ cosine-of-arcminutes k .lower
   lower-pos k h l =
       let c = cosine-of-arcminutes k in
       let r = table k h l in
-      cert<! (c .upper ∷ c .lower ∷ []) 0 (gap< (r .positive) ⊞ gap (r .atMost)) (search polys depth 60 fits 100000) (search polys depth 60 fits 100000) (search polys depth 60 fits 100000) tt
+      cert<! (c .upper ∷ c .lower ∷ []) 0 (gap< (r .positive) ⊞ gap (r .at-most)) (search polys depth 60 fits 100000) (search polys depth 60 fits 100000) (search polys depth 60 fits 100000) tt
 
   abbrev u : Vector
   u = unit (sun (placed (figures e)))
@@ -153,7 +151,7 @@ module _ (p e : Coordinates) (p* e* : Exact-coordinates) (hp : Near⁵ (figures 
   abbrev v : Vector
   v = unit (sub (placed (figures p)) (placed (figures e)))
 
-  pub exact-then-listed : (k : ℕ) → 60 ≤ k → k ≤ 2700 → WithinArcminutes k p* e* → listed k p e ≡ true
+  pub exact-then-listed : (k : ℕ) → 60 ≤ k → k ≤ 2700 → Within-arcminutes k p* e* → listed k p e ≡ true
   exact-then-listed k h l t =
       listed-of k p e
       (exact-listed u v S G (unit-sun Q (figures p) (figures e) P E sky) (unit-seen Q (figures p) (figures e) P E sky) (close Q (figures p) (figures e) P E sky)
@@ -166,7 +164,7 @@ module _ (p e : Coordinates) (p* e* : Exact-coordinates) (hp : Near⁵ (figures 
       same : (k : ℕ) → k + 2 - 2 ≡ k
       same k = omega arith
 
-  pub listed-then-exact : (k : ℕ) → 60 ≤ k → k ≤ 2700 → listed k p e ≡ true → WithinArcminutes (k + 2) p* e*
+  pub listed-then-exact : (k : ℕ) → 60 ≤ k → k ≤ 2700 → listed k p e ≡ true → Within-arcminutes (k + 2) p* e*
   listed-then-exact k h l t =
       of-whole (k + 2) (lower-pos (k + 2) (omega arith) (omega arith)) W W₀ (exact-sun e*) (exact-geocentric p* e*) S G over-S over-G
       (listed-exact u v S G (unit-sun Q (figures p) (figures e) P E sky) (unit-seen Q (figures p) (figures e) P E sky) (close Q (figures p) (figures e) P E sky)

@@ -1,19 +1,17 @@
 -- Q2 and Q3: a working place from working cosines, how near it is to the exact one, and that it is at least 0.47 R long.
 -- Exact figures are whole numbers over one lower number Q. Assumes nothing.
-use mathlib.Core.Path.{_≡_, refl, sym, ap, ap₂, _∙_, subst, subst₂}
+use mathlib.Core.Path.{refl}
 use mathlib.Core.Logic.{_⊎_, inl, inr}
-use mathlib.Core.List.{List, [], _∷_}
-use Prim.Native.Nat.{ℕ, zero, suc, _+_, _*_, _-_, _≤_, _<_}
+use mathlib.Core.List.{[], _∷_}
+use Prim.Native.Nat.{_*_, _<_}
 use native.Mathlib.Omega.{arith}
-use lib.Dec.{le→leb, leb→le}
-use lib.IntN.{ℤ, pos, negsuc, negℤ, natAbs, _+ℤ_, _-ℤ_, _*ℤ_}
-use Rattle.integers.specs.Order.{_≼_, _≺_}
+use lib.IntN.{ℤ, pos, negℤ, _+ℤ_, _-ℤ_, _*ℤ_}
+use Rattle.integers.specs.Order.{_≼_}
 use Rattle.integers.specs.Division.{rounded}
-use Rattle.integers.proofs.Pairs.{nonneg, ≤ℤ-trans}
-use Rattle.integers.proofs.Auto.{polys, ring!, cert!, cert<!, gap, gap<, gap≡, _⊞_, _⊛_, _·_, sqr}
-use Rattle.integers.proofs.Order.{≺-≼, product-pos}
+use Rattle.integers.proofs.Pairs.{nonneg}
+use Rattle.integers.proofs.Auto.{polys, ring!, cert!, gap, gap<, _⊞_, _⊛_, _·_}
 use Rattle.integers.proofs.Division.{rounded-low, rounded-high}
-use Rattle.integers.proofs.Bounds.{Bd, bd-*, bd-+, bd-neg, bd-self, bd-le, bd-cancel, bd-as, bd-rounded}
+use Rattle.integers.proofs.Bounds.{Bd, bd-*, bd-+, bd-self, bd-le, bd-cancel, bd-as, bd-rounded}
 use Rattle.units.specs.Units.{U}
 use Rattle.vectors.specs.declared.Vector.{Vector}
 use Rattle.vectors.specs.Vectors.{geocentric}
@@ -41,8 +39,8 @@ placed w = record {
 unfoldable pub toward : ℤ → Figures → Vector
 toward Q e = record { x = e .cosB *ℤ e .cosL; y = e .cosB *ℤ e .sinL; z = Q *ℤ e .sinB }
 
-unfoldable pub exactPlace : ℤ → Figures → Vector
-exactPlace Q e = scl (e .R) (toward Q e)
+unfoldable pub whole-place : ℤ → Figures → Vector
+whole-place Q e = scl (e .R) (toward Q e)
 
 -- c/U and C/Q are in [−1, 1] and within 2.46·10⁻⁶ of each other
 pub record Seen (Q c C : ℤ) : Type 0 where
@@ -150,15 +148,15 @@ far-rounded k A n c hk hA f g = go f g
     go (inr a) (inl b) = inr (below (cert! (k ∷ A ∷ n ∷ c ∷ []) 0 (gap a ⊛ gap b ⊞ hA ⊛ gap b ⊞ 690000000 · gap a) (search polys depth 60 fits 100000) (search polys depth 60 fits 100000) (search polys depth 60 fits 100000) tt))
 
 -- one of the cosine and the sine is at least 0.69
-abbrev pub OneFar : ℤ → ℤ → Type 0
-OneFar c s = Far (pos 1) (pos 690000000) c ⊎ Far (pos 1) (pos 690000000) s
+abbrev pub One-far : ℤ → ℤ → Type 0
+One-far c s = Far (pos 1) (pos 690000000) c ⊎ Far (pos 1) (pos 690000000) s
 
 far-le : (k A n l : ℤ) → pos 0 ≼ k → Far k A n → Bd l n → A ≼ k *ℤ l
 far-le k A n l hk (inl h) b = cert! (k ∷ A ∷ n ∷ l ∷ []) 0 (gap h ⊞ hk ⊛ gap (b .high)) (search polys depth 60 fits 100000) (search polys depth 60 fits 100000) (search polys depth 60 fits 100000) tt
 far-le k A n l hk (inr h) b = cert! (k ∷ A ∷ n ∷ l ∷ []) 0 (gap h ⊞ hk ⊛ gap (b .low)) (search polys depth 60 fits 100000) (search polys depth 60 fits 100000) (search polys depth 60 fits 100000) tt
 
 -- l is at least each component
-pub long : (l : ℤ) (w : Figures) → pos 10000000000 ≼ w .R → OneFar (w .cosB) (w .sinB) → OneFar (w .cosL) (w .sinL) → Bd³ l (placed w) → pos 47 *ℤ w .R ≼ pos 100 *ℤ l
+pub long : (l : ℤ) (w : Figures) → pos 10000000000 ≼ w .R → One-far (w .cosB) (w .sinB) → One-far (w .cosL) (w .sinL) → Bd³ l (placed w) → pos 47 *ℤ w .R ≼ pos 100 *ℤ l
 unfolding placed
 long l w hR fB fL b = goB fB
   where
@@ -171,7 +169,7 @@ long l w hR fB fL b = goB fB
     start : Far (pos 1) R R
     start = inl (cert! (R ∷ []) 0 (nonneg 0) (search polys depth 60 fits 100000) (search polys depth 60 fits 100000) (search polys depth 60 fits 100000) tt)
 
-    goB : OneFar (w .cosB) (w .sinB) → pos 47 *ℤ R ≼ pos 100 *ℤ l
+    goB : One-far (w .cosB) (w .sinB) → pos 47 *ℤ R ≼ pos 100 *ℤ l
     goB (inr h) =
         let a = far-le (pos 200 *ℤ pos 1) (pos 138 *ℤ R -ℤ pos 100 *ℤ pos 1) (rounded (R *ℤ w .sinB) U) l (nonneg 200) (far-rounded (pos 1) R R (w .sinB) (nonneg 1) R₀ start h) (bz l (placed w) b) in
         cert! (R ∷ l ∷ []) 1 (gap a ⊞ 44 · gap hR) (search polys depth 60 fits 100000) (search polys depth 60 fits 100000) (search polys depth 60 fits 100000) tt
@@ -192,6 +190,6 @@ long l w hR fB fL b = goB fB
             (far-rounded (pos 200 *ℤ pos 1) (pos 138 *ℤ R -ℤ pos 100 *ℤ pos 1) f c (nonneg 200) A₀ flat g) bd in
             cert! (R ∷ l ∷ []) 399 (gap a ⊞ 244 · gap hR) (search polys depth 60 fits 100000) (search polys depth 60 fits 100000) (search polys depth 60 fits 100000) tt
 
-        goL : OneFar (w .cosL) (w .sinL) → pos 47 *ℤ R ≼ pos 100 *ℤ l
+        goL : One-far (w .cosL) (w .sinL) → pos 47 *ℤ R ≼ pos 100 *ℤ l
         goL (inl g) = end (w .cosL) (bx l (placed w) b) g
         goL (inr g) = end (w .sinL) (by l (placed w) b) g

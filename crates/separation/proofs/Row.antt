@@ -1,5 +1,5 @@
--- What one row of the table gives: the inequalities in which the reference cosine c of k arcminutes, the list's thresholds and the width eps meet.
-use Prim.Native.Nat.{ℕ, _+_, _*_, _-_}
+-- What a row of the table gives: the inequalities in which the reference cosine c of k arcminutes, the thresholds and the width eps meet. Assumes nothing.
+use Prim.Native.Nat.{_+_, _*_, _-_}
 use lib.IntN.{ℤ, pos, _+ℤ_, _-ℤ_, _*ℤ_}
 use Rattle.integers.specs.Order.{_≼_, _≺_}
 use Rattle.integers.specs.Fractions.{Fraction}
@@ -14,7 +14,7 @@ eps = pos 130000
 pub record Row (c : Fraction) (g t t′ : ℤ) : Type 0 where
   pub positive : pos 0 ≺ c .upper
   pub some : pos 0 ≼ g
-  pub atMost : c .upper ≼ c .lower
+  pub at-most : c .upper ≼ c .lower
   pub sines : pos 1001 *ℤ pos (U * U) *ℤ (c .lower *ℤ c .lower -ℤ c .upper *ℤ c .upper) +ℤ pos 7000 *ℤ eps *ℤ eps *ℤ c .lower *ℤ c .lower ≼ pos 1000 *ℤ g *ℤ g *ℤ c .lower *ℤ c .lower
   pub reached : pos 2 *ℤ (c .lower -ℤ c .upper) *ℤ pos (2 * U * U + 8 * U) +ℤ (pos 7 *ℤ eps *ℤ g +ℤ pos 20 *ℤ eps *ℤ eps) *ℤ c .lower ≼ pos 2 *ℤ t *ℤ c .lower
   pub cleared : (pos 2 *ℤ t′ +ℤ pos 7 *ℤ eps *ℤ g +ℤ pos 20 *ℤ eps *ℤ eps) *ℤ c .lower ≼ pos 2 *ℤ (c .lower -ℤ c .upper) *ℤ pos (2 * U * U - 8 * U)

@@ -1,19 +1,15 @@
 -- The squared lengths of exact vectors that are near to working unit vectors: nearly equal, and near U² (the end of Q5). Assumes nothing.
-use mathlib.Core.Path.{_≡_, refl, sym, ap, ap₂, _∙_, subst}
-use mathlib.Core.Logic.{_⊎_, inl, inr}
-use mathlib.Core.List.{List, [], _∷_}
-use Prim.Native.Nat.{ℕ, zero, suc, _+_, _*_, _-_, _≤_}
-use native.Mathlib.Omega.{arith}
-use lib.IntN.{ℤ, pos, negsuc, negℤ, _+ℤ_, _-ℤ_, _*ℤ_}
+use mathlib.Core.Path.{sym, subst}
+use mathlib.Core.List.{[], _∷_}
+use Prim.Native.Nat.{_+_, _*_}
+use lib.IntN.{ℤ, pos, _+ℤ_, _-ℤ_, _*ℤ_}
 use Rattle.integers.specs.Order.{_≼_, _≺_}
-use Rattle.integers.proofs.Pairs.{nonneg, ≤ℤ-trans}
-use Rattle.integers.proofs.Auto.{polys, ring!, cert!, cert<!, gap, gap<, gap≡, _⊞_, _⊛_, _·_, sqr}
-use Rattle.integers.proofs.Order.{≺-≼, cert*!, product-pos, factor-pos}
-use Rattle.integers.specs.Fractions.{Fraction}
+use Rattle.integers.proofs.Pairs.{nonneg}
+use Rattle.integers.proofs.Auto.{polys, cert!, cert<!, gap, gap<, _⊞_, _⊛_, _·_, sqr}
+use Rattle.integers.proofs.Order.{≺-≼}
 use Rattle.units.specs.Units.{U}
 use Rattle.vectors.specs.declared.Vector.{Vector}
-use Rattle.vectors.specs.Vectors.{geocentric}
-use Rattle.separation.proofs.Row.{eps, Row}
+use Rattle.separation.proofs.Row.{eps}
 use Rattle.separation.proofs.Form.{dot, scl, sub, Bd³, dot-scl, within-nonneg}
 use Rattle.separation.proofs.Transfer.{length-low, length-high}
 

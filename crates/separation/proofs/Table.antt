@@ -66,7 +66,7 @@ row-of c g t t′ h =
     record {
       positive = record { lt = and-left (ltZ (pos 0) (c .upper)) (leZ (pos 0) g && leZ (c .upper) (c .lower)) r };
       some = record { le = and-left (leZ (pos 0) g) (leZ (c .upper) (c .lower)) r′ };
-      atMost = record { le = and-right (leZ (pos 0) g) (leZ (c .upper) (c .lower)) r′ };
+      at-most = record { le = and-right (leZ (pos 0) g) (leZ (c .upper) (c .lower)) r′ };
       sines = record { le = and-left (sines c g) (reached c g t && cleared c g t′) l };
       reached = record { le = and-left (reached c g t) (cleared c g t′) l′ };
       cleared = record { le = and-right (reached c g t) (cleared c g t′) l′ };

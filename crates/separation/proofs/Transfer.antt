@@ -1,16 +1,14 @@
 -- Q7: how far F moves with its two vectors. Q8: the exact test and F. And the squared length of a vector near another. Assumes nothing.
-use mathlib.Core.Path.{_≡_, refl, sym, ap, ap₂, _∙_, subst}
-use mathlib.Core.List.{List, [], _∷_}
+use mathlib.Core.Path.{_≡_, sym, subst}
+use mathlib.Core.List.{[], _∷_}
 use mathlib.Core.Logic.{_⊎_, inl, inr}
-use Prim.Native.Nat.{ℕ, zero, suc, _+_, _*_}
-use lib.IntN.{ℤ, pos, negsuc, negℤ, _+ℤ_, _-ℤ_, _*ℤ_}
+use lib.IntN.{ℤ, pos, negℤ, _+ℤ_, _-ℤ_, _*ℤ_}
 use Rattle.integers.specs.Order.{_≼_, _≺_}
-use Rattle.integers.proofs.Pairs.{nonneg, ≤ℤ-trans}
-use Rattle.integers.proofs.Auto.{polys, ring!, cert!, cert<!, gap, gap<, gap≡, _⊞_, _⊛_, _·_, sqr}
-use Rattle.integers.proofs.Order.{≼-or-≺, ≺-≼, cancel, cert*! }
+use Rattle.integers.proofs.Auto.{polys, cert!, cert<!, gap, gap<, gap≡, _⊞_, _⊛_, _·_, sqr}
+use Rattle.integers.proofs.Order.{≼-or-≺, ≺-≼, cert*! }
 use Rattle.vectors.specs.declared.Vector.{Vector}
 use Rattle.vectors.specs.Vectors.{geocentric}
-use Rattle.separation.proofs.Form.{dot, scl, sub, form, Bd³, turned, form-comm, moved, within-nonneg, product-low, product-high}
+use Rattle.separation.proofs.Form.{dot, scl, sub, form, Bd³, turned, form-comm, moved, product-low, product-high}
 
 -- ---- Q7
 

@@ -1,18 +1,18 @@
 -- Q4: the unit vector, rounded over the floored length, has a squared length within 4U of U². Assumes nothing.
-use mathlib.Core.Path.{_≡_, refl, sym, ap, ap₂, _∙_, subst, subst₂}
+use mathlib.Core.Path.{_≡_, refl, sym, subst}
 use mathlib.Core.Logic.{_⊎_, inl, inr}
-use mathlib.Core.List.{List, [], _∷_}
-use Prim.Native.Nat.{ℕ, zero, suc, _+_, _*_, _-_, _≤_, _<_}
+use mathlib.Core.List.{[], _∷_}
+use Prim.Native.Nat.{ℕ, _+_, _*_, _≤_, _<_}
 use native.Mathlib.Omega.{arith}
-use lib.IntN.{ℤ, pos, negsuc, negℤ, natAbs, _+ℤ_, _-ℤ_, _*ℤ_}
+use lib.IntN.{ℤ, pos, negsuc, negℤ, natAbs, _+ℤ_, _*ℤ_}
 use lib.Dec.{le→leb, leb→le}
 use Rattle.integers.specs.Order.{_≼_, _≺_}
 use Rattle.integers.specs.Division.{rounded}
 use Rattle.integers.specs.Root.{root}
-use Rattle.integers.proofs.Pairs.{nonneg, ≤ℤ-trans}
+use Rattle.integers.proofs.Pairs.{nonneg}
 use Rattle.integers.proofs.Auto.{polys, ring!, cert!, cert<!, gap, gap<, gap≡, _⊞_, _⊛_, _·_, sqr}
-use Rattle.integers.proofs.Order.{≼-or-≺, ≺-≼, cert*! }
-use Rattle.integers.proofs.Root.{root-spec, IsRoot}
+use Rattle.integers.proofs.Order.{≼-or-≺, cert*! }
+use Rattle.integers.proofs.Root.{root-spec}
 use Rattle.integers.proofs.Bounds.{Bd, bd-rounded}
 use Rattle.units.specs.Units.{U}
 use Rattle.vectors.specs.declared.Vector.{Vector}
@@ -21,8 +21,8 @@ use Rattle.separation.proofs.Form.{dot, scl, sub, Bd³, product-low, pr
 use Rattle.separation.proofs.Sizes.{Unit³}
 
 -- rounded U·component over l
-unfoldable pub unitBy : ℕ → Vector → Vector
-unitBy l a = record { x = rounded (pos U *ℤ a .x) l; y = rounded (pos U *ℤ a .y) l; z = rounded (pos U *ℤ a .z) l }
+unfoldable pub unit-over : ℕ → Vector → Vector
+unit-over l a = record { x = rounded (pos U *ℤ a .x) l; y = rounded (pos U *ℤ a .y) l; z = rounded (pos U *ℤ a .z) l }
 
 -- ---- the length, by its two bounds
 
@@ -54,8 +54,8 @@ length-high² a =
 -- ---- Q4
 
 -- 2(l·u − U·a) is within l in each component
-pub unit-near : (l : ℕ) (a : Vector) → 0 < l → Bd³ (pos l) (scl (pos 2) (sub (scl (pos l) (unitBy l a)) (scl (pos U) a)))
-unfolding scl geocentric unitBy
+pub unit-near : (l : ℕ) (a : Vector) → 0 < l → Bd³ (pos l) (scl (pos 2) (sub (scl (pos l) (unit-over l a)) (scl (pos U) a)))
+unfolding scl geocentric unit-over
 unit-near l a h =
     let p = bd-rounded (pos U *ℤ a .x) l h in
     let q = bd-rounded (pos U *ℤ a .y) l h in
@@ -86,9 +86,9 @@ low-end l q X m e hl hX hm he eq =
     cert*! (l ∷ q ∷ X ∷ m ∷ e ∷ []) (pos 4 *ℤ (l *ℤ l)) (cert<! (l ∷ []) 0 (4 · (gap hl ⊛ gap hl) ⊞ 8000000000 · gap hl) (search polys depth 60 fits 100000) (search polys depth 60 fits 100000) (search polys depth 60 fits 100000) tt)
     (gap≡ (sym eq) ⊞ 4000000000000000000 · gap hX ⊞ 1000000000 · gap hm ⊞ he ⊞ 9000000000 · (gap hl ⊛ gap hl) ⊞ 17999999993000000000 · gap hl ⊞ nonneg 8999999993000000000000000000) (search polys depth 60 fits 100000) (search polys depth 60 fits 100000) (search polys depth 60 fits 100000) (search polys depth 60 fits 100000) tt
 
-pub unit-by : (l : ℕ) (a : Vector) → pos U ≼ pos l → pos l *ℤ pos l ≼ dot a a → dot a a ≼ pos l *ℤ pos l +ℤ pos 2 *ℤ pos l → Unit³ (unitBy l a)
-unit-by l a hl lo hi =
-    let u = unitBy l a in
+pub unit-over-is : (l : ℕ) (a : Vector) → pos U ≼ pos l → pos l *ℤ pos l ≼ dot a a → dot a a ≼ pos l *ℤ pos l +ℤ pos 2 *ℤ pos l → Unit³ (unit-over l a)
+unit-over-is l a hl lo hi =
+    let u = unit-over l a in
     let r = scl (pos 2) (sub (scl (pos l) u) (scl (pos U) a)) in
     let l₀ : 0 < l = above l hl in
     let w : Bd³ (pos l) r = unit-near l a l₀ in
@@ -103,8 +103,8 @@ unit-by l a hl lo hi =
     above l h = let k : U ≤ l = leb→le U l (h .le) in omega arith
 
 pub unit-is : (a : Vector) → pos U ≼ pos (length a) → Unit³ (unit a)
-unfolding unit unitBy
-unit-is a h = unit-by (length a) a h (length-low² a) (length-high² a)
+unfolding unit unit-over
+unit-is a h = unit-over-is (length a) a h (length-low² a) (length-high² a)
 
 -- no component is longer than the length
 pub shorter : (l : ℕ) (X c : ℤ) → c *ℤ c ≼ X → X ≼ pos l *ℤ pos l +ℤ pos 2 *ℤ pos l → Bd (pos l) c

@@ -1,9 +1,9 @@
 -- The five exact figures of a body, each a fraction with a lower number of its own, as whole numbers over one lower number Q. Assumes nothing.
-use mathlib.Core.Path.{_≡_, refl, sym, ap, _∙_, subst}
-use mathlib.Core.List.{List, [], _∷_}
-use lib.IntN.{ℤ, pos, negℤ, _-ℤ_, _*ℤ_}
-use Rattle.integers.specs.Order.{_≼_, _≺_}
-use Rattle.integers.specs.Fractions.{Fraction, _*ᶠ_, _+ᶠ_, negᶠ}
+use mathlib.Core.Path.{_≡_, sym, ap, _∙_, subst}
+use mathlib.Core.List.{[], _∷_}
+use lib.IntN.{ℤ, pos, _-ℤ_, _*ℤ_}
+use Rattle.integers.specs.Order.{_≺_}
+use Rattle.integers.specs.Fractions.{Fraction, _*ᶠ_}
 use Rattle.integers.proofs.Auto.{polys, ring! }
 use Rattle.integers.proofs.Order.{≺-≼, product-pos}
 use Rattle.integers.proofs.Bounds.{Bd, bd-*, bd-self, bd-as}
@@ -11,10 +11,10 @@ use Rattle.integers.proofs.Fractions.{Over, over-*, over-+, over-neg, over-scl,
 use Rattle.units.specs.Units.{U}
 use Rattle.vectors.specs.declared.Vector.{Vector}
 use Rattle.vectors.specs.Vectors.{geocentric, sun}
-use Rattle.separation.specs.Exact.{Exact-coordinates, Vectorᶠ, cosᶠ, sinᶠ, exact-place, exact-sun, exact-geocentric}
-use Rattle.separation.proofs.Form.{scl, sub}
+use Rattle.separation.specs.Exact.{Exact-coordinates, cosᶠ, sinᶠ, exact-place, exact-sun, exact-geocentric}
+use Rattle.separation.proofs.Form.{scl}
 use Rattle.separation.proofs.WholeTest.{Over³}
-use Rattle.separation.proofs.Places.{Figures, Seen, Faithful, toward, exactPlace}
+use Rattle.separation.proofs.Places.{Figures, Seen, Faithful, toward, whole-place}
 
 -- ---- one fraction: Q is m times its lower number
 
@@ -166,8 +166,8 @@ three Q r b l R B L hR hB hL =
     over-as (Q *ℤ Q *ℤ Q) (Q *ℤ (Q *ℤ Q)) (r *ℤ b *ℤ l) (r *ℤ (b *ℤ l)) (R *ᶠ B *ᶠ L) (ring! (Q ∷ []) (search polys depth 60 fits 100000) (search polys depth 60 fits 100000) tt) (ring! (r ∷ b ∷ l ∷ []) (search polys depth 60 fits 100000) (search polys depth 60 fits 100000) tt)
     (over-* (Q *ℤ Q) Q (r *ℤ b) l (R *ᶠ B) L (over-* Q Q r b R B hR hB) hL)
 
-pub place-over : (Q : ℤ) (c : Exact-coordinates) (h : Held⁵ Q (five-of c)) → Over³ (Q *ℤ (Q *ℤ Q)) (exact-place c) (exactPlace Q (whole Q (five-of c) h))
-unfolding exact-place five-of exactPlace toward scl whole
+pub place-over : (Q : ℤ) (c : Exact-coordinates) (h : Held⁵ Q (five-of c)) → Over³ (Q *ℤ (Q *ℤ Q)) (exact-place c) (whole-place Q (whole Q (five-of c) h))
+unfolding exact-place five-of whole-place toward scl whole
 place-over Q c h =
     let R = over-held Q (c .radius) (h .R) in
     let cB = over-held Q (cosᶠ (c .latitude)) (h .cosB) in

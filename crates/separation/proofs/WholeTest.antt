@@ -1,18 +1,13 @@
 -- The exact test in fractions is that of whole vectors, when both vectors are brought to one lower number W. Assumes nothing.
-use mathlib.Core.Path.{_≡_, refl, sym, ap, ap₂, _∙_, subst, subst₂}
-use mathlib.Core.List.{List, [], _∷_}
-use Prim.Native.Nat.{ℕ, zero, suc, _+_, _*_, _-_, _≤_, _<_}
-use native.Mathlib.Omega.{arith}
-use lib.IntN.{ℤ, pos, negsuc, negℤ, natAbs, _+ℤ_, _-ℤ_, _*ℤ_}
-use Rattle.integers.specs.Order.{_≼_, _≺_}
-use Rattle.integers.specs.Fractions.{Fraction, _*ᶠ_, _+ᶠ_, _-ᶠ_, negᶠ, _≤ᶠ_}
-use Rattle.integers.proofs.Auto.{polys, ring!, cert!, cert<!, gap, gap<, gap≡, _⊞_, _⊛_, _·_, sqr}
-use Rattle.integers.proofs.Order.{≺-≼, product-pos}
-use Rattle.integers.proofs.Bounds.{Bd, bd-*, bd-self, bd-as}
-use Rattle.integers.proofs.Fractions.{Over, over-*, over-+, over-neg, over-scl, over-as, up-pos, n-pos, le-over, over-le}
-use Rattle.units.specs.Units.{U}
+use mathlib.Core.Path.{refl}
+use Prim.Native.Nat.{ℕ}
+use lib.IntN.{ℤ, pos, _+ℤ_, _*ℤ_}
+use Rattle.integers.specs.Order.{_≺_}
+use Rattle.integers.specs.Fractions.{Fraction, _*ᶠ_, _+ᶠ_}
+use Rattle.integers.proofs.Order.{product-pos}
+use Rattle.integers.proofs.Fractions.{Over, over-*, over-+, over-scl, up-pos, n-pos, le-over, over-le}
 use Rattle.vectors.specs.declared.Vector.{Vector}
-use Rattle.separation.specs.Exact.{Vectorᶠ, dotᶠ, cosine-of-arcminutes, ExactTest}
+use Rattle.separation.specs.Exact.{Vectorᶠ, dotᶠ, cosine-of-arcminutes, Exact-test}
 use Rattle.separation.proofs.Form.{dot}
 use Rattle.separation.proofs.Transfer.{Passes}
 
@@ -53,13 +48,13 @@ module _ (k : ℕ) (low₀ : pos 0 ≺ cosine-of-arcminutes k .lower) (W : ℤ) 
       over-scl (c .lower *ℤ c .lower) (W *ℤ W *ℤ (W *ℤ W)) (dot m n *ℤ dot m n) (dotᶠ s g *ᶠ dotᶠ s g)
       (over-* (W *ℤ W) (W *ℤ W) (dot m n) (dot m n) (dotᶠ s g) (dotᶠ s g) (over-dot W s g m n hs hg) (over-dot W s g m n hs hg))
 
-  pub to-whole : ExactTest k s g → Passes (c .upper) (c .lower) (dot m n) (dot m m) (dot n n)
+  pub to-whole : Exact-test k s g → Passes (c .upper) (c .lower) (dot m n) (dot m m) (dot n n)
   to-whole t = record {
     ahead = n-pos (W *ℤ W) (dot m n) (dotᶠ s g) (product-pos W W hW hW) (over-dot W s g m n hs hg) (t .ahead);
     close = over-le Z _ _ (c *ᶠ c *ᶠ (dotᶠ s s *ᶠ dotᶠ g g)) (dotᶠ s g *ᶠ dotᶠ s g) Z-pos left right (t .close);
   }
 
-  pub of-whole : Passes (c .upper) (c .lower) (dot m n) (dot m m) (dot n n) → ExactTest k s g
+  pub of-whole : Passes (c .upper) (c .lower) (dot m n) (dot m m) (dot n n) → Exact-test k s g
   of-whole t = record {
     ahead = up-pos (W *ℤ W) (dot m n) (dotᶠ s g) (product-pos W W hW hW) (over-dot W s g m n hs hg) (t .ahead);
     close = le-over Z _ _ (c *ᶠ c *ᶠ (dotᶠ s s *ᶠ dotᶠ g g)) (dotᶠ s g *ᶠ dotᶠ s g) Z-pos left right (t .close);

@@ -52,10 +52,10 @@ unfoldable pub cosine-of-arcminutes : ℕ → Fraction
 cosine-of-arcminutes k = reference-cosine (pos (k * two-pi)) (21600 * 10 ^ 30)
 
 -- "Exact test for k arcminutes: the scalar product of these two vectors is positive, and its square is at least the squared reference cosine times both squared lengths."
-pub record ExactTest (k : ℕ) (sun planet : Vectorᶠ) : Type 0 where
+pub record Exact-test (k : ℕ) (sun planet : Vectorᶠ) : Type 0 where
   pub ahead : pos 0 ≺ dotᶠ sun planet .upper
   pub close : cosine-of-arcminutes k *ᶠ cosine-of-arcminutes k *ᶠ (dotᶠ sun sun *ᶠ dotᶠ planet planet) ≤ᶠ dotᶠ sun planet *ᶠ dotᶠ sun planet
 
 -- "The planet is within k arcminutes exactly when the test for k holds."
-abbrev pub WithinArcminutes : ℕ → Exact-coordinates → Exact-coordinates → Type 0
-WithinArcminutes k planet earth = ExactTest k (exact-sun earth) (exact-geocentric planet earth)
+abbrev pub Within-arcminutes : ℕ → Exact-coordinates → Exact-coordinates → Type 0
+Within-arcminutes k planet earth = Exact-test k (exact-sun earth) (exact-geocentric planet earth)

@@ -1,0 +1,21 @@
+-- How near working coordinates must be to exact ones for the promise of the list.
+use Prim.Native.Nat.{ℕ, _*_, _^_, _≤_}
+use lib.IntN.{pos, natAbs}
+use Rattle.integers.specs.Fractions.{wholeᶠ, Apart}
+use Rattle.units.specs.declared.Coordinates.{Coordinates}
+use Rattle.separation.specs.Exact.{Exact-coordinates}
+
+-- 2*10^5 parts: twice what "L, B and R are within 10^-6 of the exact sum" says.
+abbrev pub tolerance : ℕ
+tolerance = 2 * 10 ^ 5
+
+-- The largest |L| and |B|, in parts: more than an accepted series can give.
+abbrev pub angle-limit : ℕ
+angle-limit = 63 * 10 ^ 16
+
+pub record Near-coordinates (c : Coordinates) (e : Exact-coordinates) : Type 0 where
+  pub longitude-limit : natAbs (c .longitude) ≤ angle-limit
+  pub latitude-limit : natAbs (c .latitude) ≤ angle-limit
+  pub longitude : Apart (wholeᶠ (pos tolerance)) (wholeᶠ (c .longitude)) (e .longitude)
+  pub latitude : Apart (wholeᶠ (pos tolerance)) (wholeᶠ (c .latitude)) (e .latitude)
+  pub radius : Apart (wholeᶠ (pos tolerance)) (wholeᶠ (c .radius)) (e .radius)
