@@ -14,3 +14,4 @@ pub mod Figures
 pub mod Ranges
 pub mod Longitude
 pub mod Value
+pub mod Natural

@@ -21,7 +21,7 @@ turned : (q : ℤ) → modulo (q +ℤ pos 3) 4 ≡ (modulo q 4 + 3) % 4
 unfolding modulo
 turned q = modulo-add q (pos 3) 4 (omega arith)
 
-sine-turned : {A : Type 0} (neg : A → A) (k : ℕ) → k < 4 → (e o : A) → cosine-by neg ((k + 3) % 4) e o ≡ sine-by neg k e o
+pub sine-turned : {A : Type 0} (neg : A → A) (k : ℕ) → k < 4 → (e o : A) → cosine-by neg ((k + 3) % 4) e o ≡ sine-by neg k e o
 unfolding cosine-by sine-by
 sine-turned neg zero h e o = refl
 sine-turned neg (suc zero) h e o = refl

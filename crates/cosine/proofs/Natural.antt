@@ -1,0 +1,189 @@
+-- The working cosine in natural numbers: the working angle as v = w + U, and each rounded quotient as one quotient of naturals. Assumes nothing.
+use mathlib.Core.Path.{_≡_, refl, sym, ap, ap₂, _∙_, subst}
+use mathlib.Core.List.{List, [], _∷_}
+use Prim.Native.Nat.{ℕ, zero, suc, _+_, _*_, _-_, _/_, _%_, _^_, _≤_, _<_}
+use native.Mathlib.Omega.{arith}
+use native.Mathlib.Nat.{mul-le-mul, mul-le-mul-right, div-div-eq-div-mul, div-le-of-le-mul}
+use lib.IntN.{ℤ, pos, negℤ, _+ℤ_, _-ℤ_, _*ℤ_}
+use Rattle.integers.specs.Order.{_≼_, _≺_}
+use Rattle.integers.specs.Division.{floor, rounded}
+use mir.Syntax.{w64}
+use mir.Val.{SFits}
+use Rattle.integers.proofs.Order.{natAbs-le, fits}
+use Rattle.integers.proofs.Pairs.{nat, int, negᵢ, same, less, less⁻¹, _+ᵢ_, _-ᵢ_, _*ᵢ_}
+use Rattle.integers.proofs.Auto.{polys, ring!, cert!, gap, sqr}
+use Rattle.integers.proofs.Division.{rounded-add}
+use Rattle.units.specs.Units.{U, quarter, angle-step}
+use Rattle.integers.specs.Division.{modulo}
+use Rattle.cosine.specs.Cosine.{q-of, r-of, w-of, y-of, horner, even-part, odd-part, evens, odds, cosine-by, sine-by, working-cosine, working-sine, cosine, sine}
+
+-- a natural number rounded
+pub rounded-nat : (n d : ℕ) → rounded (pos n) d ≡ pos ((n + d / 2) / d)
+unfolding rounded floor
+rounded-nat n d = ap pos (sym (div-div-eq-div-mul (2 * n + d) 2 d) ∙ ap (λ t. t / d) (omega arith))
+
+pub minus-nat : (a b : ℕ) → b ≤ a → pos (a - b) ≡ pos a -ℤ pos b
+minus-nat a b h = same (nat (a - b)) (nat a -ᵢ nat b) (omega arith)
+
+pub difference-fits : (a b : ℕ) → a < 2 ^ 63 → b < 2 ^ 63 → SFits w64 (pos a -ℤ pos b)
+difference-fits a b h k =
+    let l = natAbs-le (pos a -ℤ pos b) 9223372036854775807 (less (negᵢ (nat 9223372036854775807)) (nat a -ᵢ nat b) (omega arith)) (less (nat a -ᵢ nat b) (nat 9223372036854775807) (omega arith)) in
+    fits (pos a -ℤ pos b) (omega arith)
+
+-- ---- the quarter and the working angle
+
+pub quarters-is : (x : ℕ) → pos ((x + 7853981633974) / 15707963267949) ≡ q-of quarter (pos x)
+unfolding q-of
+quarters-is x = sym (rounded-nat x quarter)
+
+pub quarters-value : (x q : ℕ) → pos q ≡ q-of quarter (pos x) → q ≡ (x + 7853981633974) / 15707963267949
+quarters-value x q e = pos-inj (e ∙ sym (quarters-is x))
+  where
+    pos-inj : {a b : ℕ} → pos a ≡ pos b → a ≡ b
+    pos-inj e = cc
+
+pub offset-is : (x q : ℕ) → pos q ≡ q-of quarter (pos x) → pos ((x + 10000000005000 - q * 15707963267949) / 10000) ≡ pos U +ℤ w-of quarter angle-step (pos x)
+unfolding w-of r-of
+offset-is x q e =
+    let v = quarters-value x q e in
+    let m = x + 10000000000000 - q * 15707963267949 in
+    let a : (x + 10000000005000 - q * 15707963267949) / 10000 ≡ (m + 5000) / 10000 = omega arith in
+    let b : pos m ≡ pos angle-step *ℤ pos U +ℤ (pos x -ℤ pos q *ℤ pos quarter) = same (nat m) (nat angle-step *ᵢ nat U +ᵢ (nat x -ᵢ nat q *ᵢ nat quarter)) (omega arith) in
+    ap pos a ∙ sym (rounded-nat m angle-step) ∙ ap (λ t. rounded t angle-step) b
+    ∙ rounded-add (pos U) (pos x -ℤ pos q *ℤ pos quarter) angle-step (omega arith)
+    ∙ ap (λ t. pos U +ℤ rounded (pos x -ℤ t *ℤ pos quarter) angle-step) e
+
+pub offset-range : (x q : ℕ) → pos q ≡ q-of quarter (pos x) → (214601836 ≤ (x + 10000000005000 - q * 15707963267949) / 10000) × ((x + 10000000005000 - q * 15707963267949) / 10000 ≤ 1785398164)
+offset-range x q e = let v = quarters-value x q e in (omega arith, omega arith)
+
+-- ---- the square
+
+-- 2·U·v ≤ v² + U²
+pub square-low : (v : ℕ) → 2 * v ≤ (v * v + 1000000000500000000) / 1000000000
+square-low v =
+    let h : pos (2000000000 * v) ≼ pos (v * v + 1000000000000000000) = cert! (pos v ∷ []) 0 (sqr (pos v -ℤ pos 1000000000)) (search polys depth 60 fits 100000) (search polys depth 60 fits 100000) (search polys depth 60 fits 100000) tt in
+    let k = less⁻¹ (nat (2000000000 * v)) (nat (v * v + 1000000000000000000)) h in
+    omega arith
+
+pub square-high : (v : ℕ) → 214601836 ≤ v → v ≤ 1785398164 → v * v + 383149723985429104 ≤ 2000000000 * v
+square-high v l h = subst (λ t. t * t + 383149723985429104 ≤ 2000000000 * t) back (go (v - 214601836) (omega arith))
+  where
+    back : v - 214601836 + 214601836 ≡ v
+    back = omega arith
+
+    go : (a : ℕ) → a ≤ 1570796328 → (a + 214601836) * (a + 214601836) + 383149723985429104 ≤ 2000000000 * (a + 214601836)
+    go a h = omega (arith, mul-le-mul-right a h)
+
+pub square-is : (v : ℕ) → pos ((v * v + 1000000000500000000) / 1000000000 - 2 * v) ≡ y-of (pos v -ℤ pos U)
+unfolding y-of
+square-is v =
+    let a : (v * v + 1000000000500000000) / 1000000000 ≡ (v * v + 1000000000000000000 + 500000000) / 1000000000 = omega arith in
+    minus-nat ((v * v + 1000000000500000000) / 1000000000) (2 * v) (square-low v)
+    ∙ ap (λ t. pos t -ℤ pos (2 * v)) a
+    ∙ ap (λ t. t -ℤ pos (2 * v)) (sym (rounded-nat (v * v + 1000000000000000000) U))
+    ∙ swap (rounded (pos (v * v + 1000000000000000000)) U) (pos (2 * v))
+    ∙ sym (rounded-add (negℤ (pos (2 * v))) (pos (v * v + 1000000000000000000)) U (omega arith))
+    ∙ ap (λ t. rounded t U) (expand (pos v))
+  where
+    swap : (x y : ℤ) → x -ℤ y ≡ negℤ y +ℤ x
+    swap x y = ring! (x ∷ y ∷ []) (search polys depth 60 fits 100000) (search polys depth 60 fits 100000) tt
+
+    expand : (v : ℤ) → pos U *ℤ negℤ (pos 2 *ℤ v) +ℤ (v *ℤ v +ℤ pos 1000000000000000000) ≡ (v -ℤ pos U) *ℤ (v -ℤ pos U)
+    expand v = ring! (v ∷ []) (search polys depth 60 fits 100000) (search polys depth 60 fits 100000) tt
+
+-- ---- a step of the series
+
+pub step-small : (y h d : ℕ) → y ≤ 617000000 → h ≤ 1000000000 → 0 < d → (y * h + 500000000 * d) / (1000000000 * d) ≤ 1000000000
+step-small y h d hy hh hd = div-le-of-le-mul (1000000000 * d) (let k = mul-le-mul hy hh in omega (arith, k))
+
+pub step-is : (y h d : ℕ) → y ≤ 617000000 → h ≤ 1000000000 → 0 < d
+    → pos (1000000000 - (y * h + 500000000 * d) / (1000000000 * d)) ≡ pos U -ℤ rounded (pos y *ℤ pos h) (U * d)
+step-is y h d hy hh hd =
+    let e : U * d / 2 ≡ 500000000 * d = omega arith in
+    minus-nat 1000000000 ((y * h + 500000000 * d) / (1000000000 * d)) (step-small y h d hy hh hd)
+    ∙ ap (λ t. pos U -ℤ t) (ap (λ t. pos ((y * h + t) / (1000000000 * d))) (sym e) ∙ sym (rounded-nat (y * h) (U * d)))
+
+-- ---- the odd part, from the series h at v
+
+pub odd-is : (v h : ℕ) → pos h ≡ horner (y-of (pos v -ℤ pos U)) odds → pos ((v * h + 500000000) / 1000000000) -ℤ pos h ≡ odd-part (pos v -ℤ pos U)
+unfolding odd-part
+odd-is v h e =
+    ap (λ t. t -ℤ pos h) (sym (rounded-nat (v * h) U))
+    ∙ swap (rounded (pos (v * h)) U) (pos h)
+    ∙ sym (rounded-add (negℤ (pos h)) (pos (v * h)) U (omega arith))
+    ∙ ap (λ t. rounded t U) (expand (pos v) (pos h))
+    ∙ ap (λ t. rounded ((pos v -ℤ pos U) *ℤ t) U) e
+  where
+    swap : (x y : ℤ) → x -ℤ y ≡ negℤ y +ℤ x
+    swap x y = ring! (x ∷ y ∷ []) (search polys depth 60 fits 100000) (search polys depth 60 fits 100000) tt
+
+    expand : (v h : ℤ) → pos U *ℤ negℤ h +ℤ v *ℤ h ≡ (v -ℤ pos U) *ℤ h
+    expand v h = ring! (v ∷ h ∷ []) (search polys depth 60 fits 100000) (search polys depth 60 fits 100000) tt
+
+-- six steps, from the last divisor to the first
+pub six : (y : ℤ) (a b c d e f : ℕ) (h₆ h₅ h₄ h₃ h₂ h₁ : ℤ)
+    → h₆ ≡ pos U -ℤ rounded (y *ℤ pos U) (U * f) → h₅ ≡ pos U -ℤ rounded (y *ℤ h₆) (U * e) → h₄ ≡ pos U -ℤ rounded (y *ℤ h₅) (U * d)
+    → h₃ ≡ pos U -ℤ rounded (y *ℤ h₄) (U * c) → h₂ ≡ pos U -ℤ rounded (y *ℤ h₃) (U * b) → h₁ ≡ pos U -ℤ rounded (y *ℤ h₂) (U * a)
+    → h₁ ≡ horner y (a ∷ b ∷ c ∷ d ∷ e ∷ f ∷ [])
+unfolding horner
+six y a b c d e f h₆ h₅ h₄ h₃ h₂ h₁ p₆ p₅ p₄ p₃ p₂ p₁ = p₁ ∙ ap (less a) (p₂ ∙ ap (less b) (p₃ ∙ ap (less c) (p₄ ∙ ap (less d) (p₅ ∙ ap (less e) p₆))))
+  where
+    less : ℕ → ℤ → ℤ
+    less n h = pos U -ℤ rounded (y *ℤ h) (U * n)
+
+-- ---- by the quarter: what stands for the even part is e, for the odd part o - h
+
+even-of : (v y e : ℕ) → pos y ≡ y-of (pos v -ℤ pos U) → pos e ≡ horner (pos y) evens → pos e ≡ even-part (pos v -ℤ pos U)
+unfolding even-part
+even-of v y e p q = q ∙ ap (λ t. horner t evens) p
+
+odd-of : (v y h : ℕ) → pos y ≡ y-of (pos v -ℤ pos U) → pos h ≡ horner (pos y) odds → pos ((v * h + 500000000) / 1000000000) -ℤ pos h ≡ odd-part (pos v -ℤ pos U)
+odd-of v y h p q = odd-is v h (q ∙ ap (λ t. horner t odds) p)
+
+flip : (a b : ℤ) → a -ℤ b ≡ negℤ (b -ℤ a)
+flip a b = ring! (a ∷ b ∷ []) (search polys depth 60 fits 100000) (search polys depth 60 fits 100000) tt
+
+pub in-0 : (k v y e : ℕ) → k ≡ 0 → pos y ≡ y-of (pos v -ℤ pos U) → pos e ≡ horner (pos y) evens → pos e -ℤ pos 0 ≡ cosine-by negℤ k (even-part (pos v -ℤ pos U)) (odd-part (pos v -ℤ pos U))
+unfolding cosine-by
+in-0 k v y e i p q =
+    ring! (pos e ∷ []) (search polys depth 60 fits 100000) (search polys depth 60 fits 100000) tt ∙ even-of v y e p q
+    ∙ ap (λ k. cosine-by negℤ k (even-part (pos v -ℤ pos U)) (odd-part (pos v -ℤ pos U))) (sym i)
+
+pub in-2 : (k v y e : ℕ) → k ≡ 2 → pos y ≡ y-of (pos v -ℤ pos U) → pos e ≡ horner (pos y) evens → pos 0 -ℤ pos e ≡ cosine-by negℤ k (even-part (pos v -ℤ pos U)) (odd-part (pos v -ℤ pos U))
+unfolding cosine-by
+in-2 k v y e i p q =
+    ring! (pos e ∷ []) (search polys depth 60 fits 100000) (search polys depth 60 fits 100000) tt ∙ ap negℤ (even-of v y e p q)
+    ∙ ap (λ k. cosine-by negℤ k (even-part (pos v -ℤ pos U)) (odd-part (pos v -ℤ pos U))) (sym i)
+
+pub in-1 : (k v y h : ℕ) → k ≡ 1 → pos y ≡ y-of (pos v -ℤ pos U) → pos h ≡ horner (pos y) odds
+    → pos h -ℤ pos ((v * h + 500000000) / 1000000000) ≡ cosine-by negℤ k (even-part (pos v -ℤ pos U)) (odd-part (pos v -ℤ pos U))
+unfolding cosine-by
+in-1 k v y h i p q =
+    flip (pos h) (pos ((v * h + 500000000) / 1000000000)) ∙ ap negℤ (odd-of v y h p q)
+    ∙ ap (λ k. cosine-by negℤ k (even-part (pos v -ℤ pos U)) (odd-part (pos v -ℤ pos U))) (sym i)
+
+pub in-3 : (k v y h : ℕ) → k ≡ 3 → pos y ≡ y-of (pos v -ℤ pos U) → pos h ≡ horner (pos y) odds
+    → pos ((v * h + 500000000) / 1000000000) -ℤ pos h ≡ cosine-by negℤ k (even-part (pos v -ℤ pos U)) (odd-part (pos v -ℤ pos U))
+unfolding cosine-by
+in-3 k v y h i p q = odd-of v y h p q ∙ ap (λ k. cosine-by negℤ k (even-part (pos v -ℤ pos U)) (odd-part (pos v -ℤ pos U))) (sym i)
+
+-- the quotient is small enough to be signed
+pub odd-small : (v h : ℕ) → v ≤ 1785398164 → h ≤ 1000000000 → v * h ≤ 1785398164000000000
+odd-small v h l m = mul-le-mul l m
+
+-- ---- the whole, from q and v
+
+w-back : (v : ℕ) (w : ℤ) → pos v ≡ pos U +ℤ w → pos v -ℤ pos U ≡ w
+w-back v w e = ap (λ t. t -ℤ pos U) e ∙ ring! (w ∷ []) (search polys depth 60 fits 100000) (search polys depth 60 fits 100000) tt
+
+quarter-back : (x q : ℕ) → pos q ≡ q-of quarter (pos x) → q % 4 ≡ modulo (q-of quarter (pos x)) 4
+unfolding modulo
+quarter-back x q e = ap (λ t. modulo t 4) e
+
+pub cosine-from : (x q v : ℕ) → pos q ≡ q-of quarter (pos x) → pos v ≡ pos U +ℤ w-of quarter angle-step (pos x) → cosine-by negℤ (q % 4) (even-part (pos v -ℤ pos U)) (odd-part (pos v -ℤ pos U)) ≡ cosine (pos x)
+unfolding cosine working-cosine
+cosine-from x q v e f = ap₂ (λ k w. cosine-by negℤ k (even-part w) (odd-part w)) (quarter-back x q e) (w-back v (w-of quarter angle-step (pos x)) f)
+
+pub sine-from : (x q v : ℕ) → pos q ≡ q-of quarter (pos x) → pos v ≡ pos U +ℤ w-of quarter angle-step (pos x) → sine-by negℤ (q % 4) (even-part (pos v -ℤ pos U)) (odd-part (pos v -ℤ pos U)) ≡ sine (pos x)
+unfolding sine working-sine
+sine-from x q v e f = ap₂ (λ k w. sine-by negℤ k (even-part w) (odd-part w)) (quarter-back x q e) (w-back v (w-of quarter angle-step (pos x)) f)
