@@ -5,3 +5,4 @@ pub mod Residues
 pub mod Naturals
 pub mod Split
 pub mod Ranges
+pub mod Squares

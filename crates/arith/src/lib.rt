@@ -2,5 +2,6 @@
 pub mod compare;
 pub mod muldiv;
 pub mod residue;
+pub mod root;
 pub mod round;
 pub mod signed;

@@ -1,0 +1,23 @@
+-- `arith::root::rest` meets its contract. Assumes nothing.
+use borrow.Author.Needs.{needs}
+use Rattle.arith.proofs.Squares.{square-fits}
+use Rattle.arith.proofs.root.rest.Statement.{statement}
+use Rattle.arith.proofs.root.rest.Tie as tie
+
+mul-if1 : tie.Need-mul-if1
+mul-if1 c = record { fits = square-fits (c .args .s) (c .pre) }
+
+returns : tie.Need-returns
+returns c = search needs
+
+mul-result : tie.Need-mul-result
+mul-result c = search needs
+
+sub-result : tie.Need-sub-result
+sub-result c = search needs
+
+returns-2 : tie.Need-returns-2
+returns-2 c = search needs
+
+pub rest-spec : {M : Type 1} → statement M
+rest-spec = tie.close (tie.spec mul-if1 returns mul-result sub-result returns-2)

@@ -1,0 +1,165 @@
+// The length of a vector rounded down: the floor root of a number of up to 92 bits, in two limbs of 46. For the crates above.
+// The root is guessed, and then mended by squares; the mending is right whatever the guess was, so that nothing is claimed of the guess.
+ghost use mathlib.Core.Path.{_≡_};
+ghost use Prim.Native.Nat.{_+_, _*_, _/_, _%_, _<_, _≤_, _^_};
+ghost use lib.Dec.{ltb};
+ghost use lib.IntN.{natAbs, _+ℤ_, _*ℤ_};
+ghost use Rattle.integers.specs.Root.{root};
+use crate::signed::abs;
+
+pub struct Wide {
+    pub hi: u64,
+    pub lo: u64,
+}
+
+// x·x in two limbs, by halves of 23 bits.
+pub fn square(x: u64) -> Wide
+    requires { ⌜ x ≤ 2 ^ 46 ⌝ }
+    ensures { λ w. ⌜ (w .hi ≡ x * x / 2 ^ 46) × (w .lo ≡ x * x % 2 ^ 46) ⌝ }
+{
+    let h = x / 8388608;
+    let l = x % 8388608;
+    let m = 2 * (h * l);
+    let s = l * l + m % 8388608 * 8388608;
+    Wide {
+        hi: h * h + m / 8388608 + s / 70368744177664,
+        lo: s % 70368744177664,
+    }
+}
+
+// The sum of three squares in two limbs.
+pub fn squares(x: u64, y: u64, z: u64) -> Wide
+    requires { ⌜ x * x + y * y + z * z < 2 ^ 92 ⌝ }
+    ensures { λ w. ⌜ (w .hi ≡ (x * x + y * y + z * z) / 2 ^ 46) × (w .lo ≡ (x * x + y * y + z * z) % 2 ^ 46) ⌝ }
+{
+    let a = square(x);
+    let b = square(y);
+    let c = square(z);
+    let s = a.lo + b.lo + c.lo;
+    Wide {
+        hi: a.hi + b.hi + c.hi + s / 70368744177664,
+        lo: s % 70368744177664,
+    }
+}
+
+// Whether g·g is above the number.
+pub fn above(g: u64, hi: u64, lo: u64) -> bool
+    requires { ⌜ (g ≤ 2 ^ 46) × (hi < 2 ^ 46) × (lo < 2 ^ 46) ⌝ }
+    ensures { λ r. ⌜ r ≡ ltb (hi * 2 ^ 46 + lo) (g * g) ⌝ }
+{
+    let w = square(g);
+    let more = (w.lo + 70368744177663 - lo) / 70368744177664;
+    hi < w.hi + more
+}
+
+// From g down to the first whose square is not above the number.
+pub fn lowered(start: u64, hi: u64, lo: u64) -> u64
+    requires { ⌜ (start ≤ 2 ^ 46) × (hi < 2 ^ 46) × (lo < 2 ^ 46) ⌝ }
+    ensures { λ r. ⌜ (r ≤ 2 ^ 46) × (r * r ≤ hi * 2 ^ 46 + lo) ⌝ }
+{
+    let mut g = start;
+    while above(g, hi, lo) {
+        g -= 1;
+    }
+    g
+}
+
+// From g, whose square is not above the number, up to the last such.
+pub fn raised(start: u64, hi: u64, lo: u64) -> u64
+    requires { ⌜ (start ≤ 2 ^ 46) × (hi < 2 ^ 46) × (lo < 2 ^ 46) × (start * start ≤ hi * 2 ^ 46 + lo) ⌝ }
+    ensures { λ r. ⌜ r ≡ root (hi * 2 ^ 46 + lo) ⌝ }
+{
+    let mut g = start;
+    while !above(g + 1, hi, lo) {
+        g += 1;
+    }
+    g
+}
+
+// 2^22 times the root of m / 2^44, within a part in 4,000 from 2^44 on: a polynomial of degree four.
+pub fn sketch(m: u64) -> u64
+    requires { ⌜ m < 2 ^ 46 ⌝ }
+    ensures { λ r. ⌜ (1597633 ≤ r) × (r < 2 ^ 24) ⌝ }
+{
+    let t = m / 268435456;
+    let a = 139310 - 10616 * t / 65536;
+    let b = 773776 - a * t / 65536;
+    let c = 3242809 - b * t / 65536;
+    1597633 + c * t / 65536
+}
+
+// A step of Newton's towards the root of m.
+pub fn newton(a: u64, m: u64) -> u64
+    requires { ⌜ (1597633 ≤ a) × (a < 2 ^ 24) × (m < 2 ^ 46) ⌝ }
+    ensures { λ r. ⌜ (1 < r) × (r < 2 ^ 26) ⌝ }
+{
+    (a + m / a) / 2
+}
+
+// s, or one less where its square is above m.
+pub fn not_above(s: u64, m: u64) -> u64
+    requires { ⌜ (0 < s) × (s < 2 ^ 26) ⌝ }
+    ensures { λ r. ⌜ (r ≤ s) × (s ≤ r + 1) ⌝ }
+{
+    if m < s * s {
+        return s - 1;
+    }
+    s
+}
+
+// What m has above s·s.
+pub fn rest(s: u64, m: u64) -> u64
+    requires { ⌜ s < 2 ^ 26 ⌝ }
+{
+    if m < s * s {
+        return 0;
+    }
+    m - s * s
+}
+
+// A guess at the root: the number is moved up to 91 or 92 bits, the root of its upper half found by a polynomial and one step of Newton's, and the
+// root of the whole by another.
+pub fn guess(hi: u64, lo: u64) -> u64
+    requires { ⌜ (hi < 2 ^ 46) × (lo < 2 ^ 46) ⌝ }
+{
+    let n = u64::leading_zeros(hi * 262144 + 1) % 64 / 2;
+    let m = ((hi << (2 * n)) % 70368744177664 + ((lo * 131072) >> (63 - 2 * n)) % 70368744177664)
+        % 70368744177664;
+    let l = (lo << (2 * n)) % 70368744177664;
+    let a = sketch(m);
+    let s = not_above(newton(a, m), m);
+    let d = (rest(s, m) % 1099511627776 * 8388608 + l / 8388608) / (2 * s);
+    (s * 8388608 + d) >> n
+}
+
+// The guess with its range; that of a number of one limb is made at the upper one.
+pub fn start(hi: u64, lo: u64) -> u64
+    requires { ⌜ (hi < 2 ^ 46) × (lo < 2 ^ 46) ⌝ }
+    ensures { λ r. ⌜ r ≤ 2 ^ 46 ⌝ }
+{
+    if hi == 0 {
+        return guess(lo, 0) / 8388608;
+    }
+    let g = guess(hi, lo);
+    if g < 70368744177664 {
+        return g;
+    }
+    70368744177663
+}
+
+// The floor root of the number.
+pub fn floor_root(hi: u64, lo: u64) -> u64
+    requires { ⌜ (hi < 2 ^ 46) × (lo < 2 ^ 46) ⌝ }
+    ensures { λ z. ⌜ z ≡ root (hi * 2 ^ 46 + lo) ⌝ }
+{
+    raised(lowered(start(hi, lo), hi, lo), hi, lo)
+}
+
+// The floor of the length of (x, y, z).
+pub fn length(x: i64, y: i64, z: i64) -> u64
+    requires { ⌜ natAbs (x *ℤ x +ℤ y *ℤ y +ℤ z *ℤ z) < 2 ^ 92 ⌝ }
+    ensures { λ r. ⌜ r ≡ root (natAbs (x *ℤ x +ℤ y *ℤ y +ℤ z *ℤ z)) ⌝ }
+{
+    let w = squares(abs(x), abs(y), abs(z));
+    floor_root(w.hi, w.lo)
+}
