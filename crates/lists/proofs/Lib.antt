@@ -1,0 +1,2 @@
+-- Laws of lists that several crates use.
+pub mod Sets

@@ -1,0 +1,1 @@
+// A library of laws about lists and lent buffers; it has no functions.

@@ -1,0 +1,2 @@
+-- Document 01, "Sun list": the runs of listed minutes.
+pub mod Runs
