@@ -1,5 +1,5 @@
 -- What the cosine and the sine give for places: of each angle one of the two is at least 0.69 in size, and those of working coordinates
--- are near the reference's of exact ones (Q1). Assumes nothing.
+-- are near the reference's of exact ones. Assumes nothing.
 use mathlib.Core.Logic.{inl, inr}
 use mathlib.Core.List.{[], _∷_}
 use Prim.Native.Nat.{ℕ, zero, suc, _*_, _≤_, _<_}
@@ -25,7 +25,7 @@ use Rattle.separation.proofs.Places.{Far, One-far}
 use Rattle.separation.proofs.Whole.{Near}
 use Rattle.separation.proofs.Apart.{apart-bd}
 
--- ---- one of the two is large
+-- ---- One of the two is large.
 
 far-even : (w : ℤ) → Angle w (pos U) → Far (pos 1) (pos 690000000) (even-part w)
 far-even w a = inl (cert! (even-part w ∷ []) 0 (gap (even-large a)) (search polys depth 60 fits 100000) (search polys depth 60 fits 100000) (search polys depth 60 fits 100000) tt)
@@ -44,7 +44,7 @@ pub one-far : (x : ℤ) → One-far (cosine x) (sine x)
 unfolding cosine sine working-cosine working-sine
 one-far x = far-by (modulo (q-of quarter x) 4) (w-of quarter angle-step x) (w-angle the-turn x)
 
--- ---- a working coordinate x and the exact one f
+-- ---- A working coordinate x and the exact one f.
 
 natural : (x n : ℤ) (d : ℕ) → 0 < d → natAbs x ≤ angle-limit → Bd (pos tolerance *ℤ pos d) (pos d *ℤ x -ℤ n) → Near-longitude x n (parts * d)
 natural x n d hd hx b = record {

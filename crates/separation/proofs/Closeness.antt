@@ -1,4 +1,4 @@
--- Q5: the working unit vectors of the Sun and of the planet are close enough to the exact directions. Assumes nothing.
+-- The working unit vectors of the Sun and of the planet are close enough to the exact directions. Assumes nothing.
 use mathlib.Core.Path.{refl, subst}
 use mathlib.Core.List.{[], _∷_}
 use Prim.Native.Nat.{ℕ, _≤_, _<_}
@@ -7,21 +7,21 @@ use lib.Dec.{le→leb, leb→le}
 use lib.IntN.{ℤ, pos, negℤ, _+ℤ_, _-ℤ_, _*ℤ_}
 use Rattle.integers.specs.Order.{_≼_, _≺_}
 use Rattle.integers.proofs.Pairs.{nonneg, ≤ℤ-trans}
-use Rattle.integers.proofs.Auto.{polys, ring!, cert!, cert<!, gap, gap<, _⊞_, _⊛_, _·_, sqr}
+use Rattle.integers.proofs.Auto.{polys, ring!, cert!, cert<!, gap, gap<, _⊞_, _⊛_, _·_}
 use Rattle.integers.proofs.Order.{≺-≼, product-pos}
 use Rattle.integers.proofs.Bounds.{Bd, bd-*, bd-+, bd-neg, bd-self, bd-as}
 use Rattle.units.specs.Units.{U}
 use Rattle.vectors.specs.declared.Vector.{Vector}
 use Rattle.vectors.specs.Vectors.{geocentric, sun, length, unit}
-use Rattle.separation.proofs.Form.{dot, scl, sub, Bd³}
+use Rattle.separation.proofs.Form.{scl, sub, Bd³}
 use Rattle.separation.proofs.Sizes.{Unit³}
 use Rattle.separation.proofs.Halves.{Close}
-use Rattle.separation.proofs.Units.{unit-over, unit-near, unit-is, length-high², shorter}
-use Rattle.separation.proofs.Places.{Figures, Faithful, One-far, placed, toward, whole-place, place-near, long, times, bx, by, bz, within-of}
+use Rattle.separation.proofs.Units.{unit-over, unit-near, unit-is, within-length}
+use Rattle.separation.proofs.Places.{Figures, Faithful, One-far, placed, toward, whole-place, place-near, long, times}
 
--- ---- Q5
+-- ---- One component, over plain numbers.
 
--- one component of the Sun: u is rounded over l, n the exact direction, q = Q², p the exact R
+-- The Sun: u is rounded over l, n is the exact direction, q = Q², p the exact R.
 sun-part : (l q R p T u a n : ℤ) → pos 0 ≼ q → pos 0 ≼ p → Bd l (pos 2 *ℤ (l *ℤ u -ℤ pos U *ℤ (negℤ a))) → Bd T (pos U *ℤ (q *ℤ a -ℤ R *ℤ n))
     → Bd (p *ℤ (q *ℤ l +ℤ pos 2 *ℤ T)) (pos 2 *ℤ pos U *ℤ R *ℤ (negℤ (p *ℤ n)) -ℤ pos 2 *ℤ (l *ℤ q) *ℤ p *ℤ u)
 sun-part l q R p T u a n hq hp hu ha =
@@ -31,7 +31,7 @@ sun-part l q R p T u a n hq hp hu ha =
     (times p (q *ℤ l +ℤ pos 2 *ℤ T) (q *ℤ negℤ r +ℤ pos 2 *ℤ t) hp
     (bd-+ (q *ℤ l) (pos 2 *ℤ T) (q *ℤ negℤ r) (pos 2 *ℤ t) (times q l (negℤ r) hq (bd-neg l r hu)) (times (pos 2) T t (nonneg 2) ha)))
 
--- one component of a whole place, with R's own error; Q·q is Q³
+-- A place, with R's own error; Q·q is Q³.
 full-part : (Q q R p T a n : ℤ) → pos 0 ≼ Q → Bd q n → Bd (pos 200000 *ℤ Q) (Q *ℤ R -ℤ p) → Bd T (pos U *ℤ (q *ℤ a -ℤ R *ℤ n))
     → Bd (Q *ℤ T +ℤ pos U *ℤ (pos 200000 *ℤ Q *ℤ q)) (pos U *ℤ (Q *ℤ q *ℤ a -ℤ p *ℤ n))
 full-part Q q R p T a n hQ hn hR ha =
@@ -40,7 +40,7 @@ full-part Q q R p T a n hQ hn hR ha =
     (bd-+ (Q *ℤ T) (pos U *ℤ (pos 200000 *ℤ Q *ℤ q)) (Q *ℤ t) (pos U *ℤ ((Q *ℤ R -ℤ p) *ℤ n))
     (times Q T t hQ ha) (times (pos U) (pos 200000 *ℤ Q *ℤ q) ((Q *ℤ R -ℤ p) *ℤ n) (nonneg U) (bd-* (pos 200000 *ℤ Q) q (Q *ℤ R -ℤ p) n hR hn)))
 
--- one component of the planet: c is Q³, E and F the bounds of the two places
+-- The planet: c is Q³, E and F are the bounds of the two places.
 planet-part : (D c E F v a b m n : ℤ) → pos 0 ≼ c → Bd D (pos 2 *ℤ (D *ℤ v -ℤ pos U *ℤ (a -ℤ b))) → Bd E (pos U *ℤ (c *ℤ a -ℤ m)) → Bd F (pos U *ℤ (c *ℤ b -ℤ n))
     → Bd (c *ℤ D +ℤ (pos 2 *ℤ E +ℤ pos 2 *ℤ F)) (pos 2 *ℤ pos U *ℤ (m -ℤ n) -ℤ pos 2 *ℤ (D *ℤ c) *ℤ v)
 planet-part D c E F v a b m n hc hv ha hb =
@@ -51,7 +51,7 @@ planet-part D c E F v a b m n hc hv ha hb =
     (bd-+ (c *ℤ D) (pos 2 *ℤ E +ℤ pos 2 *ℤ F) (c *ℤ negℤ r) (pos 2 *ℤ negℤ s +ℤ pos 2 *ℤ t) (times c D (negℤ r) hc (bd-neg D r hv))
     (bd-+ (pos 2 *ℤ E) (pos 2 *ℤ F) (pos 2 *ℤ negℤ s) (pos 2 *ℤ t) (times (pos 2) E (negℤ s) (nonneg 2) (bd-neg E s ha)) (times (pos 2) F t (nonneg 2) hb)))
 
--- η is at most 10,469 of W, ζ at most 118,721 of its own
+-- The Sun is within 10,469/U of its direction, the planet within 118,721/U.
 sun-small : (l q R p : ℤ) → pos 0 ≼ q → pos 0 ≼ p → pos 47 *ℤ R ≼ pos 100 *ℤ l → pos 4700000000 ≼ l
     → p *ℤ (q *ℤ l +ℤ pos 2 *ℤ (q *ℤ (pos U +ℤ pos 4920 *ℤ R))) ≼ pos 10469 *ℤ (pos 2 *ℤ (l *ℤ q) *ℤ p)
 sun-small l q R p hq hp hR hl = cert! (l ∷ q ∷ R ∷ p ∷ []) 46 ((hp ⊛ hq) ⊛ (9840 · gap hR ⊞ 39 · gap hl ⊞ nonneg 89300000000)) (search polys depth 60 fits 100000) (search polys depth 60 fits 100000) (search polys depth 60 fits 100000) tt
@@ -62,14 +62,14 @@ planet-small : (D Q q R S : ℤ) → pos 0 ≼ Q → pos 0 ≼ q → R +ℤ S �
 planet-small D Q q R S hQ hq hR hD =
     cert! (D ∷ Q ∷ q ∷ R ∷ S ∷ []) 0 ((hQ ⊛ hq) ⊛ (9840 · gap hR ⊞ 80001 · gap hD ⊞ nonneg 6000000000)) (search polys depth 60 fits 100000) (search polys depth 60 fits 100000) (search polys depth 60 fits 100000) tt
 
--- two lower numbers, Y and W, become one
+-- Two lower numbers, Y and W, become one.
 wide-part : (m t a Y c u : ℤ) → pos 0 ≼ m → Bd t (a *ℤ c -ℤ Y *ℤ u) → Bd (m *ℤ t) (m *ℤ a *ℤ c -ℤ m *ℤ Y *ℤ u)
 wide-part m t a Y c u hm h = bd-as _ _ _ _ refl (ring! (m ∷ a ∷ Y ∷ c ∷ u ∷ []) (search polys depth 60 fits 100000) (search polys depth 60 fits 100000) tt) (times m t (a *ℤ c -ℤ Y *ℤ u) hm h)
 
 wide : (m t a Y : ℤ) (s u : Vector) → pos 0 ≼ m → Bd³ t (sub (scl a s) (scl Y u)) → Bd³ (m *ℤ t) (sub (scl (m *ℤ a) s) (scl (m *ℤ Y) u))
 unfolding geocentric scl
 wide m t a Y s u hm w =
-    within-of _ _ (wide-part m t a Y (s .x) (u .x) hm (bx _ _ w)) (wide-part m t a Y (s .y) (u .y) hm (by _ _ w)) (wide-part m t a Y (s .z) (u .z) hm (bz _ _ w))
+    record { x = wide-part m t a Y (s .x) (u .x) hm (w .x); y = wide-part m t a Y (s .y) (u .y) hm (w .y); z = wide-part m t a Y (s .z) (u .z) hm (w .z) }
 
 common : (u v s g : Vector) (a b Y W η ζ : ℤ) → pos 0 ≺ a → pos 0 ≺ b → pos 0 ≺ Y → pos 0 ≺ W → Bd³ η (sub (scl a s) (scl Y u)) → Bd³ ζ (sub (scl b g) (scl W v))
     → η ≼ pos 10469 *ℤ Y → ζ ≼ pos 118721 *ℤ W → Close u v s g
@@ -87,49 +87,26 @@ common u v s g a b Y W η ζ ha hb hY hW ws wg hη hζ = record {
   small = cert! (Y ∷ W ∷ η ∷ ζ ∷ []) 0 (≺-≼ hW ⊛ gap hη ⊞ ≺-≼ hY ⊛ gap hζ ⊞ 810 · (≺-≼ hW ⊛ ≺-≼ hY)) (search polys depth 60 fits 100000) (search polys depth 60 fits 100000) (search polys depth 60 fits 100000) tt;
 }
 
--- ---- the two directions
+-- ---- The two directions.
 
--- what makes a place usable
+-- What of a usable place is needed.
 pub record Usable (planet earth : Figures) (D : ℕ) : Type 0 where
   pub planet-far : pos 10000000000 ≼ planet .R
   pub earth-far : pos 10000000000 ≼ earth .R
   pub apart : pos 10000000000 ≼ pos D
   pub ratio : planet .R +ℤ earth .R ≼ pos 16 *ℤ pos D
 
-component-x : (a : Vector) → a .x *ℤ a .x ≼ dot a a
-unfolding dot
-component-x a = cert! (a .x ∷ a .y ∷ a .z ∷ []) 0 (sqr (a .y) ⊞ sqr (a .z)) (search polys depth 60 fits 100000) (search polys depth 60 fits 100000) (search polys depth 60 fits 100000) tt
-
-component-y : (a : Vector) → a .y *ℤ a .y ≼ dot a a
-unfolding dot
-component-y a = cert! (a .x ∷ a .y ∷ a .z ∷ []) 0 (sqr (a .x) ⊞ sqr (a .z)) (search polys depth 60 fits 100000) (search polys depth 60 fits 100000) (search polys depth 60 fits 100000) tt
-
-component-z : (a : Vector) → a .z *ℤ a .z ≼ dot a a
-unfolding dot
-component-z a = cert! (a .x ∷ a .y ∷ a .z ∷ []) 0 (sqr (a .x) ⊞ sqr (a .y)) (search polys depth 60 fits 100000) (search polys depth 60 fits 100000) (search polys depth 60 fits 100000) tt
-
-within-length : (a : Vector) → Bd³ (pos (length a)) a
-within-length a =
-    within-of (pos (length a)) a
-    (shorter (length a) (dot a a) (a .x) (component-x a) (length-high² a))
-    (shorter (length a) (dot a a) (a .y) (component-y a) (length-high² a))
-    (shorter (length a) (dot a a) (a .z) (component-z a) (length-high² a))
-
 sun-within : (l : ℤ) (a : Vector) → Bd³ l (sun a) → Bd³ l a
 unfolding sun scl
-sun-within l a w = record {
-  lowx = cert! (l ∷ a .x ∷ []) 0 (gap (w .highx)) (search polys depth 60 fits 100000) (search polys depth 60 fits 100000) (search polys depth 60 fits 100000) tt;
-  highx = cert! (l ∷ a .x ∷ []) 0 (gap (w .lowx)) (search polys depth 60 fits 100000) (search polys depth 60 fits 100000) (search polys depth 60 fits 100000) tt;
-  lowy = cert! (l ∷ a .y ∷ []) 0 (gap (w .highy)) (search polys depth 60 fits 100000) (search polys depth 60 fits 100000) (search polys depth 60 fits 100000) tt;
-  highy = cert! (l ∷ a .y ∷ []) 0 (gap (w .lowy)) (search polys depth 60 fits 100000) (search polys depth 60 fits 100000) (search polys depth 60 fits 100000) tt;
-  lowz = cert! (l ∷ a .z ∷ []) 0 (gap (w .highz)) (search polys depth 60 fits 100000) (search polys depth 60 fits 100000) (search polys depth 60 fits 100000) tt;
-  highz = cert! (l ∷ a .z ∷ []) 0 (gap (w .lowz)) (search polys depth 60 fits 100000) (search polys depth 60 fits 100000) (search polys depth 60 fits 100000) tt;
-}
+sun-within l a w = record { x = turn (a .x) (w .x); y = turn (a .y) (w .y); z = turn (a .z) (w .z) }
+  where
+    turn : (p : ℤ) → Bd l (negℤ p) → Bd l p
+    turn p h = bd-as l l (negℤ (negℤ p)) p refl (ring! (p ∷ []) (search polys depth 60 fits 100000) (search polys depth 60 fits 100000) tt) (bd-neg l (negℤ p) h)
 
 toward-within : (Q : ℤ) (w e : Figures) → pos 0 ≼ Q → Faithful Q w e → Bd³ (Q *ℤ Q) (toward Q e)
 unfolding toward
 toward-within Q w e hQ h =
-    within-of _ _ (bd-* Q Q _ _ (h .cosB .exact) (h .cosL .exact)) (bd-* Q Q _ _ (h .cosB .exact) (h .sinL .exact)) (bd-* Q Q _ _ (bd-self Q hQ) (h .sinB .exact))
+    record { x = bd-* Q Q _ _ (h .cosB .exact) (h .cosL .exact); y = bd-* Q Q _ _ (h .cosB .exact) (h .sinL .exact); z = bd-* Q Q _ _ (bd-self Q hQ) (h .sinB .exact) }
 
 module _ (Q : ℤ) (hQ : pos 0 ≺ Q) where
   Q₀ : pos 0 ≼ Q
@@ -146,10 +123,7 @@ module _ (Q : ℤ) (hQ : pos 0 ≺ Q) where
       let un = unit-near l (sun (placed w)) hl in
       let u = unit-over l (sun (placed w)) in
       let n = toward Q e in
-      within-of _ _
-      (sun-part (pos l) q (w .R) (e .R) T (u .x) (placed w .x) (n .x) (Q₀ ⊛ Q₀) hp (bx _ _ un) (bx _ _ near))
-      (sun-part (pos l) q (w .R) (e .R) T (u .y) (placed w .y) (n .y) (Q₀ ⊛ Q₀) hp (by _ _ un) (by _ _ near))
-      (sun-part (pos l) q (w .R) (e .R) T (u .z) (placed w .z) (n .z) (Q₀ ⊛ Q₀) hp (bz _ _ un) (bz _ _ near))
+      record { x = sun-part (pos l) q (w .R) (e .R) T (u .x) (placed w .x) (n .x) (Q₀ ⊛ Q₀) hp (un .x) (near .x); y = sun-part (pos l) q (w .R) (e .R) T (u .y) (placed w .y) (n .y) (Q₀ ⊛ Q₀) hp (un .y) (near .y); z = sun-part (pos l) q (w .R) (e .R) T (u .z) (placed w .z) (n .z) (Q₀ ⊛ Q₀) hp (un .z) (near .z) }
 
   full-near : (w e : Figures) → pos 0 ≼ w .R → Faithful Q w e
       → Bd³ (Q *ℤ (Q *ℤ Q *ℤ (pos U +ℤ pos 4920 *ℤ w .R)) +ℤ pos U *ℤ (pos 200000 *ℤ Q *ℤ (Q *ℤ Q))) (scl (pos U) (sub (scl (Q *ℤ (Q *ℤ Q)) (placed w)) (whole-place Q e)))
@@ -160,10 +134,7 @@ module _ (Q : ℤ) (hQ : pos 0 ≺ Q) where
       let near = place-near Q w e Q₀ hR h in
       let t = toward-within Q w e Q₀ h in
       let n = toward Q e in
-      within-of _ _
-      (full-part Q q (w .R) (e .R) T (placed w .x) (n .x) Q₀ (bx _ _ t) (h .radius) (bx _ _ near))
-      (full-part Q q (w .R) (e .R) T (placed w .y) (n .y) Q₀ (by _ _ t) (h .radius) (by _ _ near))
-      (full-part Q q (w .R) (e .R) T (placed w .z) (n .z) Q₀ (bz _ _ t) (h .radius) (bz _ _ near))
+      record { x = full-part Q q (w .R) (e .R) T (placed w .x) (n .x) Q₀ (t .x) (h .radius) (near .x); y = full-part Q q (w .R) (e .R) T (placed w .y) (n .y) Q₀ (t .y) (h .radius) (near .y); z = full-part Q q (w .R) (e .R) T (placed w .z) (n .z) Q₀ (t .z) (h .radius) (near .z) }
 
   planet-near : (D : ℕ) (p pe w we : Figures) → 0 < D → pos 0 ≼ p .R → pos 0 ≼ w .R → Faithful Q p pe → Faithful Q w we
       → Bd³ (Q *ℤ (Q *ℤ Q) *ℤ pos D +ℤ (pos 2 *ℤ (Q *ℤ (Q *ℤ Q *ℤ (pos U +ℤ pos 4920 *ℤ p .R)) +ℤ pos U *ℤ (pos 200000 *ℤ Q *ℤ (Q *ℤ Q))) +ℤ pos 2 *ℤ (Q *ℤ (Q *ℤ Q *ℤ (pos U +ℤ pos 4920 *ℤ w .R)) +ℤ pos U *ℤ (pos 200000 *ℤ Q *ℤ (Q *ℤ Q)))))
@@ -177,12 +148,9 @@ module _ (Q : ℤ) (hQ : pos 0 ≺ Q) where
       let v = unit-over D (sub (placed p) (placed w)) in
       let a = full-near p pe hp h in
       let b = full-near w we hw k in
-      within-of _ _
-      (planet-part (pos D) c E F (v .x) (placed p .x) (placed w .x) (whole-place Q pe .x) (whole-place Q we .x) (Q₀ ⊛ (Q₀ ⊛ Q₀)) (bx _ _ un) (bx _ _ a) (bx _ _ b))
-      (planet-part (pos D) c E F (v .y) (placed p .y) (placed w .y) (whole-place Q pe .y) (whole-place Q we .y) (Q₀ ⊛ (Q₀ ⊛ Q₀)) (by _ _ un) (by _ _ a) (by _ _ b))
-      (planet-part (pos D) c E F (v .z) (placed p .z) (placed w .z) (whole-place Q pe .z) (whole-place Q we .z) (Q₀ ⊛ (Q₀ ⊛ Q₀)) (bz _ _ un) (bz _ _ a) (bz _ _ b))
+      record { x = planet-part (pos D) c E F (v .x) (placed p .x) (placed w .x) (whole-place Q pe .x) (whole-place Q we .x) (Q₀ ⊛ (Q₀ ⊛ Q₀)) (un .x) (a .x) (b .x); y = planet-part (pos D) c E F (v .y) (placed p .y) (placed w .y) (whole-place Q pe .y) (whole-place Q we .y) (Q₀ ⊛ (Q₀ ⊛ Q₀)) (un .y) (a .y) (b .y); z = planet-part (pos D) c E F (v .z) (placed p .z) (placed w .z) (whole-place Q pe .z) (whole-place Q we .z) (Q₀ ⊛ (Q₀ ⊛ Q₀)) (un .z) (a .z) (b .z) }
 
--- ---- for the core statement
+-- ---- Both together.
 
 at-least : (k l : ℕ) → 0 < k → pos k ≼ pos l → 0 < l
 at-least k l h g = let m : k ≤ l = leb→le k l (g .le) in omega arith
@@ -196,7 +164,7 @@ length-least R l h k = cert! (R ∷ l ∷ []) 99 (gap k ⊞ 47 · gap h) (search
 radius-pos : (Q R p : ℤ) → pos 0 ≺ Q → pos 10000000000 ≼ R → Bd (pos 200000 *ℤ Q) (Q *ℤ R -ℤ p) → pos 0 ≺ p
 radius-pos Q R p hQ hR b = cert<! (Q ∷ R ∷ p ∷ []) 0 (gap (b .high) ⊞ gap< hQ ⊛ gap hR ⊞ gap hR ⊞ 9999800000 · gap< hQ) (search polys depth 60 fits 100000) (search polys depth 60 fits 100000) (search polys depth 60 fits 100000) tt
 
--- all that is asked: exact figures over Q, faithful working ones, usable; no working cosine and sine are both small
+-- Exact figures over Q, working ones faithful to them, usable; and no working cosine and sine are both small.
 pub record Sky (Q : ℤ) (planet earth planet* earth* : Figures) : Type 0 where
   pub Q-pos : pos 0 ≺ Q
   pub planet-faithful : Faithful Q planet planet*

@@ -1,4 +1,4 @@
--- The last step of each half of Q10, over plain numbers. Assumes nothing.
+-- The last step of each half of the core, over plain numbers. Assumes nothing.
 use mathlib.Core.Path.{_≡_, sym}
 use mathlib.Core.List.{[], _∷_}
 use Prim.Native.Nat.{_+_, _*_, _-_}
@@ -9,9 +9,9 @@ use Rattle.integers.proofs.Order.{≺-≼, cert*! }
 use Rattle.units.specs.Units.{U}
 use Rattle.separation.proofs.Row.{eps}
 
--- ---- the two ends, over plain numbers. σ = η + ζ; F₀ is F of (s, g), F₁ of (u, v); d = |u − v|²
+-- σ = η + ζ. F₀ is F of the exact vectors (s, g), F₁ that of the working ones (u, v), both times low; d = |u − v|²; T is the threshold.
 
--- the bound that `transfer` asks for, from (g) of the table: first half
+-- The bound H² that `transfer` asks for, from the bound on the sine in the row: at the exact vectors,
 pub turn-exact : (up low G W X F : ℤ) → pos 0 ≺ up → up ≼ low → pos 1000 *ℤ X ≼ pos (1001 * (U * U)) *ℤ (W *ℤ W)
     → pos 1001 *ℤ pos (U * U) *ℤ (low *ℤ low -ℤ up *ℤ up) +ℤ pos 7000 *ℤ eps *ℤ eps *ℤ low *ℤ low ≼ pos 1000 *ℤ G *ℤ G *ℤ low *ℤ low
     → negℤ (pos 7 *ℤ eps *ℤ eps *ℤ (W *ℤ W) *ℤ low) ≼ F
@@ -21,7 +21,7 @@ turn-exact up low G W X F hu hl hX hg hF =
     (sqr W ⊛ gap hg ⊞ gap hl ⊛ (gap hl ⊞ 2 · gap (≺-≼ hu)) ⊛ gap hX ⊞ 1000 · (gap (≺-≼ hu) ⊛ gap hF) ⊞ 118300000000000 · (sqr W ⊛ ((gap hl ⊞ gap (≺-≼ hu)) ⊛ gap hl)))
     (search polys depth 60 fits 100000) (search polys depth 60 fits 100000) (search polys depth 60 fits 100000) tt
 
--- and second half
+-- and at the working ones.
 pub turn-working : (up low G W q F : ℤ) → pos 0 ≺ up → up ≼ low → q ≼ pos (U * U + 4 * U)
     → pos 1001 *ℤ pos (U * U) *ℤ (low *ℤ low -ℤ up *ℤ up) +ℤ pos 7000 *ℤ eps *ℤ eps *ℤ low *ℤ low ≼ pos 1000 *ℤ G *ℤ G *ℤ low *ℤ low
     → pos 0 ≼ F
@@ -53,7 +53,7 @@ listed-end up low G W σ F₀ F₁ q r d T hu hl hG hW hσ hs hq hr ha hF ht e =
     positive low W h k =
         cert<! (low ∷ W ∷ []) 0 (2 · (gap< h ⊛ (gap< k ⊛ gap< k ⊞ 2 · gap< k)) ⊞ 2 · (gap< k ⊛ gap< k ⊞ 2 · gap< k) ⊞ 2 · gap< h) (search polys depth 60 fits 100000) (search polys depth 60 fits 100000) (search polys depth 60 fits 100000) tt
 
--- what is listed has F at least (7 eps G + 20 eps²)/2, times low
+-- What is listed has F at least (7 eps G + 20 eps²)/2.
 pub clear-end : (up low G F₁ q r d T : ℤ) → pos 0 ≺ up → up ≼ low → pos (U * U) ≼ q +ℤ pos (4 * U) → pos (U * U) ≼ r +ℤ pos (4 * U)
     → (pos 2 *ℤ T +ℤ pos 7 *ℤ eps *ℤ G +ℤ pos 20 *ℤ eps *ℤ eps) *ℤ low ≼ pos 2 *ℤ (low -ℤ up) *ℤ pos (2 * U * U - 8 * U)
     → low *ℤ d ≡ (low -ℤ up) *ℤ (q +ℤ r) -ℤ F₁
@@ -76,6 +76,6 @@ exact-end up low G W σ F₀ F₁ hu hl hG hW hσ hs hF ht =
     low₀ : pos 0 ≼ low -ℤ up +ℤ (up -ℤ pos 0)
     low₀ = gap hl ⊞ gap (≺-≼ hu)
 
--- F of what is listed is not negative
+-- So F of what is listed is not negative.
 pub form-nonneg : (low G F₁ : ℤ) → pos 0 ≼ G → pos 0 ≼ low → (pos 7 *ℤ eps *ℤ G +ℤ pos 20 *ℤ eps *ℤ eps) *ℤ low ≼ pos 2 *ℤ F₁ → pos 0 ≼ F₁
 form-nonneg low G F₁ hG hl h = cert! (low ∷ G ∷ F₁ ∷ []) 1 (gap h ⊞ 910000 · (hG ⊛ hl) ⊞ 338000000000 · hl) (search polys depth 60 fits 100000) (search polys depth 60 fits 100000) (search polys depth 60 fits 100000) tt

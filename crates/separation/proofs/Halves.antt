@@ -1,16 +1,17 @@
--- Q10: both halves, for working unit vectors and any exact vectors close enough to them. Assumes nothing.
-use mathlib.Core.Path.{sym, subst}
+-- Both halves of the core, for working unit vectors and any exact vectors close enough to them. Assumes nothing.
+use mathlib.Core.Path.{refl, sym, subst}
 use mathlib.Core.List.{[], _∷_}
 use lib.IntN.{ℤ, pos, negℤ, _+ℤ_, _-ℤ_, _*ℤ_}
 use Rattle.integers.specs.Order.{_≼_, _≺_}
 use Rattle.integers.proofs.Pairs.{nonneg, ≤ℤ-trans}
-use Rattle.integers.proofs.Auto.{polys, cert!, gap, _⊞_, _⊛_, sqr}
+use Rattle.integers.proofs.Auto.{polys, ring!, cert!, gap, _⊞_, _⊛_, sqr}
 use Rattle.integers.proofs.Order.{≺-≼, cert*!, product-pos, factor-pos}
 use Rattle.integers.specs.Fractions.{Fraction}
+use Rattle.integers.proofs.Bounds.{Bd, bd-neg, bd-as}
 use Rattle.vectors.specs.declared.Vector.{Vector}
 use Rattle.vectors.specs.Vectors.{geocentric}
 use Rattle.separation.proofs.Row.{eps, Row}
-use Rattle.separation.proofs.Form.{dot, scl, sub, form, Bd³, apart, form-scl, dot-scl, within-nonneg}
+use Rattle.separation.proofs.Form.{dot, scl, sub, form, Bd³, apart, form-scl, dot-scl, bd³-nonneg}
 use Rattle.separation.proofs.Transfer.{transfer, Passes, passes, form-low}
 use Rattle.separation.proofs.Sizes.{Unit³, sizes}
 use Rattle.separation.proofs.Ends.{turn-exact, turn-working, listed-end, clear-end, exact-end, form-nonneg}
@@ -29,21 +30,16 @@ pub record Close (u v s g : Vector) : Type 0 where
   pub near-v : Bd³ ζ (sub (scl b g) (scl W v))
   pub small : η +ℤ ζ ≼ eps *ℤ W
 
--- the other way round
 back : (t : ℤ) (a b : Vector) → Bd³ t (sub a b) → Bd³ t (sub b a)
 unfolding geocentric
-back t a b w = record {
-  lowx = cert! (t ∷ a .x ∷ b .x ∷ []) 0 (gap (w .highx)) (search polys depth 60 fits 100000) (search polys depth 60 fits 100000) (search polys depth 60 fits 100000) tt;
-  highx = cert! (t ∷ a .x ∷ b .x ∷ []) 0 (gap (w .lowx)) (search polys depth 60 fits 100000) (search polys depth 60 fits 100000) (search polys depth 60 fits 100000) tt;
-  lowy = cert! (t ∷ a .y ∷ b .y ∷ []) 0 (gap (w .highy)) (search polys depth 60 fits 100000) (search polys depth 60 fits 100000) (search polys depth 60 fits 100000) tt;
-  highy = cert! (t ∷ a .y ∷ b .y ∷ []) 0 (gap (w .lowy)) (search polys depth 60 fits 100000) (search polys depth 60 fits 100000) (search polys depth 60 fits 100000) tt;
-  lowz = cert! (t ∷ a .z ∷ b .z ∷ []) 0 (gap (w .highz)) (search polys depth 60 fits 100000) (search polys depth 60 fits 100000) (search polys depth 60 fits 100000) tt;
-  highz = cert! (t ∷ a .z ∷ b .z ∷ []) 0 (gap (w .lowz)) (search polys depth 60 fits 100000) (search polys depth 60 fits 100000) (search polys depth 60 fits 100000) tt;
-}
+back t a b w = record { x = turn (a .x) (b .x) (w .x); y = turn (a .y) (b .y) (w .y); z = turn (a .z) (b .z) (w .z) }
+  where
+    turn : (p q : ℤ) → Bd t (p -ℤ q) → Bd t (q -ℤ p)
+    turn p q h = bd-as t t (negℤ (p -ℤ q)) (q -ℤ p) refl (ring! (p ∷ q ∷ []) (search polys depth 60 fits 100000) (search polys depth 60 fits 100000) tt) (bd-neg t (p -ℤ q) h)
 
--- ---- the two halves for vectors that have one lower number W, and a row of the table
+-- ---- Exact vectors over one lower number W, and a row of the table.
 
--- from `form-low`
+-- What `form-low` and `passes` say, as facts of F.
 as-form : (up low t : ℤ) (s g : Vector) → up *ℤ (dot s s +ℤ dot g g) ≼ pos 2 *ℤ low *ℤ dot s g +ℤ t *ℤ low → negℤ (t *ℤ low) ≼ form up low s g
 unfolding form
 as-form up low t s g h = cert! (up ∷ low ∷ t ∷ dot s s ∷ dot g g ∷ dot s g ∷ []) 0 (gap h) (search polys depth 60 fits 100000) (search polys depth 60 fits 100000) (search polys depth 60 fits 100000) tt
@@ -69,7 +65,7 @@ module _ (W η ζ : ℤ) (u v s g : Vector) (hW : pos 0 ≺ W) (hu : Unit³ u) (
       (turn-exact up low G W (dot s s) (form up low s g) (row .positive) (row .at-most) (z .X-high) (row .sines) hF)
       (turn-exact up low G W (dot g g) (form up low s g) (row .positive) (row .at-most) (z .Y-high) (row .sines) hF) in
       listed-end up low G W (η +ℤ ζ) (form up low s g) (form up low u v) (dot u u) (dot v v) (dot (sub u v) (sub u v)) T
-      (row .positive) (row .at-most) (row .some) hW (within-nonneg η (sub s (scl W u)) ws ⊞ within-nonneg ζ (sub g (scl W v)) wg) small (hu .most) (hv .most) (row .reached) hF
+      (row .positive) (row .at-most) (row .some) hW (bd³-nonneg η (sub s (scl W u)) ws ⊞ bd³-nonneg ζ (sub g (scl W v)) wg) small (hu .most) (hv .most) (row .reached) hF
       (subst (λ (f : ℤ). pos 2 *ℤ form up low s g ≼ pos 2 *ℤ f +ℤ pos 7 *ℤ (η +ℤ ζ) *ℤ (low *ℤ G *ℤ W) +ℤ pos 6 *ℤ low *ℤ ((η +ℤ ζ) *ℤ (η +ℤ ζ))) (form-scl up low W u v) tr)
       (apart up low u v)
 
@@ -92,11 +88,11 @@ module _ (W η ζ : ℤ) (u v s g : Vector) (hW : pos 0 ≺ W) (hu : Unit³ u) (
       (low₀ ⊛ row .some ⊛ ≺-≼ hW) (turn u hu) (turn v hv) in
       let g₀ =
       exact-end up low G W (η +ℤ ζ) (form up low s g) f (row .positive) (row .at-most) (row .some) hW
-      (within-nonneg η (sub s (scl W u)) ws ⊞ within-nonneg ζ (sub g (scl W v)) wg) small hF
+      (bd³-nonneg η (sub s (scl W u)) ws ⊞ bd³-nonneg ζ (sub g (scl W v)) wg) small hF
       (subst (λ (e : ℤ). pos 2 *ℤ e ≼ pos 2 *ℤ form up low s g +ℤ pos 7 *ℤ (η +ℤ ζ) *ℤ (low *ℤ G *ℤ W) +ℤ pos 6 *ℤ low *ℤ ((η +ℤ ζ) *ℤ (η +ℤ ζ))) (form-scl up low W u v) tr) in
       passes up low (dot s g) (dot s s) (dot g g) (row .positive) low₀ (z .sum-pos) (of-form up low s g g₀)
 
--- ---- the exact test does not change with the vectors' lengths
+-- ---- The exact test does not change with the vectors' lengths.
 
 module _ (up low : ℤ) (a b : ℤ) (s g : Vector) (ha : pos 0 ≺ a) (hb : pos 0 ≺ b) where
   longer : Passes up low (dot s g) (dot s s) (dot g g) → Passes up low (dot (scl a s) (scl b g)) (dot (scl a s) (scl a s)) (dot (scl b g) (scl b g))
@@ -114,16 +110,16 @@ module _ (up low : ℤ) (a b : ℤ) (s g : Vector) (ha : pos 0 ≺ a) (hb : pos 
             (gap (k .close)) (search polys depth 60 fits 100000) (search polys depth 60 fits 100000) (search polys depth 60 fits 100000) (search polys depth 60 fits 100000) tt;
       }
 
--- ---- for any vectors that are close enough, and a row of the table
+-- ---- Any vectors that are close enough.
 
 module _ (u v s g : Vector) (hu : Unit³ u) (hv : Unit³ v) (n : Close u v s g) (c : Fraction) (G T T′ : ℤ) (row : Row c G T T′) where
-  -- the exact test gives listed
+  -- The exact test gives listed.
   pub exact-listed : Passes (c .upper) (c .lower) (dot s g) (dot s s) (dot g g) → dot (sub u v) (sub u v) ≼ T
   exact-listed e =
       half₁ (n .W) (n .η) (n .ζ) u v (scl (n .a) s) (scl (n .b) g) (n .W-pos) hu hv (n .near-u) (n .near-v) (n .small) c G T T′ row
       (longer (c .upper) (c .lower) (n .a) (n .b) s g (n .a-pos) (n .b-pos) e)
 
-  -- listed for two arcminutes less gives the exact test
+  -- Listed for two arcminutes less gives the exact test.
   pub listed-exact : dot (sub u v) (sub u v) ≼ T′ → Passes (c .upper) (c .lower) (dot s g) (dot s s) (dot g g)
   listed-exact e =
       shorter (c .upper) (c .lower) (n .a) (n .b) s g (n .a-pos) (n .b-pos)

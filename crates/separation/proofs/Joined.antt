@@ -43,7 +43,7 @@ placed-is : (c : Coordinates) → placed (figures c) ≡ place c
 unfolding placed figures place rectangular
 placed-is c = refl
 
--- ---- the computed answers as facts
+-- ---- The computed answers as facts.
 
 true-T : (b : Bool) → b ≡ true → T b
 true-T b e = subst (λ (a : Bool). T a) (sym e) tt
@@ -83,7 +83,7 @@ of-listed : (k : ℕ) (p e : Coordinates) → listed k p e ≡ true → Near-sun
 unfolding listed squared-separation squared dot placed figures place rectangular
 of-listed k p e h = record { le = true-T _ h }
 
--- ---- the two halves
+-- ---- The two halves.
 
 module _ (p e : Coordinates) (p* e* : Exact-coordinates) (hp : Near⁵ (figures p) (five-of p*)) (he : Near⁵ (figures e) (five-of e*)) (ok : places-usable p e ≡ true) where
   P₀ : pos 0 ≺ product (five-of p*)

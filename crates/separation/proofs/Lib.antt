@@ -18,3 +18,4 @@ pub mod Apart
 pub mod Angles
 pub mod Joined
 pub mod Core
+pub mod Examples

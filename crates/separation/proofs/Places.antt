@@ -1,4 +1,4 @@
--- Q2 and Q3: a working place from working cosines, how near it is to the exact one, and that it is at least 0.47 R long.
+-- A working place from working cosines: how near it is to the exact one, and that it is at least 0.47 R long.
 -- Exact figures are whole numbers over one lower number Q. Assumes nothing.
 use mathlib.Core.Path.{refl}
 use mathlib.Core.Logic.{_⊎_, inl, inr}
@@ -17,9 +17,7 @@ use Rattle.vectors.specs.declared.Vector.{Vector}
 use Rattle.vectors.specs.Vectors.{geocentric}
 use Rattle.separation.proofs.Form.{scl, sub, Bd³}
 
--- ---- what is said
-
--- R in parts; cosines and sines over U (working), or all five over Q (exact)
+-- R in parts, and the cosines and sines over U (working), or all five over Q (exact).
 pub record Figures : Type 0 where
   pub R : ℤ
   pub cosB : ℤ
@@ -27,7 +25,7 @@ pub record Figures : Type 0 where
   pub cosL : ℤ
   pub sinL : ℤ
 
--- the working place
+-- The working place.
 unfoldable pub placed : Figures → Vector
 placed w = record {
   x = rounded (rounded (w .R *ℤ w .cosB) U *ℤ w .cosL) U;
@@ -35,20 +33,20 @@ placed w = record {
   z = rounded (w .R *ℤ w .sinB) U;
 }
 
--- the exact direction, over Q², and the exact place, over Q³
+-- The exact direction, over Q², and the exact place, over Q³.
 unfoldable pub toward : ℤ → Figures → Vector
 toward Q e = record { x = e .cosB *ℤ e .cosL; y = e .cosB *ℤ e .sinL; z = Q *ℤ e .sinB }
 
 unfoldable pub whole-place : ℤ → Figures → Vector
 whole-place Q e = scl (e .R) (toward Q e)
 
--- c/U and C/Q are in [−1, 1] and within 2.46·10⁻⁶ of each other
+-- c/U and C/Q are in [−1, 1] and within 2.46·10⁻⁶ of each other.
 pub record Seen (Q c C : ℤ) : Type 0 where
   pub working : Bd (pos U) c
   pub exact : Bd Q C
   pub near : Bd (pos 2460 *ℤ Q) (c *ℤ Q -ℤ pos U *ℤ C)
 
--- the working figures against the exact ones: R within 2·10⁵ parts
+-- The working figures are near the exact ones: R within 2·10⁵ parts.
 pub record Faithful (Q : ℤ) (w e : Figures) : Type 0 where
   pub radius : Bd (pos 200000 *ℤ Q) (Q *ℤ w .R -ℤ e .R)
   pub cosB : Seen Q (w .cosB) (e .cosB)
@@ -56,30 +54,16 @@ pub record Faithful (Q : ℤ) (w e : Figures) : Type 0 where
   pub cosL : Seen Q (w .cosL) (e .cosL)
   pub sinL : Seen Q (w .sinL) (e .sinL)
 
--- ---- by components
+-- ---- How near the place is.
 
-pub bx : (η : ℤ) (e : Vector) → Bd³ η e → Bd η (e .x)
-bx η e w = record { low = w .lowx; high = w .highx }
-
-pub by : (η : ℤ) (e : Vector) → Bd³ η e → Bd η (e .y)
-by η e w = record { low = w .lowy; high = w .highy }
-
-pub bz : (η : ℤ) (e : Vector) → Bd³ η e → Bd η (e .z)
-bz η e w = record { low = w .lowz; high = w .highz }
-
-pub within-of : (η : ℤ) (e : Vector) → Bd η (e .x) → Bd η (e .y) → Bd η (e .z) → Bd³ η e
-within-of η e p q r = record { lowx = p .low; highx = p .high; lowy = q .low; highy = q .high; lowz = r .low; highz = r .high }
-
--- a multiple that is not negative
+-- A multiple that is not negative keeps a bound.
 pub times : (m A a : ℤ) → pos 0 ≼ m → Bd A a → Bd (m *ℤ A) (m *ℤ a)
 times m A a h k = bd-* m A m a (bd-self m h) k
-
--- ---- Q2
 
 U-pos : 0 < U
 U-pos = omega arith
 
--- one rounded product
+-- One rounded product.
 one-part : (Q R c C : ℤ) → pos 0 ≼ Q → pos 0 ≼ R → Seen Q c C
     → Bd (Q *ℤ Q *ℤ (pos U +ℤ pos 4920 *ℤ R)) (pos U *ℤ (Q *ℤ Q *ℤ rounded (R *ℤ c) U -ℤ R *ℤ (Q *ℤ C)))
 one-part Q R c C hQ hR s =
@@ -94,7 +78,7 @@ one-part Q R c C hQ hR s =
     bd-cancel (pos 2) (Q *ℤ Q *ℤ (pos U +ℤ pos 4920 *ℤ R)) (pos U *ℤ (Q *ℤ Q *ℤ z -ℤ R *ℤ (Q *ℤ C))) (record { lt = tt })
     (bd-as B B _ (pos 2 *ℤ (pos U *ℤ (Q *ℤ Q *ℤ z -ℤ R *ℤ (Q *ℤ C)))) refl (ring! (Q ∷ R ∷ c ∷ C ∷ z ∷ []) (search polys depth 60 fits 100000) (search polys depth 60 fits 100000) tt) (bd-le A B _ l b))
 
--- two
+-- A rounded product of a rounded product.
 two-part : (Q R c C d D : ℤ) → pos 0 ≼ Q → pos 0 ≼ R → Seen Q c C → Seen Q d D
     → Bd (Q *ℤ Q *ℤ (pos U +ℤ pos 4920 *ℤ R)) (pos U *ℤ (Q *ℤ Q *ℤ rounded (rounded (R *ℤ c) U *ℤ d) U -ℤ R *ℤ (C *ℤ D)))
 two-part Q R c C d D hQ hR s t =
@@ -112,23 +96,24 @@ two-part Q R c C d D hQ hR s t =
     bd-cancel (pos (2 * U)) (Q *ℤ Q *ℤ (pos U +ℤ pos 4920 *ℤ R)) (pos U *ℤ (Q *ℤ Q *ℤ x -ℤ R *ℤ (C *ℤ D))) (record { lt = tt })
     (bd-as _ _ _ _ (ring! (Q ∷ R ∷ []) (search polys depth 60 fits 100000) (search polys depth 60 fits 100000) tt) (ring! (Q ∷ R ∷ c ∷ C ∷ d ∷ D ∷ f ∷ x ∷ []) (search polys depth 60 fits 100000) (search polys depth 60 fits 100000) tt) b)
 
--- U times each component of Q²·place − R·direction
+-- U times Q²·place − R·direction, in each component.
 pub place-near : (Q : ℤ) (w e : Figures) → pos 0 ≼ Q → pos 0 ≼ w .R → Faithful Q w e
     → Bd³ (Q *ℤ Q *ℤ (pos U +ℤ pos 4920 *ℤ w .R)) (scl (pos U) (sub (scl (Q *ℤ Q) (placed w)) (scl (w .R) (toward Q e))))
 unfolding scl geocentric placed toward
 place-near Q w e hQ hR h =
-    within-of _ _
-    (two-part Q (w .R) (w .cosB) (e .cosB) (w .cosL) (e .cosL) hQ hR (h .cosB) (h .cosL))
-    (two-part Q (w .R) (w .cosB) (e .cosB) (w .sinL) (e .sinL) hQ hR (h .cosB) (h .sinL))
-    (one-part Q (w .R) (w .sinB) (e .sinB) hQ hR (h .sinB))
+    record {
+      x = two-part Q (w .R) (w .cosB) (e .cosB) (w .cosL) (e .cosL) hQ hR (h .cosB) (h .cosL);
+      y = two-part Q (w .R) (w .cosB) (e .cosB) (w .sinL) (e .sinL) hQ hR (h .cosB) (h .sinL);
+      z = one-part Q (w .R) (w .sinB) (e .sinB) hQ hR (h .sinB);
+    }
 
--- ---- Q3: the length of a place is at least 0.47 R
+-- ---- How long the place is.
 
--- |k·n| is at least A
+-- |k·n| is at least A.
 abbrev pub Far : ℤ → ℤ → ℤ → Type 0
 Far k A n = (A ≼ k *ℤ n) ⊎ (k *ℤ n ≼ negℤ A)
 
--- a rounded product with a cosine of size at least 0.69
+-- So is a rounded product with a cosine of size at least 0.69, with 0.69 A less a half for A.
 far-rounded : (k A n c : ℤ) → pos 0 ≼ k → pos 0 ≼ A → Far k A n → Far (pos 1) (pos 690000000) c → Far (pos 200 *ℤ k) (pos 138 *ℤ A -ℤ pos 100 *ℤ k) (rounded (n *ℤ c) U)
 far-rounded k A n c hk hA f g = go f g
   where
@@ -147,7 +132,7 @@ far-rounded k A n c hk hA f g = go f g
     go (inl a) (inr b) = inr (below (cert! (k ∷ A ∷ n ∷ c ∷ []) 0 (gap a ⊛ gap b ⊞ hA ⊛ gap b ⊞ 690000000 · gap a) (search polys depth 60 fits 100000) (search polys depth 60 fits 100000) (search polys depth 60 fits 100000) tt))
     go (inr a) (inl b) = inr (below (cert! (k ∷ A ∷ n ∷ c ∷ []) 0 (gap a ⊛ gap b ⊞ hA ⊛ gap b ⊞ 690000000 · gap a) (search polys depth 60 fits 100000) (search polys depth 60 fits 100000) (search polys depth 60 fits 100000) tt))
 
--- one of the cosine and the sine is at least 0.69
+-- One of the cosine and the sine is at least 0.69 in size.
 abbrev pub One-far : ℤ → ℤ → Type 0
 One-far c s = Far (pos 1) (pos 690000000) c ⊎ Far (pos 1) (pos 690000000) s
 
@@ -155,7 +140,7 @@ far-le : (k A n l : ℤ) → pos 0 ≼ k → Far k A n → Bd l n → A ≼ k *�
 far-le k A n l hk (inl h) b = cert! (k ∷ A ∷ n ∷ l ∷ []) 0 (gap h ⊞ hk ⊛ gap (b .high)) (search polys depth 60 fits 100000) (search polys depth 60 fits 100000) (search polys depth 60 fits 100000) tt
 far-le k A n l hk (inr h) b = cert! (k ∷ A ∷ n ∷ l ∷ []) 0 (gap h ⊞ hk ⊛ gap (b .low)) (search polys depth 60 fits 100000) (search polys depth 60 fits 100000) (search polys depth 60 fits 100000) tt
 
--- l is at least each component
+-- l is at least each component of the place.
 pub long : (l : ℤ) (w : Figures) → pos 10000000000 ≼ w .R → One-far (w .cosB) (w .sinB) → One-far (w .cosL) (w .sinL) → Bd³ l (placed w) → pos 47 *ℤ w .R ≼ pos 100 *ℤ l
 unfolding placed
 long l w hR fB fL b = goB fB
@@ -171,7 +156,7 @@ long l w hR fB fL b = goB fB
 
     goB : One-far (w .cosB) (w .sinB) → pos 47 *ℤ R ≼ pos 100 *ℤ l
     goB (inr h) =
-        let a = far-le (pos 200 *ℤ pos 1) (pos 138 *ℤ R -ℤ pos 100 *ℤ pos 1) (rounded (R *ℤ w .sinB) U) l (nonneg 200) (far-rounded (pos 1) R R (w .sinB) (nonneg 1) R₀ start h) (bz l (placed w) b) in
+        let a = far-le (pos 200 *ℤ pos 1) (pos 138 *ℤ R -ℤ pos 100 *ℤ pos 1) (rounded (R *ℤ w .sinB) U) l (nonneg 200) (far-rounded (pos 1) R R (w .sinB) (nonneg 1) R₀ start h) (b .z) in
         cert! (R ∷ l ∷ []) 1 (gap a ⊞ 44 · gap hR) (search polys depth 60 fits 100000) (search polys depth 60 fits 100000) (search polys depth 60 fits 100000) tt
     goB (inl h) = goL fL
       where
@@ -191,5 +176,5 @@ long l w hR fB fL b = goB fB
             cert! (R ∷ l ∷ []) 399 (gap a ⊞ 244 · gap hR) (search polys depth 60 fits 100000) (search polys depth 60 fits 100000) (search polys depth 60 fits 100000) tt
 
         goL : One-far (w .cosL) (w .sinL) → pos 47 *ℤ R ≼ pos 100 *ℤ l
-        goL (inl g) = end (w .cosL) (bx l (placed w) b) g
-        goL (inr g) = end (w .sinL) (by l (placed w) b) g
+        goL (inl g) = end (w .cosL) (b .x) g
+        goL (inr g) = end (w .sinL) (b .y) g

@@ -1,4 +1,4 @@
--- The squared lengths of exact vectors that are near to working unit vectors: nearly equal, and near U² (the end of Q5). Assumes nothing.
+-- The squared lengths of exact vectors that are near to working unit vectors are nearly equal, and near U². Assumes nothing.
 use mathlib.Core.Path.{sym, subst}
 use mathlib.Core.List.{[], _∷_}
 use Prim.Native.Nat.{_+_, _*_}
@@ -10,7 +10,7 @@ use Rattle.integers.proofs.Order.{≺-≼}
 use Rattle.units.specs.Units.{U}
 use Rattle.vectors.specs.declared.Vector.{Vector}
 use Rattle.separation.proofs.Row.{eps}
-use Rattle.separation.proofs.Form.{dot, scl, sub, Bd³, dot-scl, within-nonneg}
+use Rattle.separation.proofs.Form.{dot, scl, sub, Bd³, dot-scl, bd³-nonneg}
 use Rattle.separation.proofs.Transfer.{length-low, length-high}
 
 -- The squared length is within 4U of U².
@@ -18,7 +18,7 @@ pub record Unit³ (u : Vector) : Type 0 where
   pub least : pos (U * U) ≼ dot u u +ℤ pos (4 * U)
   pub most : dot u u ≼ pos (U * U + 4 * U)
 
--- ---- lengths, of X = |s|², Y = |g|², with q = |u|², r = |v|²
+-- ---- Over plain numbers: X = |s|², Y = |g|² of the exact vectors, q = |u|², r = |v|² of the working ones.
 
 size : (W η q X : ℤ) → pos 0 ≼ W → pos 0 ≼ η → η ≼ eps *ℤ W → q ≼ pos (U * U + 4 * U)
     → pos 2 *ℤ X ≼ pos 2 *ℤ (W *ℤ W *ℤ q) +ℤ pos 7 *ℤ η *ℤ (W *ℤ pos (U + 2)) +ℤ pos 6 *ℤ (η *ℤ η)
@@ -34,7 +34,7 @@ sum-low W σ q r X Y hW hs hq hr h =
     cert! (W ∷ σ ∷ q ∷ r ∷ X ∷ Y ∷ []) 0 (gap h ⊞ 2 · (sqr W ⊛ (gap hq ⊞ gap hr)) ⊞ 7000000014 · (hW ⊛ gap hs))
     (search polys depth 60 fits 100000) (search polys depth 60 fits 100000) (search polys depth 60 fits 100000) tt
 
--- X − Y from above; from below with the two exchanged
+-- X − Y from above; from below it is the same with the two exchanged.
 difference : (W η ζ q r X Y : ℤ) → pos 0 ≼ W → pos 0 ≼ η → pos 0 ≼ ζ → η +ℤ ζ ≼ eps *ℤ W → q ≼ pos (U * U + 4 * U) → pos (U * U) ≼ r +ℤ pos (4 * U)
     → pos 2 *ℤ X ≼ pos 2 *ℤ (W *ℤ W *ℤ q) +ℤ pos 7 *ℤ η *ℤ (W *ℤ pos (U + 2)) +ℤ pos 6 *ℤ (η *ℤ η)
     → pos 2 *ℤ (W *ℤ W *ℤ r) ≼ pos 2 *ℤ Y +ℤ pos 7 *ℤ ζ *ℤ (W *ℤ pos (U + 2))
@@ -44,7 +44,7 @@ difference W η ζ q r X Y hW hη hζ hs hq hr hx hy =
     (gap hx ⊞ gap hy ⊞ 2 · (sqr W ⊛ (gap hq ⊞ gap hr)) ⊞ 7000000014 · (hW ⊛ gap hs) ⊞ 6 · (hη ⊛ gap hs) ⊞ 6 · (hη ⊛ hζ) ⊞ 780000 · (hW ⊛ gap hs) ⊞ 780000 · (hW ⊛ hζ))
     (search polys depth 60 fits 100000) (search polys depth 60 fits 100000) (search polys depth 60 fits 100000) tt
 
--- (X − Y)² is at most 7 eps² W² (X + Y)
+-- (X − Y)² is at most 7 eps² W² (X + Y).
 even-lengths : (W X Y : ℤ) → pos 3999089983998180000 *ℤ (W *ℤ W) ≼ pos 2 *ℤ (X +ℤ Y) → pos 2 *ℤ (X -ℤ Y) ≼ pos 910117401820000 *ℤ (W *ℤ W) → pos 2 *ℤ (Y -ℤ X) ≼ pos 910117401820000 *ℤ (W *ℤ W)
     → (X -ℤ Y) *ℤ (X -ℤ Y) ≼ pos 7 *ℤ eps *ℤ eps *ℤ (W *ℤ W) *ℤ (X +ℤ Y)
 even-lengths W X Y hs hd he =
@@ -75,10 +75,10 @@ module _ (W η ζ : ℤ) (u v s g : Vector) (hW : pos 0 ≺ W) (hu : Unit³ u) (
       (length-high t (W *ℤ pos (U + 2)) (scl W a) a′ w (W₀ ⊛ nonneg (U + 2)) (subst (λ (d : ℤ). d ≼ W *ℤ pos (U + 2) *ℤ (W *ℤ pos (U + 2))) (sym (dot-scl W W a a)) (unit-length W (dot a a) (ha .most))))
 
   η₀ : pos 0 ≼ η
-  η₀ = within-nonneg η (sub s (scl W u)) ws
+  η₀ = bd³-nonneg η (sub s (scl W u)) ws
 
   ζ₀ : pos 0 ≼ ζ
-  ζ₀ = within-nonneg ζ (sub g (scl W v)) wg
+  ζ₀ = bd³-nonneg ζ (sub g (scl W v)) wg
 
   small-η : η ≼ eps *ℤ W
   small-η = cert! (W ∷ η ∷ ζ ∷ []) 0 (gap small ⊞ ζ₀) (search polys depth 60 fits 100000) (search polys depth 60 fits 100000) (search polys depth 60 fits 100000) tt

@@ -33,7 +33,7 @@ quick-is : (k : ℕ) → quick k ≡ cosine-of-arcminutes k
 unfolding quick cosine-of-arcminutes
 quick-is k = reference-is (pos (k * two-pi)) (21600 * 10 ^ 30)
 
--- ---- one row, six comparisons
+-- ---- One row: six comparisons.
 
 unfoldable sines : Fraction → ℤ → Bool
 sines c g = leZ (pos 1001 *ℤ pos (U * U) *ℤ (c .lower *ℤ c .lower -ℤ c .upper *ℤ c .upper) +ℤ pos 7000 *ℤ eps *ℤ eps *ℤ c .lower *ℤ c .lower) (pos 1000 *ℤ g *ℤ g *ℤ c .lower *ℤ c .lower)
@@ -72,7 +72,7 @@ row-of c g t t′ h =
       cleared = record { le = and-right (reached c g t) (cleared c g t′) l′ };
     }
 
--- ---- the test itself, in parts: one declaration may take only so many steps
+-- ---- The test itself, in three parts: one declaration may take only so many steps.
 
 test₁ : T (all row-at 900 60)
 unfolding floor rounded modulo q-of r-of w-of y-of horner even-part odd-part cosine-by sine-by working-sine sine ref-q ref-r low-by-quarter low up C-up C-low S-up S-low f-up f-low quick threshold witness sines reached cleared range limits row row-at

@@ -14,7 +14,7 @@ pub and-right : (a b : Bool) → T (a && b) → T b
 and-right true b t = t
 and-right false b t = absurd t
 
--- f at each of the n numbers from i
+-- f holds at each of the n numbers from i on.
 abbrev pub all : (ℕ → Bool) → ℕ → ℕ → Bool
 all f zero i = true
 all f (suc n) i = f i && all f n (suc i)

@@ -1,4 +1,4 @@
--- Q7: how far F moves with its two vectors. Q8: the exact test and F. And the squared length of a vector near another. Assumes nothing.
+-- How far F moves with its two vectors; the exact test and the sign of F; and the squared length of a vector near another. Assumes nothing.
 use mathlib.Core.Path.{_≡_, sym, subst}
 use mathlib.Core.List.{[], _∷_}
 use mathlib.Core.Logic.{_⊎_, inl, inr}
@@ -6,29 +6,30 @@ use lib.IntN.{ℤ, pos, negℤ, _+ℤ_, _-ℤ_, _*ℤ_}
 use Rattle.integers.specs.Order.{_≼_, _≺_}
 use Rattle.integers.proofs.Auto.{polys, cert!, cert<!, gap, gap<, gap≡, _⊞_, _⊛_, _·_, sqr}
 use Rattle.integers.proofs.Order.{≼-or-≺, ≺-≼, cert*! }
+use Rattle.integers.proofs.Bounds.{Bd}
 use Rattle.vectors.specs.declared.Vector.{Vector}
 use Rattle.vectors.specs.Vectors.{geocentric}
-use Rattle.separation.proofs.Form.{dot, scl, sub, form, Bd³, turned, form-comm, moved, product-low, product-high}
+use Rattle.separation.proofs.Form.{dot, scl, sub, form, Bd³, turned, form-comm, moved, product-bd}
 
--- ---- Q7
+-- ---- F of nearby vectors.
 
-small-part : (up low η ζ e f : ℤ) → pos 0 ≼ up → up ≼ low → negℤ η ≼ e → e ≼ η → negℤ ζ ≼ f → f ≼ ζ
+small-part : (up low η ζ e f : ℤ) → pos 0 ≼ up → up ≼ low → Bd η e → Bd ζ f
     → pos 0 ≼ low *ℤ ((η +ℤ ζ) *ℤ (η +ℤ ζ)) +ℤ pos 2 *ℤ low *ℤ (e *ℤ f) -ℤ up *ℤ (e *ℤ e +ℤ f *ℤ f)
-small-part up low η ζ e f hu hl le he lf hf =
+small-part up low η ζ e f hu hl he hf =
     cert! (up ∷ low ∷ η ∷ ζ ∷ e ∷ f ∷ []) 0
-    ((hu ⊞ gap hl) ⊛ (gap le ⊛ gap lf ⊞ gap he ⊛ gap hf) ⊞ gap hl ⊛ (sqr η ⊞ sqr ζ) ⊞ hu ⊛ (gap le ⊛ gap he ⊞ gap lf ⊛ gap hf))
+    ((hu ⊞ gap hl) ⊛ (gap (he .low) ⊛ gap (hf .low) ⊞ gap (he .high) ⊛ gap (hf .high)) ⊞ gap hl ⊛ (sqr η ⊞ sqr ζ) ⊞ hu ⊛ (gap (he .low) ⊛ gap (he .high) ⊞ gap (hf .low) ⊛ gap (hf .high)))
     (search polys depth 60 fits 100000) (search polys depth 60 fits 100000) (search polys depth 60 fits 100000) tt
 
 pub form-small : (up low η ζ : ℤ) (e f : Vector) → pos 0 ≼ up → up ≼ low → Bd³ η e → Bd³ ζ f → negℤ (pos 3 *ℤ low *ℤ ((η +ℤ ζ) *ℤ (η +ℤ ζ))) ≼ form up low e f
 unfolding dot form
 form-small up low η ζ e f hu hl we wf =
     cert! (up ∷ low ∷ η ∷ ζ ∷ e .x ∷ e .y ∷ e .z ∷ f .x ∷ f .y ∷ f .z ∷ []) 0
-    (small-part up low η ζ (e .x) (f .x) hu hl (we .lowx) (we .highx) (wf .lowx) (wf .highx)
-    ⊞ small-part up low η ζ (e .y) (f .y) hu hl (we .lowy) (we .highy) (wf .lowy) (wf .highy)
-    ⊞ small-part up low η ζ (e .z) (f .z) hu hl (we .lowz) (we .highz) (wf .lowz) (wf .highz))
+    (small-part up low η ζ (e .x) (f .x) hu hl (we .x) (wf .x)
+    ⊞ small-part up low η ζ (e .y) (f .y) hu hl (we .y) (wf .y)
+    ⊞ small-part up low η ζ (e .z) (f .z) hu hl (we .z) (wf .z))
     (search polys depth 60 fits 100000) (search polys depth 60 fits 100000) (search polys depth 60 fits 100000) tt
 
--- H is low times the document's G: H² bounds |low·b − up·a|² and |low·a − up·b|²
+-- From (a, b) to (a′, b′), η and ζ away: H² bounds |low·b − up·a|² and |low·a − up·b|².
 pub transfer : (up low H η ζ : ℤ) (a b a′ b′ : Vector) → pos 0 ≼ up → up ≼ low → Bd³ η (sub a′ a) → Bd³ ζ (sub b′ b) → pos 0 ≼ H
     → (low *ℤ low -ℤ up *ℤ up) *ℤ dot a a -ℤ up *ℤ form up low a b ≼ H *ℤ H
     → (low *ℤ low -ℤ up *ℤ up) *ℤ dot b b -ℤ up *ℤ form up low a b ≼ H *ℤ H
@@ -40,7 +41,7 @@ transfer up low H η ζ a b a′ b′ hu hl we wf hH ha hb =
     let h₂ : dot d₂ d₂ ≼ H *ℤ H =
     subst (λ (t : ℤ). t ≼ H *ℤ H) (sym (turned up low b a)) (subst (λ (t : ℤ). (low *ℤ low -ℤ up *ℤ up) *ℤ dot a a -ℤ up *ℤ t ≼ H *ℤ H) (form-comm up low a b) ha) in
     final (form up low a b) (form up low a′ b′) (dot (sub a′ a) d₁) (dot (sub b′ b) d₂) (form up low (sub a′ a) (sub b′ b))
-    (moved up low a b a′ b′) (product-low η H (sub a′ a) d₁ we hH h₁) (product-low ζ H (sub b′ b) d₂ wf hH h₂) (form-small up low η ζ (sub a′ a) (sub b′ b) hu hl we wf)
+    (moved up low a b a′ b′) (product-bd η H (sub a′ a) d₁ we hH h₁ .low) (product-bd ζ H (sub b′ b) d₂ wf hH h₂ .low) (form-small up low η ζ (sub a′ a) (sub b′ b) hu hl we wf)
   where
     final : (F F′ p q r : ℤ) → F′ ≡ F +ℤ pos 2 *ℤ p +ℤ pos 2 *ℤ q +ℤ r → negℤ (pos 7 *ℤ η *ℤ H) ≼ pos 4 *ℤ p → negℤ (pos 7 *ℤ ζ *ℤ H) ≼ pos 4 *ℤ q
         → negℤ (pos 3 *ℤ low *ℤ ((η +ℤ ζ) *ℤ (η +ℤ ζ))) ≼ r
@@ -49,14 +50,14 @@ transfer up low H η ζ a b a′ b′ hu hl we wf hH ha hb =
         cert! (F ∷ F′ ∷ p ∷ q ∷ r ∷ η ∷ ζ ∷ H ∷ low ∷ []) 0 (2 · gap≡ (sym e) ⊞ gap hp ⊞ gap hq ⊞ 2 · gap hr)
         (search polys depth 60 fits 100000) (search polys depth 60 fits 100000) (search polys depth 60 fits 100000) tt
 
--- ---- Q8, of p = a·b, X = |a|², Y = |b|²
+-- ---- The exact test of p = a·b, X = |a|², Y = |b|².
 
--- p is above 0 and p² is at least c²XY, with c = up/low
+-- p is above 0 and p² is at least c²XY, with c = up/low.
 pub record Passes (up low p X Y : ℤ) : Type 0 where
   pub ahead : pos 0 ≺ p
   pub close : up *ℤ up *ℤ (X *ℤ Y) ≼ low *ℤ low *ℤ (p *ℤ p)
 
--- (i)
+-- It holds where F is not negative.
 pub passes : (up low p X Y : ℤ) → pos 0 ≺ up → pos 0 ≼ low → pos 0 ≺ X +ℤ Y → up *ℤ (X +ℤ Y) ≼ pos 2 *ℤ low *ℤ p → Passes up low p X Y
 passes up low p X Y hu hl hs h = record { ahead = p-pos; close = squares }
   where
@@ -75,7 +76,7 @@ passes up low p X Y hu hl hs h = record { ahead = p-pos; close = squares }
         cert! (up ∷ low ∷ p ∷ X ∷ Y ∷ []) 3 (gap h ⊛ (2 · (hl ⊛ gap (≺-≼ p-pos)) ⊞ gap (≺-≼ hu) ⊛ gap (≺-≼ hs)) ⊞ sqr (up *ℤ (X -ℤ Y)))
         (search polys depth 60 fits 100000) (search polys depth 60 fits 100000) (search polys depth 60 fits 100000) tt
 
--- (ii)
+-- Where it holds, and the lengths are nearly equal, F is hardly below 0.
 pub form-low : (up low p X Y t : ℤ) → pos 0 ≺ up → up ≼ low → pos 0 ≺ X +ℤ Y → pos 0 ≼ t → (X -ℤ Y) *ℤ (X -ℤ Y) ≼ t *ℤ (X +ℤ Y) → Passes up low p X Y
     → up *ℤ (X +ℤ Y) ≼ pos 2 *ℤ low *ℤ p +ℤ t *ℤ low
 form-low up low p X Y t hu hl hs ht hd h = go (≼-or-≺ (up *ℤ (X +ℤ Y)) (pos 2 *ℤ low *ℤ p))
@@ -99,18 +100,18 @@ form-low up low p X Y t hu hl hs ht hd h = go (≼-or-≺ (up *ℤ (X +ℤ Y)) (
         (up′ ⊛ s′ ⊛ ht ⊛ gap hl ⊞ sqr up ⊛ gap hd ⊞ 4 · gap (h .close) ⊞ 2 · (gap (≺-≼ g) ⊛ ((up′ ⊞ gap hl) ⊛ p′)))
         (search polys depth 60 fits 100000) (search polys depth 60 fits 100000) (search polys depth 60 fits 100000) (search polys depth 60 fits 100000) tt
 
--- ---- the squared length of a′, η from a
+-- ---- The squared length of a′, η away from a.
 
 pub length-low : (η H : ℤ) (a a′ : Vector) → Bd³ η (sub a′ a) → pos 0 ≼ H → dot a a ≼ H *ℤ H → pos 2 *ℤ dot a a ≼ pos 2 *ℤ dot a′ a′ +ℤ pos 7 *ℤ η *ℤ H
 unfolding dot geocentric
 length-low η H a a′ w hH h =
     cert! (η ∷ H ∷ a .x ∷ a .y ∷ a .z ∷ a′ .x ∷ a′ .y ∷ a′ .z ∷ []) 0
-    (gap (product-low η H (sub a′ a) a w hH h) ⊞ 2 · (sqr (a′ .x -ℤ a .x) ⊞ sqr (a′ .y -ℤ a .y) ⊞ sqr (a′ .z -ℤ a .z)))
+    (gap (product-bd η H (sub a′ a) a w hH h .low) ⊞ 2 · (sqr (a′ .x -ℤ a .x) ⊞ sqr (a′ .y -ℤ a .y) ⊞ sqr (a′ .z -ℤ a .z)))
     (search polys depth 60 fits 100000) (search polys depth 60 fits 100000) (search polys depth 60 fits 100000) tt
 
 pub length-high : (η H : ℤ) (a a′ : Vector) → Bd³ η (sub a′ a) → pos 0 ≼ H → dot a a ≼ H *ℤ H → pos 2 *ℤ dot a′ a′ ≼ pos 2 *ℤ dot a a +ℤ pos 7 *ℤ η *ℤ H +ℤ pos 6 *ℤ (η *ℤ η)
 unfolding dot geocentric
 length-high η H a a′ w hH h =
     cert! (η ∷ H ∷ a .x ∷ a .y ∷ a .z ∷ a′ .x ∷ a′ .y ∷ a′ .z ∷ []) 0
-    (gap (product-high η H (sub a′ a) a w hH h) ⊞ 2 · (gap (w .lowx) ⊛ gap (w .highx) ⊞ gap (w .lowy) ⊛ gap (w .highy) ⊞ gap (w .lowz) ⊛ gap (w .highz)))
+    (gap (product-bd η H (sub a′ a) a w hH h .high) ⊞ 2 · (gap (w .x .low) ⊛ gap (w .x .high) ⊞ gap (w .y .low) ⊛ gap (w .y .high) ⊞ gap (w .z .low) ⊛ gap (w .z .high)))
     (search polys depth 60 fits 100000) (search polys depth 60 fits 100000) (search polys depth 60 fits 100000) tt

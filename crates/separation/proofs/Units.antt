@@ -1,30 +1,29 @@
--- Q4: the unit vector, rounded over the floored length, has a squared length within 4U of U². Assumes nothing.
+-- The unit vector, rounded over the floored length, has a squared length within 4U of U². Assumes nothing.
 use mathlib.Core.Path.{_≡_, refl, sym, subst}
-use mathlib.Core.Logic.{_⊎_, inl, inr}
 use mathlib.Core.List.{[], _∷_}
 use Prim.Native.Nat.{ℕ, _+_, _*_, _≤_, _<_}
 use native.Mathlib.Omega.{arith}
 use lib.IntN.{ℤ, pos, negsuc, negℤ, natAbs, _+ℤ_, _*ℤ_}
 use lib.Dec.{le→leb, leb→le}
-use Rattle.integers.specs.Order.{_≼_, _≺_}
+use Rattle.integers.specs.Order.{_≼_}
 use Rattle.integers.specs.Division.{rounded}
 use Rattle.integers.specs.Root.{root}
 use Rattle.integers.proofs.Pairs.{nonneg}
-use Rattle.integers.proofs.Auto.{polys, ring!, cert!, cert<!, gap, gap<, gap≡, _⊞_, _⊛_, _·_, sqr}
-use Rattle.integers.proofs.Order.{≼-or-≺, cert*! }
+use Rattle.integers.proofs.Auto.{polys, ring!, cert!, cert<!, gap, gap≡, _⊞_, _⊛_, _·_, sqr}
+use Rattle.integers.proofs.Order.{cert*! }
 use Rattle.integers.proofs.Root.{root-spec}
-use Rattle.integers.proofs.Bounds.{Bd, bd-rounded}
+use Rattle.integers.proofs.Bounds.{bd-rounded}
 use Rattle.units.specs.Units.{U}
 use Rattle.vectors.specs.declared.Vector.{Vector}
 use Rattle.vectors.specs.Vectors.{geocentric, squared, length, unit}
-use Rattle.separation.proofs.Form.{dot, scl, sub, Bd³, product-low, product-high}
+use Rattle.separation.proofs.Form.{dot, scl, sub, Bd³, root-bd, product-bd}
 use Rattle.separation.proofs.Sizes.{Unit³}
 
--- rounded U·component over l
+-- Rounded U·component over l.
 unfoldable pub unit-over : ℕ → Vector → Vector
 unit-over l a = record { x = rounded (pos U *ℤ a .x) l; y = rounded (pos U *ℤ a .y) l; z = rounded (pos U *ℤ a .z) l }
 
--- ---- the length, by its two bounds
+-- ---- The length, by its two bounds.
 
 square-nonneg : (a : Vector) → pos 0 ≼ dot a a
 unfolding dot
@@ -51,18 +50,15 @@ length-high² a =
     below : (r n : ℕ) → n < (r + 1) * (r + 1) → n ≤ r * r + 2 * r
     below r n h = omega arith
 
--- ---- Q4
+-- ---- The unit vector u of a.
 
--- 2(l·u − U·a) is within l in each component
+-- 2(l·u − U·a) is at most l in each component.
 pub unit-near : (l : ℕ) (a : Vector) → 0 < l → Bd³ (pos l) (scl (pos 2) (sub (scl (pos l) (unit-over l a)) (scl (pos U) a)))
 unfolding scl geocentric unit-over
 unit-near l a h =
-    let p = bd-rounded (pos U *ℤ a .x) l h in
-    let q = bd-rounded (pos U *ℤ a .y) l h in
-    let r = bd-rounded (pos U *ℤ a .z) l h in
-    record { lowx = p .low; highx = p .high; lowy = q .low; highy = q .high; lowz = r .low; highz = r .high }
+    record { x = bd-rounded (pos U *ℤ a .x) l h; y = bd-rounded (pos U *ℤ a .y) l h; z = bd-rounded (pos U *ℤ a .z) l h }
 
--- l²|u|² = U²|a|² + U·(2r·a) + |r|², r = l·u − U·a, in fourths
+-- l²|u|² = U²|a|² + 2U(r·a) + |r|² with r = l·u − U·a, four times.
 expand : (l : ℤ) (u a : Vector) → let r = scl (pos 2) (sub (scl l u) (scl (pos U) a)) in
     pos 4 *ℤ (l *ℤ l *ℤ dot u u) ≡ pos 4 *ℤ (pos (U * U) *ℤ dot a a) +ℤ pos U *ℤ (pos 4 *ℤ dot r a) +ℤ dot r r
 unfolding dot scl geocentric
@@ -71,9 +67,9 @@ expand l u a = ring! (l ∷ u .x ∷ u .y ∷ u .z ∷ a .x ∷ a .y ∷ a .z �
 square-high : (η : ℤ) (r : Vector) → Bd³ η r → dot r r ≼ pos 3 *ℤ (η *ℤ η)
 unfolding dot
 square-high η r w =
-    cert! (η ∷ r .x ∷ r .y ∷ r .z ∷ []) 0 (gap (w .lowx) ⊛ gap (w .highx) ⊞ gap (w .lowy) ⊛ gap (w .highy) ⊞ gap (w .lowz) ⊛ gap (w .highz)) (search polys depth 60 fits 100000) (search polys depth 60 fits 100000) (search polys depth 60 fits 100000) tt
+    cert! (η ∷ r .x ∷ r .y ∷ r .z ∷ []) 0 (gap (w .x .low) ⊛ gap (w .x .high) ⊞ gap (w .y .low) ⊛ gap (w .y .high) ⊞ gap (w .z .low) ⊛ gap (w .z .high)) (search polys depth 60 fits 100000) (search polys depth 60 fits 100000) (search polys depth 60 fits 100000) tt
 
--- q = |u|², X = |a|², m = 4(2r·a), e = |2r|²
+-- Over plain numbers: q = |u|², X = |a|², m = 4(2r·a), e = |2r|².
 high-end : (l q X m e : ℤ) → pos U ≼ l → X ≼ l *ℤ l +ℤ pos 2 *ℤ l → m ≼ pos 7 *ℤ l *ℤ (l +ℤ pos 1) → e ≼ pos 3 *ℤ (l *ℤ l)
     → pos 4 *ℤ (l *ℤ l *ℤ q) ≡ pos 4 *ℤ (pos (U * U) *ℤ X) +ℤ pos U *ℤ m +ℤ e → q ≼ pos (U * U + 4 * U)
 high-end l q X m e hl hX hm he eq =
@@ -95,8 +91,8 @@ unit-over-is l a hl lo hi =
     let h : dot a a ≼ (pos l +ℤ pos 1) *ℤ (pos l +ℤ pos 1) = cert! (pos l ∷ dot a a ∷ []) 0 (gap hi) (search polys depth 60 fits 100000) (search polys depth 60 fits 100000) (search polys depth 60 fits 100000) tt in
     let k : pos 0 ≼ pos l +ℤ pos 1 = nonneg (l + 1) in
     record {
-      least = low-end (pos l) (dot u u) (dot a a) (pos 4 *ℤ dot r a) (dot r r) hl lo (product-low (pos l) (pos l +ℤ pos 1) r a w k h) (square-nonneg r) (expand (pos l) u a);
-      most = high-end (pos l) (dot u u) (dot a a) (pos 4 *ℤ dot r a) (dot r r) hl hi (product-high (pos l) (pos l +ℤ pos 1) r a w k h) (square-high (pos l) r w) (expand (pos l) u a);
+      least = low-end (pos l) (dot u u) (dot a a) (pos 4 *ℤ dot r a) (dot r r) hl lo (product-bd (pos l) (pos l +ℤ pos 1) r a w k h .low) (square-nonneg r) (expand (pos l) u a);
+      most = high-end (pos l) (dot u u) (dot a a) (pos 4 *ℤ dot r a) (dot r r) hl hi (product-bd (pos l) (pos l +ℤ pos 1) r a w k h .high) (square-high (pos l) r w) (expand (pos l) u a);
     }
   where
     above : (l : ℕ) → pos U ≼ pos l → 0 < l
@@ -106,18 +102,15 @@ pub unit-is : (a : Vector) → pos U ≼ pos (length a) → Unit³ (unit a)
 unfolding unit unit-over
 unit-is a h = unit-over-is (length a) a h (length-low² a) (length-high² a)
 
--- no component is longer than the length
-pub shorter : (l : ℕ) (X c : ℤ) → c *ℤ c ≼ X → X ≼ pos l *ℤ pos l +ℤ pos 2 *ℤ pos l → Bd (pos l) c
-shorter l X c h k = record { low = lower (≼-or-≺ (negℤ (pos l)) c); high = upper (≼-or-≺ c (pos l)) }
-  where
-    lower : (negℤ (pos l) ≼ c) ⊎ (c ≺ negℤ (pos l)) → negℤ (pos l) ≼ c
-    lower (inl g) = g
-    lower (inr g) =
-        let bad : pos 1 ≼ pos 0 = cert! (pos l ∷ X ∷ c ∷ []) 0 (gap h ⊞ gap k ⊞ gap< g ⊛ gap< g ⊞ 2 · (gap< g ⊛ nonneg (l + 1))) (search polys depth 60 fits 100000) (search polys depth 60 fits 100000) (search polys depth 60 fits 100000) tt in
-        absurd (bad .le)
-
-    upper : (c ≼ pos l) ⊎ (pos l ≺ c) → c ≼ pos l
-    upper (inl g) = g
-    upper (inr g) =
-        let bad : pos 1 ≼ pos 0 = cert! (pos l ∷ X ∷ c ∷ []) 0 (gap h ⊞ gap k ⊞ gap< g ⊛ gap< g ⊞ 2 · (gap< g ⊛ nonneg (l + 1))) (search polys depth 60 fits 100000) (search polys depth 60 fits 100000) (search polys depth 60 fits 100000) tt in
-        absurd (bad .le)
+-- No component is longer than the length.
+pub within-length : (a : Vector) → Bd³ (pos (length a)) a
+unfolding dot
+within-length a =
+    let h = length-high² a in
+    let l₀ = nonneg (length a) in
+    let ρ = pos (length a) ∷ a .x ∷ a .y ∷ a .z ∷ [] in
+    record {
+      x = root-bd (a .x) (pos (length a)) l₀ (cert! ρ 0 (gap h ⊞ sqr (a .y) ⊞ sqr (a .z)) (search polys depth 60 fits 100000) (search polys depth 60 fits 100000) (search polys depth 60 fits 100000) tt);
+      y = root-bd (a .y) (pos (length a)) l₀ (cert! ρ 0 (gap h ⊞ sqr (a .x) ⊞ sqr (a .z)) (search polys depth 60 fits 100000) (search polys depth 60 fits 100000) (search polys depth 60 fits 100000) tt);
+      z = root-bd (a .z) (pos (length a)) l₀ (cert! ρ 0 (gap h ⊞ sqr (a .x) ⊞ sqr (a .y)) (search polys depth 60 fits 100000) (search polys depth 60 fits 100000) (search polys depth 60 fits 100000) tt);
+    }

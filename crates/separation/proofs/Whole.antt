@@ -16,7 +16,7 @@ use Rattle.separation.proofs.Form.{scl}
 use Rattle.separation.proofs.WholeTest.{Over³}
 use Rattle.separation.proofs.Places.{Figures, Seen, Faithful, toward, whole-place}
 
--- ---- one fraction: Q is m times its lower number
+-- ---- One fraction: Q is m times its lower number.
 
 pub record Held (Q : ℤ) (f : Fraction) : Type 0 where
   pub m : ℤ
@@ -46,14 +46,14 @@ held-right Q t f ht h = record {
 over-held : (Q : ℤ) (f : Fraction) (h : Held Q f) → Over Q f (f .upper *ℤ h .m)
 over-held Q f h = record { low-pos = h .low-pos; same = ap (λ (q : ℤ). f .upper *ℤ q) (sym (h .is)) ∙ ring! (f .upper ∷ f .lower ∷ h .m ∷ []) (search polys depth 60 fits 100000) (search polys depth 60 fits 100000) tt }
 
--- |a/lower - b| is at most A: the same over Q
+-- The fraction and x/U differ by at most A/U: the same over Q.
 bd-held : (Q A x : ℤ) (f : Fraction) (h : Held Q f) → Bd (A *ℤ f .lower) (x *ℤ f .lower -ℤ pos U *ℤ f .upper) → Bd (A *ℤ Q) (x *ℤ Q -ℤ pos U *ℤ (f .upper *ℤ h .m))
 bd-held Q A x f h b =
     subst (λ (q : ℤ). Bd (A *ℤ q) (x *ℤ q -ℤ pos U *ℤ (f .upper *ℤ h .m))) (h .is)
     (bd-as _ _ _ _ (ring! (A ∷ f .lower ∷ h .m ∷ []) (search polys depth 60 fits 100000) (search polys depth 60 fits 100000) tt) (ring! (x ∷ f .lower ∷ f .upper ∷ h .m ∷ []) (search polys depth 60 fits 100000) (search polys depth 60 fits 100000) tt)
     (bd-* (A *ℤ f .lower) (h .m) (x *ℤ f .lower -ℤ pos U *ℤ f .upper) (h .m) b (bd-self (h .m) (≺-≼ (h .m-pos)))))
 
--- ---- the five figures
+-- ---- The five figures of which an exact place is made.
 
 pub record Five : Type 0 where
   pub R : Fraction
@@ -106,7 +106,7 @@ pub record Near⁵ (w : Figures) (e : Five) : Type 0 where
   pub cosL : Near (w .cosL) (e .cosL)
   pub sinL : Near (w .sinL) (e .sinL)
 
--- the product of the five lower numbers holds them all
+-- The product of the five lower numbers holds them all.
 abbrev pub product : Five → ℤ
 product e = e .R .lower *ℤ (e .cosB .lower *ℤ (e .sinB .lower *ℤ (e .cosL .lower *ℤ e .sinL .lower)))
 
@@ -132,7 +132,7 @@ held w e h =
       sinL = held-right _ _ (e .sinL) R₀ (held-right _ _ (e .sinL) b₀ (held-right _ _ (e .sinL) c₀ (held-right _ _ (e .sinL) d₀ (held-self (e .sinL) e₀))));
     }
 
--- ---- over Q
+-- ---- The same over Q.
 
 unfoldable pub whole : (Q : ℤ) (e : Five) → Held⁵ Q e → Figures
 whole Q e h = record { R = e .R .upper *ℤ h .R .m; cosB = e .cosB .upper *ℤ h .cosB .m; sinB = e .sinB .upper *ℤ h .sinB .m; cosL = e .cosL .upper *ℤ h .cosL .m; sinL = e .sinL .upper *ℤ h .sinL .m }
@@ -160,7 +160,7 @@ faithful Q w e h n = record {
   sinL = seen-of Q (w .sinL) (e .sinL) (h .sinL) (n .sinL);
 }
 
--- R cos B cos L over Q³
+-- R cos B cos L over Q³.
 three : (Q r b l : ℤ) (R B L : Fraction) → Over Q R r → Over Q B b → Over Q L l → Over (Q *ℤ (Q *ℤ Q)) (R *ᶠ B *ᶠ L) (r *ℤ (b *ℤ l))
 three Q r b l R B L hR hB hL =
     over-as (Q *ℤ Q *ℤ Q) (Q *ℤ (Q *ℤ Q)) (r *ℤ b *ℤ l) (r *ℤ (b *ℤ l)) (R *ᶠ B *ᶠ L) (ring! (Q ∷ []) (search polys depth 60 fits 100000) (search polys depth 60 fits 100000) tt) (ring! (r ∷ b ∷ l ∷ []) (search polys depth 60 fits 100000) (search polys depth 60 fits 100000) tt)
