@@ -2,6 +2,7 @@
 pub mod Close
 pub mod Weights
 pub mod Accuracy
+pub mod Sizes
 pub mod Accepted
 pub mod Distance
 pub mod Answered
