@@ -15,3 +15,5 @@ pub mod Ranges
 pub mod Longitude
 pub mod Value
 pub mod Natural
+pub mod Residues
+pub mod Places

@@ -2,3 +2,4 @@
 pub mod Cosine
 pub mod Reference
 pub mod Terms
+pub mod Prepared

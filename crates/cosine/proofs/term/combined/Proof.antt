@@ -1,0 +1,35 @@
+-- `cosine::term::combined` meets its contract. Assumes nothing.
+use native.Mathlib.Omega.{arith}
+use Rattle.cosine.proofs.Places.{digit-product}
+use Rattle.cosine.proofs.term.combined.Statement.{statement}
+use Rattle.cosine.proofs.term.combined.Tie as tie
+
+mul-result : tie.Need-mul-result
+mul-result c = omega (arith, digit-product _ _ (c .pre .0) (c .pre .4))
+
+mul-result-2 : tie.Need-mul-result-2
+mul-result-2 c = omega (arith, digit-product _ _ (c .pre .1) (c .pre .5))
+
+add-result : tie.Need-add-result
+add-result c = omega (arith, digit-product _ _ (c .pre .0) (c .pre .4), digit-product _ _ (c .pre .1) (c .pre .5))
+
+mul-result-3 : tie.Need-mul-result-3
+mul-result-3 c = omega (arith, digit-product _ _ (c .pre .2) (c .pre .6))
+
+add-result-2 : tie.Need-add-result-2
+add-result-2 c = omega (arith, digit-product _ _ (c .pre .0) (c .pre .4), digit-product _ _ (c .pre .1) (c .pre .5), digit-product _ _ (c .pre .2) (c .pre .6))
+
+mul-result-4 : tie.Need-mul-result-4
+mul-result-4 c = omega (arith, digit-product _ _ (c .pre .3) (c .pre .7))
+
+add-result-3 : tie.Need-add-result-3
+add-result-3 c = omega (arith, digit-product _ _ (c .pre .0) (c .pre .4), digit-product _ _ (c .pre .1) (c .pre .5), digit-product _ _ (c .pre .2) (c .pre .6), digit-product _ _ (c .pre .3) (c .pre .7))
+
+add-result-4 : tie.Need-add-result-4
+add-result-4 c = omega (arith, digit-product _ _ (c .pre .0) (c .pre .4), digit-product _ _ (c .pre .1) (c .pre .5), digit-product _ _ (c .pre .2) (c .pre .6), digit-product _ _ (c .pre .3) (c .pre .7))
+
+returns : tie.Need-returns
+returns c = (omega arith, omega (arith, digit-product _ _ (c .pre .0) (c .pre .4), digit-product _ _ (c .pre .1) (c .pre .5), digit-product _ _ (c .pre .2) (c .pre .6), digit-product _ _ (c .pre .3) (c .pre .7)))
+
+pub combined-spec : {M : Type 1} → statement M
+combined-spec = tie.close (tie.spec mul-result mul-result-2 add-result mul-result-3 add-result-2 mul-result-4 add-result-3 add-result-4 returns)
