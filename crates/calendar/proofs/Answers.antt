@@ -1,29 +1,28 @@
 -- What the public calls answer, from what the calls within them gave. Assumes nothing.
 use mathlib.Core.Path.{_≡_, refl, sym, ap, _∙_}
-use mathlib.Core.Bool.{Bool, true, false, _&&_, cond, false≢true, true≢false}
-use Prim.Native.Nat.{ℕ, zero, suc, _+_, _*_, _/_, _%_, _-_, _≤_, _<_, _^_}
+use mathlib.Core.Bool.{true, false, cond, false≢true, true≢false}
+use Prim.Native.Nat.{ℕ, zero, suc, _+_, _*_, _/_, _%_, _-_, _≤_, _<_}
 use native.Mathlib.Omega.{arith}
 use borrow.Author.Tests.{eq-eqb, ne-eqb, lt-leb, le-leb}
-use lib.Dec.{leb, eqb, lit<, eqb·suc-zero}
-use lib.IntN.{ℤ, pos, negsuc, natAbs, _+ℤ_, _-ℤ_, _*ℤ_}
+use lib.Dec.{eqb, lit<, eqb·suc-zero}
+use lib.IntN.{ℤ, pos, negsuc, natAbs, _+ℤ_, _-ℤ_}
 use mir.Syntax.{w64}
-use mir.Val.{SFits, toZ, ofZ}
+use mir.Val.{toZ, ofZ}
 use Rattle.integers.specs.Signs.{negative}
-use Rattle.integers.specs.Division.{floor, modulo}
-use Rattle.integers.proofs.Pairs.{Is, nat, int, same, same⁻¹, less, suc-<ℤ, up, dn, _+ᵢ_, _-ᵢ_, _*ᵢ_}
+use Rattle.integers.proofs.Pairs.{Is, nat, int, same, same⁻¹, less, suc-<ℤ, _+ᵢ_, _-ᵢ_, _*ᵢ_}
 use Rattle.integers.proofs.Division.{floor-is, modulo-is}
 use Rattle.units.specs.Units.{in-limit}
 use Rattle.units.specs.declared.Instant.{Instant}
 use Rattle.units.specs.declared.Refusal.the-variants.{NoSuchDate, PastLimit}
 use Rattle.arith.specs.Signed.{naturalOr}
-use Rattle.calendar.specs.Calendar.{between, first-bad, first-bad-of-four, noon-number, day-of-date, instant, limited, instant-of-date, day-of-instant, ms-of-instant, date-of-instant}
+use Rattle.calendar.specs.Calendar.{between, first-bad, first-bad-of-four, noon-number, day-of-date, instant, instant-of-date, day-of-instant, ms-of-instant, date-of-instant}
 use Rattle.calendar.specs.Shifted.{date-at, plain}
 use Rattle.calendar.specs.declared.Date.{Date}
 use Rattle.calendar.specs.declared.DayAnswer.the-variants.{Day, NoDay}
 use Rattle.calendar.specs.declared.InstantAnswer.the-variants.{At, NoInstant}
 use Rattle.calendar.specs.declared.MomentAnswer.the-variants.{Moment, NoMoment}
 use Rattle.calendar.proofs.Fields.{is-same}
-use Rattle.calendar.proofs.Calls.{natural-back, sub-back, Upto, inside, outside, upto}
+use Rattle.calendar.proofs.Calls.{natural-back, Upto, inside, outside, upto}
 
 -- ---- date to day number
 module _ (y m d : ℤ) (bad : ℕ) (e : bad ≡ first-bad y m d) where

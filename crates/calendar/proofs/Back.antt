@@ -1,16 +1,12 @@
 -- A day number's date exists and has that number. Assumes nothing.
 use mathlib.Core.Path.{_≡_, refl, sym, ap, _∙_, subst}
-use mathlib.Core.Logic.{_⊎_, inl, inr}
-use mathlib.Core.Bool.{Bool, true, false, cond}
+use mathlib.Core.Logic.{inl, inr}
 use Prim.Native.Nat.{ℕ, _+_, _*_, _/_, _%_, _-_, _≤_, _<_}
 use native.Mathlib.Decide.{decLe, ℕ-discrete}
 use native.Mathlib.Omega.{arith}
 use borrow.Author.Tests.{lt-ltb, le-ltb}
-use lib.Dec.{ltb}
-use Rattle.calendar.specs.declared.Shifted.{Shifted}
 use Rattle.calendar.specs.Shifted.{leap-day, month-days, key, Sound, march-year, march-month, julian, with-beta, noon, century, julian-count, year-of, day-of, month-of, from-march, date-at}
-use Rattle.calendar.proofs.Bounds.{leap-le}
-use Rattle.calendar.proofs.Facts.{Leap, not4, old, plain, cent, quad, leap, february, other, Ok, sound}
+use Rattle.calendar.proofs.Facts.{Leap, not4, old, plain, cent, quad, leap, february, other, sound}
 use Rattle.calendar.proofs.Round.{F, Y, C, Y-is, C-is, month-part, slot-len}
 
 -- what the count of a day number is

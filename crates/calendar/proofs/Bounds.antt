@@ -1,9 +1,9 @@
 -- Bounds of the calendar's definitions. Assumes nothing.
 use mathlib.Core.Bool.{Bool, true, false, cond}
-use Prim.Native.Nat.{ℕ, _+_, _%_, _/_, _-_, _≤_}
+use Prim.Native.Nat.{ℕ, _+_, _%_, _-_, _≤_}
 use native.Mathlib.Omega.{arith}
-use lib.Dec.{leb, ltb, eqb, lit≤}
-use mathlib.Core.Path.{_≡_, refl, _∙_}
+use lib.Dec.{leb, eqb, lit≤}
+use mathlib.Core.Path.{_≡_, refl}
 use native.Mathlib.Decide.{decLe}
 use borrow.Author.Tests.{le-leb, lt-leb, eqb-false}
 use lib.IntN.{ℤ, pos, negsuc}

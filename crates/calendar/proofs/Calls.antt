@@ -1,32 +1,25 @@
 -- What the code's calls ask and give, over plain values. Assumes nothing.
 use mathlib.Core.Path.{_≡_, refl, sym, ap, _∙_, subst}
-use mathlib.Core.Bool.{Bool, true, false, _&&_, cond, false≢true, true≢false}
-use Prim.Native.Nat.{ℕ, zero, suc, _+_, _*_, _/_, _%_, _-_, _≤_, _<_, _^_}
+use mathlib.Core.Bool.{true, false, false≢true, true≢false}
+use Prim.Native.Nat.{ℕ, _+_, _-_, _≤_, _<_, _^_}
 use native.Mathlib.Decide.{decLe}
 use native.Mathlib.Omega.{arith}
-use borrow.Author.Tests.{eq-eqb, ne-eqb, lt-leb, le-leb}
-use lib.Dec.{leb, eqb, lit<, eqb·suc-zero}
-use lib.IntN.{ℤ, pos, negsuc, natAbs, subℕ, _+ℤ_, _-ℤ_}
+use borrow.Author.Tests.{lt-leb, le-leb}
+use lib.Dec.{lit<}
+use lib.IntN.{ℤ, pos, negsuc, natAbs, _-ℤ_}
 use mir.Syntax.{w64}
 use mir.Val.{SFits, toZ, ofZ}
 use Rattle.integers.specs.Signs.{negative}
-use Rattle.integers.specs.Division.{floor, modulo}
-use Rattle.integers.proofs.Pairs.{Is, View, above, below, view, nat, int, same, less, suc-<ℤ, _+ᵢ_, _-ᵢ_, _*ᵢ_}
-use Rattle.integers.proofs.Division.{floor-is, modulo-is}
+use Rattle.integers.proofs.Pairs.{Is, View, above, below, view, nat, _-ᵢ_}
 use Rattle.integers.proofs.Order.{fits}
-use Rattle.units.specs.Units.{in-limit}
-use Rattle.units.specs.declared.Instant.{Instant}
-use Rattle.units.specs.declared.Refusal.the-variants.{NoSuchDate, PastLimit}
+use Rattle.units.specs.declared.Refusal.the-variants.{NoSuchDate}
 use Rattle.arith.specs.Signed.{naturalOr}
 use Rattle.arith.proofs.Signs.{back}
-use Rattle.calendar.specs.Calendar.{between, first-bad, first-bad-of-four, noon-number, day-of-date, date-of-day, instant, limited, instant-of-date, day-of-instant, ms-of-instant, date-of-instant}
-use Rattle.calendar.specs.Shifted.{year-index, bad-field, Sound, noon, date-at, plain}
+use Rattle.calendar.specs.Calendar.{between, first-bad, noon-number, date-of-day}
+use Rattle.calendar.specs.Shifted.{year-index, Sound, noon, date-at, plain}
 use Rattle.calendar.specs.declared.Date.{Date}
 use Rattle.calendar.specs.declared.Shifted.{Shifted}
-use Rattle.calendar.specs.declared.DayAnswer.the-variants.{Day, NoDay}
 use Rattle.calendar.specs.declared.DateAnswer.the-variants.{On, NoDate}
-use Rattle.calendar.specs.declared.InstantAnswer.the-variants.{At, NoInstant}
-use Rattle.calendar.specs.declared.MomentAnswer.the-variants.{Moment, NoMoment}
 use Rattle.calendar.proofs.Back.{found}
 use Rattle.calendar.proofs.Bounds.{month-le, exists, year-known}
 use Rattle.calendar.proofs.Facts.{Ok, ok}

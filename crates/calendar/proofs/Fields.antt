@@ -1,21 +1,21 @@
 -- The first bad field of a date, over whole numbers, is that of the count in naturals. Assumes nothing.
 use mathlib.Core.Path.{_≡_, refl, sym, ap, _∙_}
-use mathlib.Core.Bool.{Bool, true, false, _&&_, _||_, not, cond}
+use mathlib.Core.Bool.{true, false, _&&_, not, cond}
 use mathlib.Core.List.{List, [], _∷_}
 use Prim.Native.Nat.{ℕ, zero, suc, _+_, _*_, _/_, _%_, _-_, _≤_, _<_}
 use native.Mathlib.Decide.{decLe, ℕ-discrete}
 use native.Mathlib.Omega.{arith}
 use borrow.Author.Tests.{eq-eqb, ne-eqb, lt-ltb, le-ltb, lt-leb, le-leb}
-use lib.Dec.{T, leb, ltb, eqb, eqb→eq}
-use lib.IntN.{ℤ, pos, negsuc, negℤ, natAbs, _+ℤ_, _-ℤ_, _*ℤ_}
+use lib.Dec.{leb, eqb, eqb→eq}
+use lib.IntN.{ℤ, pos, negsuc, negℤ}
 use lib.ListN.{getD}
 use lib.Signed.{leZ}
 use Rattle.integers.specs.Division.{modulo}
-use Rattle.integers.proofs.Pairs.{Is, up, dn, same, same⁻¹, sub-cong, nat, int, sub-pos, sub-neg, _+ᵢ_, _-ᵢ_, _*ᵢ_}
+use Rattle.integers.proofs.Pairs.{Is, up, dn, same, same⁻¹, sub-cong, nat, int, sub-pos, sub-neg, _+ᵢ_, _*ᵢ_}
 use Rattle.arith.specs.Signed.{naturalOr}
 use Rattle.calendar.specs.Calendar.{between, written, skipped, leap, month-length, first-bad}
 use Rattle.calendar.specs.Shifted.{year-index, key, leap-day, month-days, in-gap, bad-field}
-use Rattle.calendar.proofs.Below.{everyBelow, every-below}
+use Rattle.calendar.proofs.Below.{every-below}
 use Rattle.calendar.proofs.Compare.{leZ-is}
 use Rattle.calendar.proofs.Facts.{Leap, not4, old, plain, cent, quad, leap as leaps}
 
@@ -56,6 +56,11 @@ field (pos (suc k)) l = go (decLe (suc k) l)
 -- The leap day.
 index-is : {y : ℤ} {c : ℕ} → Is y c 4716 → up y + 4716 ≡ c + dn y
 index-is {y} {c} i = omega (arith, same⁻¹ i (int y) refl)
+
+pub index-of : (y : ℤ) (c : ℕ) → 4 ≤ c → c ≤ 14715 → Is y c 4716 → year-index y ≡ c
+unfolding year-index
+index-of (pos n) c h l i = let e : n + 4716 ≡ c + 0 = index-is i in rw (le-leb n 9999 (omega arith)) (omega arith)
+index-of (negsuc n) c h l i = let e : 0 + 4716 ≡ c + suc n = index-is i in rw (le-leb n 4711 (omega arith)) (omega arith)
 
 mod-four : (y : ℤ) (c : ℕ) → 4 ≤ c → Is y c 4716 → modulo y 4 ≡ c % 4
 unfolding modulo

@@ -4,6 +4,8 @@ pub mod Fields
 pub mod Literal
 pub mod Calls
 pub mod Answers
+pub mod Both
+pub mod Theorems
 pub mod Bounds
 pub mod Facts
 pub mod Round

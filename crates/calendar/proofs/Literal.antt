@@ -1,12 +1,12 @@
 -- The noon day number of a date that exists, by document 01's formula over whole numbers, is that of the count in naturals. Assumes nothing.
-use mathlib.Core.Path.{_≡_, refl, sym, ap, _∙_}
-use mathlib.Core.Bool.{Bool, true, false, cond}
+use mathlib.Core.Path.{_≡_, refl, ap, _∙_}
+use mathlib.Core.Bool.{true}
 use Prim.Native.Nat.{ℕ, _+_, _*_, _/_, _-_, _≤_, _<_}
 use native.Mathlib.Decide.{decLe}
 use native.Mathlib.Omega.{arith}
 use borrow.Author.Tests.{lt-ltb, le-ltb, le-leb, lt-leb}
 use lib.Dec.{leb}
-use lib.IntN.{ℤ, pos, _+ℤ_, _-ℤ_, _*ℤ_}
+use lib.IntN.{ℤ, pos, _+ℤ_}
 use Rattle.integers.specs.Division.{floor}
 use Rattle.integers.proofs.Pairs.{Is, nat, same, _+ᵢ_, _-ᵢ_}
 use Rattle.calendar.specs.Calendar.{counted-year, counted-month, gregorian, beta, formula, noon-number}

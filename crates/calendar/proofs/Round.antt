@@ -1,18 +1,18 @@
 -- The two theorems of the calendar over naturals: a date's day number gives the date back, and a day number's date exists and has that number.
 -- Assumes nothing.
-use mathlib.Core.Path.{_≡_, refl, sym, ap, _∙_, subst}
+use mathlib.Core.Path.{_≡_, refl, ap, _∙_, subst}
 use mathlib.Core.Logic.{_⊎_, inl, inr}
-use mathlib.Core.Bool.{Bool, true, false, cond}
+use mathlib.Core.Bool.{Bool}
 use Prim.Native.Nat.{ℕ, _+_, _*_, _/_, _%_, _-_, _≤_, _<_}
 use native.Mathlib.Decide.{decLe, ℕ-discrete}
 use native.Mathlib.Omega.{arith}
 use borrow.Author.Tests.{lt-ltb, le-ltb}
-use lib.Dec.{ltb, eqb, eqb→eq}
+use lib.Dec.{eqb, eqb→eq}
 use Rattle.calendar.proofs.Below.{every-below}
 use Rattle.calendar.proofs.Bounds.{leap-le, month-le}
 use Rattle.calendar.specs.declared.Shifted.{Shifted}
 use Rattle.calendar.specs.Shifted.{leap-day, month-days, key, Sound, march-year, march-month, julian, with-beta, noon, century, julian-count, year-of, day-of, month-of, from-march, in-year, of-count, date-at}
-use Rattle.calendar.proofs.Facts.{by-lt, Leap, not4, old, plain, cent, quad, leap, february, other, Ok, ok, sound}
+use Rattle.calendar.proofs.Facts.{Leap, not4, old, plain, cent, quad, leap, february, other, Ok, ok}
 
 -- the days before the month k of the year that begins in March
 abbrev pub F : ℕ → ℕ

@@ -1,6 +1,6 @@
 -- Document 01, "Calendar", with the refusals 1 and 2: what each public call answers, for every value of its arguments.
 use mathlib.Core.Bool.{Bool, true, false, _&&_, _||_, not, cond}
-use mathlib.Core.List.{List, [], _∷_}
+use mathlib.Core.List.{[], _∷_}
 use Prim.Native.Nat.{ℕ, _+_, _-_}
 use lib.Dec.{eqb}
 use lib.IntN.{ℤ, pos, natAbs, negℤ, _+ℤ_, _-ℤ_, _*ℤ_}
@@ -9,10 +9,8 @@ use lib.Signed.{leZ}
 use Rattle.integers.specs.Division.{floor, modulo}
 use Rattle.units.specs.Units.{in-limit}
 use Rattle.units.specs.declared.Instant.{Instant}
-use Rattle.units.specs.declared.Refusal.{Refusal}
 use Rattle.units.specs.declared.Refusal.the-variants.{NoSuchDate, PastLimit}
 use Rattle.calendar.specs.Shifted.{plain, date-at}
-use Rattle.calendar.specs.declared.Date.{Date}
 use Rattle.calendar.specs.declared.DayAnswer.{DayAnswer}
 use Rattle.calendar.specs.declared.DayAnswer.the-variants.{Day, NoDay}
 use Rattle.calendar.specs.declared.DateAnswer.{DateAnswer}
