@@ -12,6 +12,7 @@ use Rattle.integers.specs.Order.{_≼_, _≺_}
 use Rattle.integers.specs.Division.{floor, rounded, modulo}
 use Rattle.integers.specs.Signs.{negative, sgn, near, differ, turned}
 use Rattle.integers.proofs.Ring.{v, #, _⊕_, _⊗_, hyp, hyp<, cert, cert<}
+use Rattle.integers.proofs.Order.{≼-antisym}
 use Rattle.integers.proofs.Auto.{polys, ring!, cert!, cert<!, gap, gap<, gap≡, _⊞_, _⊛_, _·_}
 
 -- ---- floor division by its two bounds
@@ -33,15 +34,9 @@ block d n p q h k =
     let b = less⁻¹ (int n +ᵢ nat 1) (nat d *ᵢ (int p +ᵢ nat 1)) (<ℤ-suc n (pos d *ℤ (p +ℤ pos 1)) k) in
     less (int q) (int p) (by-contra (up q + dn p) (up p + dn q) (λ (g : up p + dn q < up q + dn p). omega (arith, mul-le-mul-left d g)))
 
-≤ℤ-antisym : (x y : ℤ) → x ≼ y → y ≼ x → x ≡ y
-≤ℤ-antisym x y h k =
-    let a = less⁻¹ (int x) (int y) h in
-    let b = less⁻¹ (int y) (int x) k in
-    same (int x) (int y) (omega arith)
-
 pub floor-is : (n q : ℤ) (d : ℕ) → 0 < d → pos d *ℤ q ≼ n → n ≺ pos d *ℤ (q +ℤ pos 1) → floor n d ≡ q
 floor-is n q d h l u =
-    ≤ℤ-antisym (floor n d) q (block d n q (floor n d) (floor-low n d h) u) (block d n (floor n d) q l (floor-high n d h))
+    ≼-antisym (floor n d) q (block d n q (floor n d) (floor-low n d h) u) (block d n (floor n d) q l (floor-high n d h))
 
 -- ---- a multiple of the divisor comes out of the rounding
 pub rounded-add : (k x : ℤ) (d : ℕ) → 0 < d → rounded (pos d *ℤ k +ℤ x) d ≡ k +ℤ rounded x d

@@ -9,3 +9,4 @@ pub mod Root
 pub mod Bounds
 pub mod Near
 pub mod Fractions
+pub mod Examples

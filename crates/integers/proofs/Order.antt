@@ -62,6 +62,16 @@ factor-pos m p hm h = go (≼-or-≺ p (pos 0))
         let bad : pos 1 ≼ pos 0 = cert! (m ∷ p ∷ []) 0 (gap< h ⊞ hm ⊛ gap g) (search polys depth 60 fits 100000) (search polys depth 60 fits 100000) (search polys depth 60 fits 100000) tt in
         absurd (bad .le)
 
+-- what has no larger square is no larger (G4): x ≼ y from x² ≼ y², where y is not negative
+pub squares-le : (x y : ℤ) → pos 0 ≼ y → x *ℤ x ≼ y *ℤ y → x ≼ y
+squares-le x y hy h = go (≼-or-≺ x y)
+  where
+    go : (x ≼ y) ⊎ (y ≺ x) → x ≼ y
+    go (inl l) = l
+    go (inr g) =
+        let bad : pos 1 ≼ pos 0 = cert! (x ∷ y ∷ []) 0 (gap h ⊞ gap< g ⊛ gap< g ⊞ 2 · gap< g ⊞ 2 · (hy ⊛ gap< g) ⊞ 2 · hy) (search polys depth 60 fits 100000) (search polys depth 60 fits 100000) (search polys depth 60 fits 100000) tt in
+        absurd (bad .le)
+
 -- ---- magnitudes
 
 pub natAbs-* : (x y : ℤ) → natAbs (x *ℤ y) ≡ natAbs x * natAbs y
