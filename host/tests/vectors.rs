@@ -2,8 +2,8 @@
 
 mod common;
 
-use common::calls::{Calls, Outcome, PLAIN};
-use common::{hash, published, vectors, Fields, Random};
+use common::calls::{Calls, Outcome, LIBRARY, PLAIN};
+use common::{cut, hash, published, vectors, Fields, Random};
 use std::collections::HashMap;
 
 /// A number of refusal and its figure, or 0 and what `answer` reads.
@@ -62,20 +62,6 @@ fn calendar(calls: &Calls) {
         }
         assert!(fields.done(), "line {number}: {line}");
     }
-}
-
-/// A text cut at random into pieces, some of them empty.
-fn cut<'a>(text: &'a [u8], random: &mut Random) -> Vec<&'a [u8]> {
-    let mut pieces = Vec::new();
-    let mut rest = text;
-    let longest = random.pick(&[1, 2, 7, 60, 5000]);
-    while !rest.is_empty() {
-        let length = (random.below(longest + 1) as usize).min(rest.len());
-        let (piece, after) = rest.split_at(length);
-        pieces.push(piece);
-        rest = after;
-    }
-    pieces
 }
 
 /// The output that a text answer must leave: what is packed, then the bytes that were there.
@@ -248,3 +234,4 @@ macro_rules! vectors_of {
 }
 
 vectors_of!(plain, super::PLAIN);
+vectors_of!(library, super::LIBRARY);

@@ -2,6 +2,7 @@
 
 use stephylax::plain;
 use stephylax::plain::text::{Answer, Reader};
+use stephylax::{Refusal, TextReader};
 
 /// An answer, or the refusal's number and figure.
 pub type Outcome<A> = Result<A, (u64, i64)>;
@@ -13,7 +14,8 @@ pub struct Calls {
     pub instant_of_date: fn([i64; 4]) -> Outcome<i64>,
     pub date_of_instant: fn(i64) -> Outcome<[i64; 4]>,
     pub read_text: fn(&[u8], &mut [u8]) -> Outcome<usize>,
-    /// Each piece in a call, the end, and then each piece and the end once more, which must change nothing.
+    /// Each piece in a call, the end, and then each piece and the end once more, which must change nothing. The length
+    /// after each call is asked too.
     pub read_pieces: fn(&[&[u8]], &mut [u8]) -> Outcome<usize>,
     pub check: fn(&[u8]) -> Outcome<i64>,
     pub print: fn(&[u8], &mut [u8]) -> Outcome<usize>,
@@ -69,5 +71,60 @@ pub const PLAIN: Calls = Calls {
     },
     sun_list: |planet, earth, [t0, minutes, keep_out], runs| {
         outcome(plain::sun_list::sun_list(planet, earth, t0, minutes, keep_out, runs))
+    },
+};
+
+fn refusal<A>(result: Result<A, Refusal>) -> Outcome<A> {
+    result.map_err(|refusal| (refusal.number(), refusal.figure()))
+}
+
+fn library_pieces(pieces: &[&[u8]], packed: &mut [u8]) -> Outcome<usize> {
+    let mut reader = TextReader::new(packed);
+    let mut answer = Ok(0);
+    let mut ended = false;
+    for _ in 0..2 {
+        for piece in pieces {
+            let standing = refusal(reader.piece(piece));
+            assert!(standing == answer || (!ended && answer.is_ok()), "a call after the end changed the answer");
+            answer = standing;
+        }
+        let standing = refusal(reader.end());
+        assert!(standing == answer || (!ended && answer.is_ok()), "a call after the end changed the answer");
+        answer = standing;
+        ended = true;
+    }
+    answer
+}
+
+/// The proved library through the safe wrapper.
+pub const LIBRARY: Calls = Calls {
+    name: "library",
+    day_of_date: |year, month, day| refusal(stephylax::day_of_date(year, month, day)),
+    date_of_day: |n| {
+        let answer = refusal(stephylax::date_of_day(n));
+        answer.map(|d| {
+            assert_eq!(d.ms, 0);
+            [d.year, d.month, d.day]
+        })
+    },
+    instant_of_date: |[year, month, day, ms]| refusal(stephylax::instant_of_date(year, month, day, ms)),
+    date_of_instant: |t| refusal(stephylax::date_of_instant(t)).map(|d| [d.year, d.month, d.day, d.ms]),
+    read_text: |text, packed| refusal(stephylax::read_text(text, packed)),
+    read_pieces: library_pieces,
+    check: |packed| refusal(stephylax::check(packed)),
+    print: |packed, text| refusal(stephylax::print(packed, text)),
+    coordinates_at: |packed, t| {
+        refusal(stephylax::coordinates_at(packed, t)).map(|c| [c.longitude, c.latitude, c.radius])
+    },
+    apparent_place: |planet, earth, t| {
+        let answer = refusal(stephylax::apparent_place(planet, earth, t));
+        answer.map(|p| [p.right_ascension, p.declination, p.distance])
+    },
+    mount_place: |planet, earth, t| {
+        let answer = stephylax::mount_place(planet, earth, t);
+        answer.map(|m| [m.right_ascension, m.declination, m.distance])
+    },
+    sun_list: |planet, earth, [t0, minutes, keep_out], runs| {
+        refusal(stephylax::sun_list(planet, earth, t0, minutes, keep_out, runs))
     },
 };

@@ -2,6 +2,7 @@
 #![allow(dead_code)]
 
 pub mod calls;
+pub mod generate;
 
 use std::path::PathBuf;
 
@@ -110,4 +111,18 @@ impl Random {
     pub fn pick<T: Copy>(&mut self, from: &[T]) -> T {
         from[self.below(from.len() as u64) as usize]
     }
+}
+
+/// A text cut at random into pieces, some of them empty.
+pub fn cut<'a>(text: &'a [u8], random: &mut Random) -> Vec<&'a [u8]> {
+    let mut pieces = Vec::new();
+    let mut rest = text;
+    let longest = random.pick(&[1, 2, 7, 60, 5000]);
+    while !rest.is_empty() {
+        let length = (random.below(longest + 1) as usize).min(rest.len());
+        let (piece, after) = rest.split_at(length);
+        pieces.push(piece);
+        rest = after;
+    }
+    pieces
 }

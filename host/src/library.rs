@@ -1,0 +1,160 @@
+//! Safe calls of the proved library. Each passes its input on as it is and turns the answer into a `Result`.
+
+use crate::answers::{Coordinates, Date, Mount, Place};
+use crate::ffi;
+use crate::refusal::Refusal;
+
+fn answer<A>(refusal: u64, figure: i64, answer: A) -> Result<A, Refusal> {
+    if refusal == 0 {
+        return Ok(answer);
+    }
+    Err(Refusal::of(refusal, figure))
+}
+
+/// The noon day number of a date.
+pub fn day_of_date(year: i64, month: i64, day: i64) -> Result<i64, Refusal> {
+    // SAFETY: the function takes every number.
+    let day = unsafe { ffi::stephylax_day_of_date(year, month, day) };
+    answer(day.refusal, day.figure, day.day_number)
+}
+
+fn date(date: ffi::Date) -> Result<Date, Refusal> {
+    let ffi::Date { refusal, figure, year, month, day, ms } = date;
+    answer(refusal, figure, Date { year, month, day, ms })
+}
+
+/// The date of a noon day number; its milliseconds are 0.
+pub fn date_of_day(day_number: i64) -> Result<Date, Refusal> {
+    // SAFETY: the function takes every number.
+    date(unsafe { ffi::stephylax_date_of_day(day_number) })
+}
+
+/// The instant of a date and the milliseconds since its midnight.
+pub fn instant_of_date(year: i64, month: i64, day: i64, ms: i64) -> Result<i64, Refusal> {
+    // SAFETY: the function takes every number.
+    let instant = unsafe { ffi::stephylax_instant_of_date(year, month, day, ms) };
+    answer(instant.refusal, instant.figure, instant.t)
+}
+
+/// The date of an instant.
+pub fn date_of_instant(t: i64) -> Result<Date, Refusal> {
+    // SAFETY: the function takes every number.
+    date(unsafe { ffi::stephylax_date_of_instant(t) })
+}
+
+fn written(written: ffi::Written) -> Result<usize, Refusal> {
+    answer(written.refusal, written.figure, written.length as usize)
+}
+
+/// Packs the text of a series, given whole: how many bytes of `packed` it took.
+pub fn read_text(text: &[u8], packed: &mut [u8]) -> Result<usize, Refusal> {
+    // SAFETY: both slices are lent for the call, with their lengths.
+    written(unsafe { ffi::stephylax_read_text(text.as_ptr(), text.len(), packed.as_mut_ptr(), packed.len()) })
+}
+
+/// Packs the text of a series that comes in pieces, all into the one buffer that it holds.
+pub struct TextReader<'a> {
+    state: ffi::Text,
+    packed: &'a mut [u8],
+}
+
+impl<'a> TextReader<'a> {
+    pub fn new(packed: &'a mut [u8]) -> TextReader<'a> {
+        // SAFETY: the function takes nothing.
+        TextReader { state: unsafe { ffi::stephylax_text_start() }, packed }
+    }
+
+    /// Takes the next piece: how many bytes are packed so far.
+    pub fn piece(&mut self, text: &[u8]) -> Result<usize, Refusal> {
+        let (packed, room) = (self.packed.as_mut_ptr(), self.packed.len());
+        // SAFETY: both slices are lent for the call, with their lengths.
+        self.state = unsafe { ffi::stephylax_text_piece(self.state, text.as_ptr(), text.len(), packed, room) };
+        self.standing()
+    }
+
+    /// Says that the text has ended: how many bytes it took.
+    pub fn end(&mut self) -> Result<usize, Refusal> {
+        // SAFETY: the buffer is lent for the call, with its length.
+        self.state =
+            unsafe { ffi::stephylax_text_end(self.state, self.packed.as_mut_ptr(), self.packed.len()) };
+        self.standing()
+    }
+
+    fn standing(&self) -> Result<usize, Refusal> {
+        // SAFETY: the function takes every state.
+        written(unsafe { ffi::stephylax_text_answer(self.state) })
+    }
+}
+
+/// Judges a packed series: its number of terms.
+pub fn check(packed: &[u8]) -> Result<i64, Refusal> {
+    // SAFETY: the slice is lent for the call, with its length.
+    let checked = unsafe { ffi::stephylax_check(packed.as_ptr(), packed.len()) };
+    answer(checked.refusal, checked.figure, checked.terms)
+}
+
+/// Prints a packed series as plain text: how many bytes of `text` it took.
+pub fn print(packed: &[u8], text: &mut [u8]) -> Result<usize, Refusal> {
+    // SAFETY: both slices are lent for the call, with their lengths.
+    written(unsafe { ffi::stephylax_print(packed.as_ptr(), packed.len(), text.as_mut_ptr(), text.len()) })
+}
+
+/// The coordinates of a packed series at an instant.
+pub fn coordinates_at(packed: &[u8], t: i64) -> Result<Coordinates, Refusal> {
+    // SAFETY: the slice is lent for the call, with its length.
+    let c = unsafe { ffi::stephylax_coordinates_at(packed.as_ptr(), packed.len(), t) };
+    answer(
+        c.refusal,
+        c.figure,
+        Coordinates { longitude: c.longitude, latitude: c.latitude, radius: c.radius },
+    )
+}
+
+/// The apparent place of a planet at an instant.
+pub fn apparent_place(planet: &[u8], earth: &[u8], t: i64) -> Result<Place, Refusal> {
+    // SAFETY: both slices are lent for the call, with their lengths.
+    let p = unsafe {
+        ffi::stephylax_apparent_place(planet.as_ptr(), planet.len(), earth.as_ptr(), earth.len(), t)
+    };
+    answer(
+        p.refusal,
+        p.figure,
+        Place { right_ascension: p.right_ascension, declination: p.declination, distance: p.distance },
+    )
+}
+
+/// The apparent place as the mount takes it, or the number of the refusal.
+pub fn mount_place(planet: &[u8], earth: &[u8], t: i64) -> Result<Mount, u64> {
+    // SAFETY: both slices are lent for the call, with their lengths.
+    let m =
+        unsafe { ffi::stephylax_mount_place(planet.as_ptr(), planet.len(), earth.as_ptr(), earth.len(), t) };
+    if m.refusal != 0 {
+        return Err(m.refusal);
+    }
+    Ok(Mount { right_ascension: m.right_ascension, declination: m.declination, distance: m.distance })
+}
+
+/// Writes the first and last minute of each run near the Sun: how many numbers of `runs` they took.
+pub fn sun_list(
+    planet: &[u8],
+    earth: &[u8],
+    t0: i64,
+    minutes: i64,
+    keep_out: i64,
+    runs: &mut [u64],
+) -> Result<usize, Refusal> {
+    // SAFETY: all three slices are lent for the call, with their lengths.
+    written(unsafe {
+        ffi::stephylax_sun_list(
+            planet.as_ptr(),
+            planet.len(),
+            earth.as_ptr(),
+            earth.len(),
+            t0,
+            minutes,
+            keep_out,
+            runs.as_mut_ptr(),
+            runs.len(),
+        )
+    })
+}

@@ -1,0 +1,253 @@
+//! Random input, long, short, good and damaged: the library and the independent implementation must give the same answers and
+//! leave the same memory. A failure prints the input; the seed of each test is fixed.
+
+mod common;
+
+use common::calls::{Calls, Outcome, LIBRARY, PLAIN};
+use common::generate::{any_number, bodies, date, instant, packed, series, text};
+use common::{cut, hex, published, Random};
+use std::fmt::Debug;
+use stephylax::plain::packed::{pack, Series, Term};
+
+/// How many inputs a test tries: a hundredth where STEPHYLAX_SHORT is set, as under a memory checker.
+fn rounds(n: u64) -> u64 {
+    if std::env::var_os("STEPHYLAX_SHORT").is_some() {
+        return n.div_ceil(100);
+    }
+    n
+}
+
+fn same<A: PartialEq + Debug>(library: A, plain: A, input: impl FnOnce() -> String) {
+    if library != plain {
+        panic!("library {library:?}\nplain   {plain:?}\ninput   {}", input());
+    }
+}
+
+/// How often each refusal came, 0 for an answer: a test whose input never meets a case shows nothing of it.
+struct Seen([u64; 13]);
+
+impl Seen {
+    fn note<A>(&mut self, outcome: &Outcome<A>) {
+        let number = outcome.as_ref().map_or_else(|refusal| refusal.0, |_| 0);
+        self.0[number as usize] += 1;
+    }
+
+    /// Each of these came, and often enough in a full run.
+    fn all(&self, numbers: &[usize]) {
+        println!("answers, then refusals 1 to 12: {:?}", self.0);
+        for &number in numbers {
+            assert!(rounds(100) == 1 || 40 <= self.0[number], "refusal {number} came {} times", self.0[number]);
+        }
+    }
+}
+
+/// Runs a call of both on buffers that hold the same before, and compares answer and buffer.
+fn same_output<T: Copy + PartialEq + Debug>(
+    before: Vec<T>,
+    call: impl Fn(&Calls, &mut [T]) -> Outcome<usize>,
+    input: impl FnOnce() -> String,
+) -> Outcome<usize> {
+    let mut library = before.clone();
+    let mut plain = before;
+    let library_answer = call(&LIBRARY, &mut library);
+    let plain_answer = call(&PLAIN, &mut plain);
+    same((library_answer, library), (plain_answer, plain), input);
+    plain_answer
+}
+
+#[test]
+fn dates_and_day_numbers() {
+    let mut random = Random(11);
+    let mut seen = Seen([0; 13]);
+    for _ in 0..rounds(400_000) {
+        let [year, month, day, ms] = date(&mut random);
+        let input = || format!("{year} {month} {day} {ms}");
+        let answer = (PLAIN.day_of_date)(year, month, day);
+        same((LIBRARY.day_of_date)(year, month, day), answer, input);
+        let all = [year, month, day, ms];
+        let at = (PLAIN.instant_of_date)(all);
+        seen.note(&at);
+        same((LIBRARY.instant_of_date)(all), at, input);
+        if let Ok(n) = answer {
+            assert_eq!((PLAIN.date_of_day)(n), Ok([year, month, day]), "{n}");
+        }
+        let n = if random.one_in(8) { any_number(&mut random) } else { random.between(-2, 5_373_486) };
+        same((LIBRARY.date_of_day)(n), (PLAIN.date_of_day)(n), || n.to_string());
+        let t = instant(&mut random);
+        let answer = (PLAIN.date_of_instant)(t);
+        same((LIBRARY.date_of_instant)(t), answer, || t.to_string());
+        if let Ok(date) = answer {
+            assert_eq!((PLAIN.instant_of_date)(date), Ok(t), "{t}");
+        }
+    }
+    seen.all(&[0, 1, 2]);
+}
+
+/// Every day number there is.
+#[test]
+fn every_day() {
+    let step = if rounds(100) == 1 { 1000 } else { 1 };
+    for n in (0..=5_373_484).step_by(step) {
+        let [year, month, day] = (LIBRARY.date_of_day)(n).unwrap_or_else(|refusal| panic!("{n}: {refusal:?}"));
+        assert_eq!((LIBRARY.day_of_date)(year, month, day), Ok(n), "{year} {month} {day}");
+    }
+}
+
+#[test]
+fn texts() {
+    let mut random = Random(12);
+    let mut seen = Seen([0; 13]);
+    for _ in 0..rounds(150_000) {
+        let text = text(&mut random);
+        let needed = text.len() / 2;
+        let room = if random.one_in(4) { random.below(needed as u64 + 2) as usize } else { needed + 40 };
+        let fill = random.next() as u8;
+        let input = || format!("room {room} text {}", hex(&text));
+        let whole = same_output(vec![fill; room], |calls, out| (calls.read_text)(&text, out), input);
+        let pieces = cut(&text, &mut random);
+        let input = || format!("room {room} pieces {:?}", pieces.iter().map(|piece| hex(piece)).collect::<Vec<_>>());
+        let cut = same_output(vec![fill; room], |calls, out| (calls.read_pieces)(&pieces, out), input);
+        assert_eq!(whole, cut);
+        seen.note(&whole);
+    }
+    seen.all(&[0, 3, 4, 5, 6, 7, 8, 9]);
+}
+
+#[test]
+fn packed_series_checked_and_printed() {
+    let mut random = Random(13);
+    let mut seen = Seen([0; 13]);
+    for _ in 0..rounds(250_000) {
+        let bytes = packed(&mut random);
+        let checked = (PLAIN.check)(&bytes);
+        same((LIBRARY.check)(&bytes), checked, || hex(&bytes));
+        let needed = match (PLAIN.print)(&bytes, &mut []) {
+            Err((7, length)) => length as u64,
+            _ => 60,
+        };
+        let room = if random.one_in(3) { random.below(needed + 2) } else { needed + random.below(3) } as usize;
+        let input = || format!("room {room} packed {}", hex(&bytes));
+        let mut printed = vec![random.next() as u8; room];
+        let answer = same_output(printed.clone(), |calls, out| (calls.print)(&bytes, out), input);
+        seen.note(&answer);
+        if answer.is_ok() {
+            let length = (LIBRARY.print)(&bytes, &mut printed).unwrap();
+            let mut again = vec![0; bytes.len()];
+            assert_eq!((LIBRARY.read_text)(&printed[..length], &mut again), Ok(bytes.len()), "{}", hex(&bytes));
+            assert_eq!(again, bytes, "printed and read again");
+        }
+    }
+    seen.all(&[0, 4, 5, 6, 7, 8, 9, 10]);
+}
+
+#[test]
+fn coordinates() {
+    let mut random = Random(14);
+    let mut seen = Seen([0; 13]);
+    for _ in 0..rounds(250_000) {
+        let bytes = packed(&mut random);
+        let t = instant(&mut random);
+        let input = || format!("t {t} packed {}", hex(&bytes));
+        let plain = (PLAIN.coordinates_at)(&bytes, t);
+        seen.note(&plain);
+        same((LIBRARY.coordinates_at)(&bytes, t), plain, input);
+    }
+    seen.all(&[0, 2, 4, 5, 6, 8, 9, 10]);
+}
+
+#[test]
+fn places() {
+    let mut random = Random(15);
+    let mut seen = Seen([0; 13]);
+    for _ in 0..rounds(60_000) {
+        let (planet, earth) = bodies(&mut random);
+        let t = instant(&mut random);
+        let input = || format!("t {t} planet {} earth {}", hex(&planet), hex(&earth));
+        let plain = (PLAIN.apparent_place)(&planet, &earth, t);
+        same((LIBRARY.apparent_place)(&planet, &earth, t), plain, input);
+        let bits = |calls: &Calls| (calls.mount_place)(&planet, &earth, t).map(|m| m.map(f64::to_bits));
+        same(bits(&LIBRARY), bits(&PLAIN), input);
+        seen.note(&plain);
+    }
+    seen.all(&[0, 2, 4, 5, 6, 8, 9, 10, 11]);
+}
+
+#[test]
+fn sun_lists() {
+    let mut random = Random(16);
+    let mut seen = Seen([0; 13]);
+    let mut listed = 0;
+    for _ in 0..rounds(40_000) {
+        let (planet, earth) = bodies(&mut random);
+        let t0 = if random.one_in(4) { instant(&mut random) } else { random.between(-1 << 45, 1 << 45) };
+        let minutes = match random.below(40) {
+            0 => any_number(&mut random),
+            1 => random.pick(&[0, 1440, 1441, -1]),
+            2 => random.between(1, 1440),
+            _ => random.between(1, 60),
+        };
+        let keep_out = match random.below(20) {
+            0 => any_number(&mut random),
+            1 => random.pick(&[59, 60, 2700, 2701]),
+            _ => random.between(60, 2700),
+        };
+        let room = if random.one_in(3) { random.below(6) } else { 1440 } as usize;
+        let window = [t0, minutes, keep_out];
+        let input = || format!("{window:?} room {room} planet {} earth {}", hex(&planet), hex(&earth));
+        let before = vec![random.next(); room];
+        let answer =
+            same_output(before, |calls, runs| (calls.sun_list)(&planet, &earth, window, runs), input);
+        seen.note(&answer);
+        listed += matches!(answer, Ok(count) if 0 < count) as u64;
+    }
+    seen.all(&[0, 2, 4, 5, 6, 7, 8, 9, 10, 11, 12]);
+    assert!(rounds(40_000) / 50 < listed, "the windows show too little: {listed}");
+}
+
+/// Long input: as many terms as a block and a series can have, and one more.
+#[test]
+fn long_series() {
+    let mut random = Random(17);
+    for _ in 0..rounds(40).max(2) {
+        let mut long = series(&mut random);
+        let constant = random.one_in(2);
+        let first = random.below(18) as usize;
+        for (block, count) in [(first, 4096), ((first + 7) % 18, random.pick(&[4090, 4096, 4097]))] {
+            let term = Term { a: 1, b: !constant as i64, c: 0 };
+            long.blocks[block] = vec![term; count];
+        }
+        long_case(&pack(&long), &long, &mut random);
+    }
+}
+
+fn long_case(bytes: &[u8], long: &Series, random: &mut Random) {
+    let input = || format!("counts {:?}", long.blocks.iter().map(Vec::len).collect::<Vec<_>>());
+    same((LIBRARY.check)(bytes), (PLAIN.check)(bytes), input);
+    let t = instant(random);
+    same((LIBRARY.coordinates_at)(bytes, t), (PLAIN.coordinates_at)(bytes, t), input);
+    let room = 600_000;
+    let mut text = vec![0x5A; room];
+    let printed = same_output(text.clone(), |calls, out| (calls.print)(bytes, out), input);
+    if let Ok(length) = printed {
+        (PLAIN.print)(bytes, &mut text).unwrap();
+        let pieces = cut(&text[..length], random);
+        same_output(vec![1; 50_000], |calls, out| (calls.read_pieces)(&pieces, out), input).unwrap();
+    }
+}
+
+/// The published texts in random cuttings.
+#[test]
+fn published_texts_in_pieces() {
+    let mut random = Random(18);
+    for planet in ["mercury", "venus", "earth"] {
+        let text = published(planet);
+        let mut whole = vec![0xA5; 120_000];
+        let length = (PLAIN.read_text)(&text, &mut whole).unwrap();
+        for _ in 0..rounds(10) {
+            let pieces = cut(&text, &mut random);
+            let mut packed = vec![0xA5; 120_000];
+            assert_eq!((LIBRARY.read_pieces)(&pieces, &mut packed), Ok(length), "{planet}");
+            assert_eq!(packed, whole, "{planet}");
+        }
+    }
+}
