@@ -75,8 +75,7 @@ impl<'a> TextReader<'a> {
     /// Says that the text has ended: how many bytes it took.
     pub fn end(&mut self) -> Result<usize, Refusal> {
         // SAFETY: the buffer is lent for the call, with its length.
-        self.state =
-            unsafe { ffi::stephylax_text_end(self.state, self.packed.as_mut_ptr(), self.packed.len()) };
+        self.state = unsafe { ffi::stephylax_text_end(self.state, self.packed.as_mut_ptr(), self.packed.len()) };
         self.standing()
     }
 
@@ -103,19 +102,13 @@ pub fn print(packed: &[u8], text: &mut [u8]) -> Result<usize, Refusal> {
 pub fn coordinates_at(packed: &[u8], t: i64) -> Result<Coordinates, Refusal> {
     // SAFETY: the slice is lent for the call, with its length.
     let c = unsafe { ffi::stephylax_coordinates_at(packed.as_ptr(), packed.len(), t) };
-    answer(
-        c.refusal,
-        c.figure,
-        Coordinates { longitude: c.longitude, latitude: c.latitude, radius: c.radius },
-    )
+    answer(c.refusal, c.figure, Coordinates { longitude: c.longitude, latitude: c.latitude, radius: c.radius })
 }
 
 /// The apparent place of a planet at an instant.
 pub fn apparent_place(planet: &[u8], earth: &[u8], t: i64) -> Result<Place, Refusal> {
     // SAFETY: both slices are lent for the call, with their lengths.
-    let p = unsafe {
-        ffi::stephylax_apparent_place(planet.as_ptr(), planet.len(), earth.as_ptr(), earth.len(), t)
-    };
+    let p = unsafe { ffi::stephylax_apparent_place(planet.as_ptr(), planet.len(), earth.as_ptr(), earth.len(), t) };
     answer(
         p.refusal,
         p.figure,
@@ -126,8 +119,7 @@ pub fn apparent_place(planet: &[u8], earth: &[u8], t: i64) -> Result<Place, Refu
 /// The apparent place as the mount takes it, or the number of the refusal.
 pub fn mount_place(planet: &[u8], earth: &[u8], t: i64) -> Result<Mount, u64> {
     // SAFETY: both slices are lent for the call, with their lengths.
-    let m =
-        unsafe { ffi::stephylax_mount_place(planet.as_ptr(), planet.len(), earth.as_ptr(), earth.len(), t) };
+    let m = unsafe { ffi::stephylax_mount_place(planet.as_ptr(), planet.len(), earth.as_ptr(), earth.len(), t) };
     if m.refusal != 0 {
         return Err(m.refusal);
     }

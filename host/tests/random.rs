@@ -195,8 +195,7 @@ fn sun_lists() {
         let window = [t0, minutes, keep_out];
         let input = || format!("{window:?} room {room} planet {} earth {}", hex(&planet), hex(&earth));
         let before = vec![random.next(); room];
-        let answer =
-            same_output(before, |calls, runs| (calls.sun_list)(&planet, &earth, window, runs), input);
+        let answer = same_output(before, |calls, runs| (calls.sun_list)(&planet, &earth, window, runs), input);
         seen.note(&answer);
         listed += matches!(answer, Ok(count) if 0 < count) as u64;
     }

@@ -130,8 +130,10 @@ impl Sight {
 
     /// The exact test for k arcminutes.
     pub fn within(&self, k: i64) -> bool {
-        let angle =
-            Fraction { upper: Wide::of(TWO_PI).times_small(k as i128), lower: Wide::of(TWO_PI_LOWER).times_small(21_600) };
+        let angle = Fraction {
+            upper: Wide::of(TWO_PI).times_small(k as i128),
+            lower: Wide::of(TWO_PI_LOWER).times_small(21_600),
+        };
         let r = reference(&angle);
         let left = self.scalar_squared.times(&r.lower.times(&r.lower));
         let right = self.lengths_squared.times(&r.cosine.times(&r.cosine));

@@ -40,7 +40,21 @@ pub const PARTS: i64 = 100_000_000_000;
 /// Rounded n/d: the floor of (2n + d)/(2d).
 #[inline(always)]
 pub fn rounded(n: i128, d: i128) -> i128 {
-    (2 * n + d).div_euclid(2 * d)
+    let (n, d) = (2 * n + d, 2 * d);
+    let cut = n / d;
+    if n < cut * d {
+        return cut - 1;
+    }
+    cut
+}
+
+/// x mod the turn.
+#[inline(always)]
+pub fn within_turn(x: i128) -> i64 {
+    match i64::try_from(x) {
+        Ok(x) => x.rem_euclid(TURN),
+        Err(_) => x.rem_euclid(TURN as i128) as i64,
+    }
 }
 
 /// Refusal 2, for a t past its limit.

@@ -1,7 +1,7 @@
 //! Nutation and obliquity: document 000's five arguments, its whole table, and its mean obliquity.
 
 use super::cosine::{cosine, sine};
-use super::{rounded, MILLENNIUM, TURN, U};
+use super::{rounded, within_turn, MILLENNIUM, TURN, U};
 
 /// The arguments D, M, M', F and Omega in 10^-8 arcsecond: coefficients of the powers 0 to 4 of 10 tau.
 const ARGUMENTS: [[i64; 5]; 5] = [
@@ -60,7 +60,7 @@ pub fn nutation(t: i64) -> Nutation {
     let mut obliquity = 0;
     for row in &TABLE {
         let s: i128 = (0..5).map(|i| row[4 + i] as i128 * arguments[i] as i128).sum();
-        let x = angle(s, ARGUMENT_TURN).rem_euclid(TURN as i128) as i64;
+        let x = within_turn(angle(s, ARGUMENT_TURN));
         longitude += rounded(coefficient(row[0], row[1], t) * sine(x) as i128, U as i128);
         obliquity += rounded(coefficient(row[2], row[3], t) * cosine(x) as i128, U as i128);
     }

@@ -4,7 +4,7 @@ use super::cosine::{cosine, sine};
 use super::nutation::nutation;
 use super::packed::{parse, Series};
 use super::series::{coordinates, Coordinates};
-use super::{refused, rounded, within_limit, Refused, PARTS, TURN, U};
+use super::{refused, rounded, within_limit, within_turn, Refused, PARTS, TURN, U};
 
 /// Three numbers in parts.
 #[derive(Clone, Copy, Debug, PartialEq, Eq)]
@@ -61,7 +61,7 @@ impl Vector {
     }
 
     pub fn of_coordinates(c: Coordinates) -> Vector {
-        let angle = |parts: i64| (100 * parts as i128).rem_euclid(TURN as i128) as i64;
+        let angle = |parts: i64| within_turn(100 * parts as i128);
         Vector::of_angles(c.radius, angle(c.longitude), angle(c.latitude))
     }
 
@@ -88,11 +88,7 @@ impl Vector {
     /// Turned about the x axis by the obliquity.
     fn to_equator(self, obliquity: i64) -> Vector {
         let (c, s) = (cosine(obliquity), sine(obliquity));
-        Vector {
-            x: self.x,
-            y: scaled(self.y, c) - scaled(self.z, s),
-            z: scaled(self.y, s) + scaled(self.z, c),
-        }
+        Vector { x: self.x, y: scaled(self.y, c) - scaled(self.z, s), z: scaled(self.y, s) + scaled(self.z, c) }
     }
 }
 
@@ -169,11 +165,7 @@ pub fn geometry(planet: &Series, earth: &Series, t: i64) -> Option<Geometry> {
 }
 
 /// The apparent place, with the geometry at t and at the earlier instant.
-pub fn apparent_place_worked(
-    planet: &[u8],
-    earth: &[u8],
-    t: i64,
-) -> Result<(Place, Geometry, Geometry), Refused> {
+pub fn apparent_place_worked(planet: &[u8], earth: &[u8], t: i64) -> Result<(Place, Geometry, Geometry), Refused> {
     within_limit(t)?;
     let planet = parse(planet)?;
     let earth = parse(earth)?;
@@ -190,8 +182,7 @@ pub fn apparent_place_worked(
     let longitude = angle_of(direction(seen.x, seen.y)) + nutation.longitude_angle();
     let rebuilt = Vector::of_angles(seen.length(), longitude, angle_of(latitude(seen)));
     let v = rebuilt.to_equator(nutation.obliquity_angle());
-    let place =
-        Place { right_ascension: direction(v.x, v.y), declination: latitude(v), distance: now.distance };
+    let place = Place { right_ascension: direction(v.x, v.y), declination: latitude(v), distance: now.distance };
     Ok((place, now, earlier))
 }
 

@@ -2,7 +2,7 @@
 
 use super::cosine::cosine;
 use super::packed::{parse, Series, Term};
-use super::{rounded, within_limit, Refused, MILLENNIUM, TURN, U};
+use super::{rounded, within_limit, within_turn, Refused, MILLENNIUM, U};
 
 #[derive(Clone, Copy, Debug, PartialEq, Eq)]
 pub struct Coordinates {
@@ -13,7 +13,7 @@ pub struct Coordinates {
 
 pub fn term_angle(term: Term, t: i64) -> i64 {
     let turned = rounded(100 * term.c as i128 * t as i128, MILLENNIUM as i128);
-    (100 * term.b as i128 + turned).rem_euclid(TURN as i128) as i64
+    within_turn(100 * term.b as i128 + turned)
 }
 
 pub fn term_value(term: Term, t: i64) -> i64 {

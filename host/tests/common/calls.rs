@@ -50,9 +50,7 @@ pub const PLAIN: Calls = Calls {
     day_of_date: |year, month, day| outcome(plain::calendar::day_of_date(year, month, day)),
     date_of_day: |n| outcome(plain::calendar::date_of_day(n).map(|d| [d.year, d.month, d.day])),
     instant_of_date: |[year, month, day, ms]| outcome(plain::calendar::instant_of_date(year, month, day, ms)),
-    date_of_instant: |t| {
-        outcome(plain::calendar::date_of_instant(t).map(|(d, ms)| [d.year, d.month, d.day, ms]))
-    },
+    date_of_instant: |t| outcome(plain::calendar::date_of_instant(t).map(|(d, ms)| [d.year, d.month, d.day, ms])),
     read_text: |text, packed| outcome(plain::text::read_text(text, packed)),
     read_pieces: plain_pieces,
     check: |packed| outcome(plain::packed::check(packed)),

@@ -107,7 +107,7 @@ pub fn orbit(random: &mut Random, radius: i64) -> Series {
     series.blocks[0].push(wave(random, size));
     let speed = random.pick(&[0, 1000 * PARTS, 99_000 * PARTS]);
     series.blocks[1].push(constant(random.between(-speed, speed)));
-    series.blocks[6].push(wave(random, random_latitude()));
+    series.blocks[6].push(wave(random, PARTS / 30));
     let radius = match random.below(12) {
         0 => random.pick(&[PARTS / 10, 64 * PARTS]) + random.between(-2, 2),
         1 => random.between(-PARTS, 70 * PARTS),
@@ -124,10 +124,6 @@ pub fn orbit(random: &mut Random, radius: i64) -> Series {
         series.blocks[power].push(wave(random, size));
     }
     series
-}
-
-fn random_latitude() -> i64 {
-    PARTS / 30
 }
 
 /// Packed bytes of a series, damaged in one of many ways.
@@ -206,7 +202,7 @@ fn put_decimal(random: &mut Random, out: &mut Vec<u8>, v: i64) {
 
 fn put_spaces(random: &mut Random, out: &mut Vec<u8>, least: u64) {
     let count = if random.one_in(6) { least + random.below(4) } else { least };
-    out.extend(std::iter::repeat(b' ').take(count as usize));
+    out.resize(out.len() + count as usize, b' ');
 }
 
 /// The text of a series, with odd spaces, and now and then with a fault.
@@ -229,8 +225,7 @@ pub fn text(random: &mut Random) -> Vec<u8> {
             put_decimal(random, &mut out, term.b);
             put_spaces(random, &mut out, 1);
             put_decimal(random, &mut out, term.c);
-            let end = random.pick(&["\n"; 100]);
-            let end = if random.one_in(500) { random.pick(&["\r\n", " \n", "\n\n", ""]) } else { end };
+            let end = if random.one_in(500) { random.pick(&["\r\n", " \n", "\n\n", ""]) } else { "\n" };
             out.extend_from_slice(end.as_bytes());
         }
     }

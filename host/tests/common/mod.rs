@@ -3,6 +3,8 @@
 
 pub mod calls;
 pub mod generate;
+#[cfg(stephylax_linked)]
+pub mod raw;
 
 use std::path::PathBuf;
 

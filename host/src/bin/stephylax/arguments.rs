@@ -24,9 +24,7 @@ impl Arguments {
             let value = if flags.contains(&name) && value.is_none() {
                 String::new()
             } else if valued.contains(&name) {
-                value
-                    .or_else(|| rest.next().cloned())
-                    .ok_or_else(|| Failure::Use(format!("{name} wants a value")))?
+                value.or_else(|| rest.next().cloned()).ok_or_else(|| Failure::Use(format!("{name} wants a value")))?
             } else {
                 return Err(Failure::Use(format!("this command has no option {word}")));
             };

@@ -80,8 +80,7 @@ fn runs(planet: &Series, earth: &Series, window: &Window) -> Result<Vec<Run>, Fa
         progress.show(done, window.minutes);
         let start = window.t0 + MINUTE_MS * done;
         let minutes = (window.minutes - done).min(DAY);
-        let listed =
-            stephylax::sun_list(&planet.packed, &earth.packed, start, minutes, window.keep_out, &mut numbers);
+        let listed = stephylax::sun_list(&planet.packed, &earth.packed, start, minutes, window.keep_out, &mut numbers);
         match listed {
             Ok(count) => join(&mut runs, done, &numbers[..count]),
             Err(refusal) => {

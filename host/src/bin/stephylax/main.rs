@@ -43,9 +43,8 @@ pub fn put(bytes: &[u8]) -> Result<(), Failure> {
 }
 
 fn words() -> Result<Vec<String>, Failure> {
-    let word = |word: std::ffi::OsString| {
-        word.into_string().map_err(|word| Failure::Use(format!("{word:?} is not UTF-8")))
-    };
+    let word =
+        |word: std::ffi::OsString| word.into_string().map_err(|word| Failure::Use(format!("{word:?} is not UTF-8")));
     std::env::args_os().skip(1).map(word).collect()
 }
 

@@ -45,11 +45,8 @@ fn separation(scene: &Scene, t: i64) -> Result<f64, Failure> {
     let (planet, earth) = (vector(scene.planet, t)?, vector(scene.earth, t)?);
     let seen = [0, 1, 2].map(|i| planet[i] - earth[i]);
     let sun = earth.map(|v| -v);
-    let cross = [
-        seen[1] * sun[2] - seen[2] * sun[1],
-        seen[2] * sun[0] - seen[0] * sun[2],
-        seen[0] * sun[1] - seen[1] * sun[0],
-    ];
+    let cross =
+        [seen[1] * sun[2] - seen[2] * sun[1], seen[2] * sun[0] - seen[0] * sun[2], seen[0] * sun[1] - seen[1] * sun[0]];
     let across = cross.iter().map(|v| v * v).sum::<f64>().sqrt();
     let along: f64 = (0..3).map(|i| seen[i] * sun[i]).sum();
     Ok(across.atan2(along).to_degrees())
@@ -139,10 +136,7 @@ fn listed_minutes(svg: &mut String, scale: &Scale, runs: &[Run]) {
         let (x, end) = (scale.x(first as f64), scale.x(last as f64 + 1.0));
         // A short run in a long window is still to be seen.
         let width = (end - x).max(1.5);
-        *svg += &format!(
-            "<rect class='listed' x='{x:.2}' y='{TOP}' width='{width:.2}' height='{}'/>\n",
-            BOTTOM - TOP
-        );
+        *svg += &format!("<rect class='listed' x='{x:.2}' y='{TOP}' width='{width:.2}' height='{}'/>\n", BOTTOM - TOP);
     }
 }
 
@@ -201,11 +195,7 @@ pub fn picture(scene: &Scene) -> Result<String, Failure> {
     let drawn: Vec<String> = drawn.collect();
     svg += &format!("<polyline class='curve' points='{}'/>\n", drawn.join(" "));
     keep_out(&mut svg, &scale, window.keep_out);
-    svg += &format!(
-        "<rect class='frame' x='{LEFT}' y='{TOP}' width='{}' height='{}'/>\n",
-        RIGHT - LEFT,
-        BOTTOM - TOP
-    );
+    svg += &format!("<rect class='frame' x='{LEFT}' y='{TOP}' width='{}' height='{}'/>\n", RIGHT - LEFT, BOTTOM - TOP);
     legend(&mut svg, scene);
     Ok(svg + "</svg>\n")
 }

@@ -1,0 +1,284 @@
+//! The benchmark: the proved library, the plain exact implementation and plain f64, interleaved in one run.
+//!
+//! `cargo run --release --bin bench` takes about two minutes; `-- --quick` a quarter of it. Output buffers are not cleared
+//! between calls, times are of the processor. The f64 program works from tables that are unpacked beforehand; the two others get packed bytes.
+
+use std::hint::black_box;
+use stephylax::floating::{self, Tables};
+use stephylax::plain::packed::{pack, parse, Series};
+use stephylax::plain::{self, text};
+
+/// Keeps the compiler from leaving out the work whose answer this is.
+fn used<A>(answer: A) {
+    black_box(answer);
+}
+
+#[repr(C)]
+struct TimeSpec {
+    seconds: i64,
+    nanoseconds: i64,
+}
+
+extern "C" {
+    fn clock_gettime(clock: i32, time: *mut TimeSpec) -> i32;
+}
+
+/// Seconds of processor time that this thread has used, so that others on the machine are not counted.
+fn processor_seconds() -> f64 {
+    const THREAD_CLOCK: i32 = 3;
+    let mut time = TimeSpec { seconds: 0, nanoseconds: 0 };
+    // SAFETY: the system writes the time of this thread's clock into the struct that it is given.
+    let status = unsafe { clock_gettime(THREAD_CLOCK, &mut time) };
+    assert_eq!(status, 0, "Linux has a clock for each thread");
+    time.seconds as f64 + time.nanoseconds as f64 * 1e-9
+}
+
+/// One program's share of a measurement.
+type Program<'a> = Option<Box<dyn FnMut() + 'a>>;
+
+/// What is measured: how many units one call works, and the three programs.
+struct Measurement<'a> {
+    name: String,
+    units: f64,
+    unit: &'static str,
+    per: f64,
+    library: Program<'a>,
+    plain: Program<'a>,
+    floating: Program<'a>,
+}
+
+fn seconds(program: &mut Program, calls: u32) -> Option<f64> {
+    let work = program.as_mut()?;
+    let start = processor_seconds();
+    for _ in 0..calls {
+        work();
+    }
+    Some((processor_seconds() - start) / calls as f64)
+}
+
+/// Enough calls for a reading of a few milliseconds.
+fn calls_for(program: &mut Program) -> u32 {
+    match seconds(program, 1) {
+        Some(once) => (0.004 / once.max(1e-9)).clamp(1.0, 100_000.0) as u32,
+        None => 1,
+    }
+}
+
+fn median(readings: &mut [f64]) -> Option<f64> {
+    readings.sort_by(f64::total_cmp);
+    readings.get(readings.len() / 2).copied()
+}
+
+fn figure(value: Option<f64>) -> String {
+    value.map_or("-".to_string(), |v| if v < 100.0 { format!("{v:.2}") } else { format!("{v:.0}") })
+}
+
+impl Measurement<'_> {
+    /// One round takes a reading of each program in turn; the medians of all rounds are printed.
+    fn run(&mut self, rounds: usize) {
+        let programs = [&mut self.library, &mut self.plain, &mut self.floating];
+        let calls = programs.map(calls_for);
+        let mut readings = [Vec::new(), Vec::new(), Vec::new()];
+        for _ in 0..rounds {
+            let programs = [&mut self.library, &mut self.plain, &mut self.floating];
+            for (i, program) in programs.into_iter().enumerate() {
+                readings[i].extend(seconds(program, calls[i]));
+            }
+        }
+        let [library, plain, floating] = readings.map(|mut r| median(&mut r).map(|s| s / self.units * self.per));
+        let ratio = |other: Option<f64>| Some(library? / other?);
+        println!(
+            "{:<40}{:>5}{:>11}{:>11}{:>11}{:>10}{:>9}",
+            self.name,
+            self.unit,
+            figure(library),
+            figure(plain),
+            figure(floating),
+            figure(ratio(plain)),
+            figure(ratio(floating))
+        );
+    }
+}
+
+/// A planet in every form.
+struct Planet {
+    name: &'static str,
+    text: Vec<u8>,
+    packed: Vec<u8>,
+    series: Series,
+    tables: Tables,
+}
+
+fn planet(name: &'static str) -> Planet {
+    let path = format!("{}/../data/vsop87d/{name}.txt", env!("CARGO_MANIFEST_DIR"));
+    let text = std::fs::read(&path).unwrap_or_else(|error| panic!("{path}: {error}"));
+    let mut packed = vec![0; text.len()];
+    let length = stephylax::read_text(&text, &mut packed).expect("the published series is good");
+    packed.truncate(length);
+    of_series(name, text, parse(&packed).expect("what was packed is good"))
+}
+
+fn of_series(name: &'static str, text: Vec<u8>, series: Series) -> Planet {
+    Planet { name, text, packed: pack(&series), tables: Tables::of(&series), series }
+}
+
+fn terms(planet: &Planet) -> f64 {
+    planet.series.blocks.iter().map(Vec::len).sum::<usize>() as f64
+}
+
+/// The series with its first terms only, as many of each block in proportion.
+fn shortened(planet: &Planet, share: f64) -> Planet {
+    let mut series = planet.series.clone();
+    for block in &mut series.blocks {
+        block.truncate((block.len() as f64 * share).ceil() as usize);
+    }
+    of_series(planet.name, Vec::new(), series)
+}
+
+const T: i64 = 157_809_600_000;
+const NS: f64 = 1e9;
+const US: f64 = 1e6;
+const MS: f64 = 1e3;
+
+fn coordinates(p: &Planet) -> Measurement<'_> {
+    Measurement {
+        name: format!("coordinates, {}, a term", p.name),
+        units: terms(p),
+        unit: "ns",
+        per: NS,
+        library: Some(Box::new(|| used(stephylax::coordinates_at(&p.packed, black_box(T))))),
+        plain: Some(Box::new(|| used(plain::series::coordinates_at(&p.packed, black_box(T))))),
+        floating: Some(Box::new(|| used(p.tables.coordinates(black_box(T))))),
+    }
+}
+
+fn place<'a>(p: &'a Planet, e: &'a Planet) -> Measurement<'a> {
+    Measurement {
+        name: format!("apparent place, {}", p.name),
+        units: 1.0,
+        unit: "us",
+        per: US,
+        library: Some(Box::new(|| used(stephylax::apparent_place(&p.packed, &e.packed, black_box(T))))),
+        plain: Some(Box::new(|| {
+            used(plain::place::apparent_place(&p.packed, &e.packed, black_box(T)));
+        })),
+        floating: Some(Box::new(|| used(floating::place(&p.tables, &e.tables, black_box(T))))),
+    }
+}
+
+fn list<'a>(name: String, p: &'a Planet, e: &'a Planet, minutes: i64) -> Measurement<'a> {
+    Measurement {
+        name,
+        units: 1.0,
+        unit: "ms",
+        per: MS,
+        library: Some(Box::new(move || {
+            let mut runs = [0; 1440];
+            used(stephylax::sun_list(&p.packed, &e.packed, black_box(T), minutes, 1200, &mut runs));
+        })),
+        plain: Some(Box::new(move || {
+            let mut runs = [0; 1440];
+            used(plain::sun_list::sun_list(&p.packed, &e.packed, black_box(T), minutes, 1200, &mut runs));
+        })),
+        floating: Some(Box::new(move || used(floating::sun_list(&p.tables, &e.tables, black_box(T), minutes, 1200)))),
+    }
+}
+
+fn read_whole(p: &Planet) -> Measurement<'_> {
+    let (mut library, mut plain) = (vec![0; p.text.len()], vec![0; p.text.len()]);
+    Measurement {
+        name: format!("text read and packed, {}, a byte", p.name),
+        units: p.text.len() as f64,
+        unit: "ns",
+        per: NS,
+        library: Some(Box::new(move || used(stephylax::read_text(black_box(&p.text), &mut library)))),
+        plain: Some(Box::new(move || used(text::read_text(black_box(&p.text), &mut plain)))),
+        floating: Some(Box::new(|| used(parsed(black_box(&p.text))))),
+    }
+}
+
+/// What a plain f64 program does with a text: every word parsed.
+fn parsed(text: &[u8]) -> Vec<f64> {
+    let text = std::str::from_utf8(text).expect("ASCII");
+    text.split_ascii_whitespace().map(|word| word.parse().expect("a number")).collect()
+}
+
+fn read_pieces(p: &Planet) -> Measurement<'_> {
+    let (mut library, mut plain) = (vec![0; p.text.len()], vec![0; p.text.len()]);
+    Measurement {
+        name: format!("text in pieces of 4096, {}, a byte", p.name),
+        units: p.text.len() as f64,
+        unit: "ns",
+        per: NS,
+        library: Some(Box::new(move || {
+            let mut reader = stephylax::TextReader::new(&mut library);
+            for piece in black_box(&p.text).chunks(4096) {
+                used(reader.piece(piece));
+            }
+            used(reader.end());
+        })),
+        plain: Some(Box::new(move || {
+            let mut reader = text::Reader::start();
+            for piece in black_box(&p.text).chunks(4096) {
+                reader.piece(piece, &mut plain);
+            }
+            reader.end();
+            used(reader.answer());
+        })),
+        floating: None,
+    }
+}
+
+fn print(p: &Planet) -> Measurement<'_> {
+    let (mut library, mut plain) = (vec![0; p.text.len()], vec![0; p.text.len()]);
+    Measurement {
+        name: format!("printed, {}, a byte of text", p.name),
+        units: p.text.len() as f64,
+        unit: "ns",
+        per: NS,
+        library: Some(Box::new(move || used(stephylax::print(black_box(&p.packed), &mut library)))),
+        plain: Some(Box::new(move || used(plain::packed::print(black_box(&p.packed), &mut plain)))),
+        floating: None,
+    }
+}
+
+fn check(p: &Planet) -> Measurement<'_> {
+    Measurement {
+        name: format!("checked, {}, a packed byte", p.name),
+        units: p.packed.len() as f64,
+        unit: "ns",
+        per: NS,
+        library: Some(Box::new(|| used(stephylax::check(black_box(&p.packed))))),
+        plain: Some(Box::new(|| used(plain::packed::check(black_box(&p.packed))))),
+        floating: None,
+    }
+}
+
+fn main() {
+    let quick = std::env::args().any(|word| word == "--quick");
+    let rounds = if quick { 5 } else { 15 };
+    let list_rounds = if quick { 3 } else { 7 };
+    let (mercury, venus, earth) = (planet("mercury"), planet("venus"), planet("earth"));
+    println!(
+        "{:<40}{:>5}{:>11}{:>11}{:>11}{:>10}{:>9}",
+        "medians", "unit", "library", "plain", "f64", "to plain", "to f64"
+    );
+    for p in [&mercury, &venus] {
+        coordinates(p).run(rounds);
+        place(p, &earth).run(rounds);
+        list(format!("day's list, {}", p.name), p, &earth, 1440).run(list_rounds);
+        read_whole(p).run(rounds);
+        read_pieces(p).run(rounds);
+        print(p).run(rounds);
+        check(p).run(rounds);
+    }
+    println!("\nHow a list grows with its minutes (Mercury)");
+    for minutes in [1, 10, 60, 240, 720, 1440] {
+        list(format!("list of {minutes} minutes"), &mercury, &earth, minutes).run(list_rounds);
+    }
+    println!("\nHow a list of 120 minutes grows with the terms of both series");
+    for share in [0.05, 0.2, 0.5, 1.0] {
+        let (p, e) = (shortened(&mercury, share), shortened(&earth, share));
+        list(format!("{} terms", terms(&p) + terms(&e)), &p, &e, 120).run(list_rounds);
+    }
+}

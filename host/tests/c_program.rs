@@ -1,0 +1,32 @@
+//! A C program against include/stephylax.h: it compiles without a warning and runs.
+
+mod common;
+
+use common::repository;
+use std::path::PathBuf;
+use std::process::Command;
+
+#[test]
+fn example() {
+    let program = PathBuf::from(env!("CARGO_TARGET_TMPDIR")).join("example");
+    let mut compiler = Command::new("gcc");
+    compiler.args(["-std=c99", "-Wall", "-Wextra", "-Werror", "-pedantic", "-O2"]);
+    compiler.arg("-I").arg(repository("include")).arg(repository("host/tests/c/example.c"));
+    if cfg!(stephylax_linked) {
+        compiler.arg(repository("target/staticlib/libstephylax.a")).arg("-o").arg(&program);
+    } else {
+        compiler.arg("-fsyntax-only");
+    }
+    let compiled = compiler.output().expect("gcc runs");
+    assert!(compiled.status.success(), "{}", String::from_utf8_lossy(&compiled.stderr));
+    if !cfg!(stephylax_linked) {
+        return;
+    }
+    let data = repository("data/vsop87d");
+    let run = Command::new(&program).arg(data.join("mercury.txt")).arg(data.join("earth.txt")).output().unwrap();
+    assert_eq!(
+        String::from_utf8_lossy(&run.stdout),
+        "the thirty-first of February: refused 1\nkeep the tube shut from minute 0 to 1439\n"
+    );
+    assert_eq!(run.status.code(), Some(0));
+}

@@ -1,0 +1,118 @@
+//! The C interface itself: every field of every answer, those that an answer does not use too, which are 0.
+
+use super::calls::{Calls, Outcome};
+use stephylax::ffi::{self, Written};
+
+/// An answer with the fields of its struct; a refusal with all of them 0.
+fn flat<const N: usize>(refusal: u64, figure: i64, fields: [i64; N]) -> Outcome<[i64; N]> {
+    if refusal == 0 {
+        assert_eq!(figure, 0, "an answer has no figure");
+        return Ok(fields);
+    }
+    assert_eq!(fields, [0; N], "a refusal has no answer");
+    Err((refusal, figure))
+}
+
+fn written(written: Written) -> Outcome<usize> {
+    flat(written.refusal, written.figure, [written.length]).map(|[length]| length as usize)
+}
+
+fn date(date: ffi::Date) -> Outcome<[i64; 4]> {
+    flat(date.refusal, date.figure, [date.year, date.month, date.day, date.ms])
+}
+
+fn mount(m: ffi::Mount) -> Result<[f64; 3], u64> {
+    let fields = [m.right_ascension, m.declination, m.distance];
+    if m.refusal != 0 {
+        assert_eq!(fields.map(f64::to_bits), [0; 3], "a refusal has no answer");
+        return Err(m.refusal);
+    }
+    Ok(fields)
+}
+
+/// Every state that a call gives is used again, once, before the next: a state is a value.
+fn pieces(pieces: &[&[u8]], packed: &mut [u8]) -> Outcome<usize> {
+    let (out, room) = (packed.as_mut_ptr(), packed.len());
+    // SAFETY: the pieces and the buffer are lent for each call, with their lengths.
+    unsafe {
+        let mut state = ffi::stephylax_text_start();
+        for piece in pieces {
+            let first = ffi::stephylax_text_piece(state, piece.as_ptr(), piece.len(), out, room);
+            let again = ffi::stephylax_text_piece(state, piece.as_ptr(), piece.len(), out, room);
+            assert_eq!(first, again, "the same state and piece gave two states");
+            state = first;
+        }
+        state = ffi::stephylax_text_end(state, out, room);
+        let answer = ffi::stephylax_text_answer(state);
+        for piece in pieces {
+            state = ffi::stephylax_text_piece(state, piece.as_ptr(), piece.len(), out, room);
+            assert_eq!(ffi::stephylax_text_answer(state), answer, "a call after the end changed the answer");
+        }
+        written_so_far(answer)
+    }
+}
+
+/// As `written`, but a refused text may say how much is packed.
+fn written_so_far(written: Written) -> Outcome<usize> {
+    if written.refusal == 0 {
+        assert_eq!(written.figure, 0, "an answer has no figure");
+        return Ok(written.length as usize);
+    }
+    Err((written.refusal, written.figure))
+}
+
+/// The proved library through its C interface.
+pub const RAW: Calls = Calls {
+    name: "C interface",
+    // SAFETY: every function takes every number, and every slice is lent for the call with its length.
+    day_of_date: |year, month, day| unsafe {
+        let d = ffi::stephylax_day_of_date(year, month, day);
+        flat(d.refusal, d.figure, [d.day_number]).map(|[n]| n)
+    },
+    date_of_day: |n| unsafe {
+        date(ffi::stephylax_date_of_day(n)).map(|[year, month, day, ms]| {
+            assert_eq!(ms, 0, "a day number has no time");
+            [year, month, day]
+        })
+    },
+    instant_of_date: |[year, month, day, ms]| unsafe {
+        let i = ffi::stephylax_instant_of_date(year, month, day, ms);
+        flat(i.refusal, i.figure, [i.t]).map(|[t]| t)
+    },
+    date_of_instant: |t| unsafe { date(ffi::stephylax_date_of_instant(t)) },
+    read_text: |text, packed| unsafe {
+        written(ffi::stephylax_read_text(text.as_ptr(), text.len(), packed.as_mut_ptr(), packed.len()))
+    },
+    read_pieces: pieces,
+    check: |packed| unsafe {
+        let c = ffi::stephylax_check(packed.as_ptr(), packed.len());
+        flat(c.refusal, c.figure, [c.terms]).map(|[terms]| terms)
+    },
+    print: |packed, text| unsafe {
+        written(ffi::stephylax_print(packed.as_ptr(), packed.len(), text.as_mut_ptr(), text.len()))
+    },
+    coordinates_at: |packed, t| unsafe {
+        let c = ffi::stephylax_coordinates_at(packed.as_ptr(), packed.len(), t);
+        flat(c.refusal, c.figure, [c.longitude, c.latitude, c.radius])
+    },
+    apparent_place: |planet, earth, t| unsafe {
+        let p = ffi::stephylax_apparent_place(planet.as_ptr(), planet.len(), earth.as_ptr(), earth.len(), t);
+        flat(p.refusal, p.figure, [p.right_ascension, p.declination, p.distance])
+    },
+    mount_place: |planet, earth, t| unsafe {
+        mount(ffi::stephylax_mount_place(planet.as_ptr(), planet.len(), earth.as_ptr(), earth.len(), t))
+    },
+    sun_list: |planet, earth, [t0, minutes, keep_out], runs| unsafe {
+        written(ffi::stephylax_sun_list(
+            planet.as_ptr(),
+            planet.len(),
+            earth.as_ptr(),
+            earth.len(),
+            t0,
+            minutes,
+            keep_out,
+            runs.as_mut_ptr(),
+            runs.len(),
+        ))
+    },
+};

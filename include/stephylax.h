@@ -1,0 +1,192 @@
+/*
+ * stephylax.h: places of planets, and the minutes when one stands too near the Sun, from a proved library.
+ *
+ * Every function takes every input and comes to an end. An answer has `refusal` 0; a refusal has its number there and what
+ * comes with it in `figure`. Fields that an answer does not use are 0. A refusal leaves the lent memory as it was, unless
+ * said otherwise below; a success leaves untouched what lies past its output. A slice is a pointer and a length: the pointer
+ * has to be good for that many elements, and an output must not overlap another slice of the call. Nothing else has to be
+ * checked beforehand.
+ *
+ *   no.  given exactly when                                                   figure
+ *    1   year, month, day (the skipped days of 1582 too), ms or a day         first bad field, 1 to 4 in that order;
+ *        number does not exist                                                5 for a day number
+ *    2   t, or the light-time instant, passes its limit                       that instant
+ *    3   a text byte cannot continue a line                                   its offset
+ *    4   a number or count passes its limit, or a packed number goes past     offset
+ *        nine groups
+ *    5   the amplitudes of a block total more than their limit                offset
+ *    6   the series is too coarse                                             offset
+ *    7   the output does not fit                                              the length it would need; for a text
+ *                                                                             the offset
+ *    8   the input ended before block 18 did                                  its length
+ *    9   a byte follows block 18                                              its offset
+ *   10   a packed number is not in its shortest form                          offset
+ *   11   a place is not usable                                                the minute of a list, else 0
+ *   12   keep-out outside 60 to 2,700 arcminutes, or minutes outside          0
+ *        1 to 1,440
+ *
+ * Units: t is in whole milliseconds of TD from 2000-01-01 12h, negative before, and at most 63,115,200,000,000 (two
+ * millennia) from 0. Parts are 10^-11 radian or AU. "01" is the paper of rules; its section stands with each function.
+ */
+#ifndef STEPHYLAX_H
+#define STEPHYLAX_H
+
+#include <stddef.h>
+#include <stdint.h>
+
+#ifdef __cplusplus
+extern "C" {
+#endif
+
+typedef struct { uint64_t refusal; int64_t figure; int64_t day_number; } stephylax_day;
+typedef struct { uint64_t refusal; int64_t figure; int64_t year, month, day, ms; } stephylax_date;
+typedef struct { uint64_t refusal; int64_t figure; int64_t t; } stephylax_instant;
+typedef struct { uint64_t refusal; int64_t figure; int64_t length; } stephylax_written;
+typedef struct { uint64_t refusal; int64_t figure; int64_t terms; } stephylax_checked;
+typedef struct { uint64_t refusal; int64_t figure; int64_t longitude, latitude, radius; } stephylax_coordinates;
+typedef struct { uint64_t refusal; int64_t figure; int64_t right_ascension, declination, distance; } stephylax_place;
+typedef struct { uint64_t refusal; double right_ascension, declination, distance; } stephylax_mount;
+
+/* The state of a text reader, given and returned by value. Its words are the library's own. */
+typedef struct { uint64_t words[24]; } stephylax_text;
+
+/*
+ * stephylax_day_of_date: noon day number of a date.
+ *   Given     year, month, day      a date, Julian through 1582-10-04, Gregorian from 1582-10-15; the year 0 exists
+ *   Returned  day_number            0 to 5,373,484
+ *   Refused   1
+ *   Range     years -4712 to 9999
+ *   Rules     01, Calendar
+ */
+stephylax_day stephylax_day_of_date(int64_t year, int64_t month, int64_t day);
+
+/*
+ * stephylax_date_of_day: date of a noon day number.
+ *   Given     day_number
+ *   Returned  year, month, day      the one date that has this number; ms is 0
+ *   Refused   1 (figure 5)
+ *   Range     0 to 5,373,484
+ *   Rules     01, Calendar
+ */
+stephylax_date stephylax_date_of_day(int64_t day_number);
+
+/*
+ * stephylax_instant_of_date: instant of a date and time of day.
+ *   Given     year, month, day, ms  a date, and milliseconds since its midnight, 0 to 86,399,999
+ *   Returned  t
+ *   Refused   1, then 2
+ *   Range     -1-12-19 12h to 4000-01-16 12h
+ *   Rules     01, Calendar
+ */
+stephylax_instant stephylax_instant_of_date(int64_t year, int64_t month, int64_t day, int64_t ms);
+
+/*
+ * stephylax_date_of_instant: date and time of day of an instant.
+ *   Given     t
+ *   Returned  year, month, day, ms
+ *   Refused   2
+ *   Range     |t| at most 63,115,200,000,000
+ *   Rules     01, Calendar
+ */
+stephylax_date stephylax_date_of_instant(int64_t t);
+
+/*
+ * stephylax_read_text: a series text, whole, to its packed form.
+ *   Given     text, n               the text
+ *             packed, room          output
+ *   Returned  length                bytes of the packed form, which stands at the beginning of `packed`
+ *   Refused   the first of 3, 4, 5, 6, 7, 8, 9, with its offset; `packed` then holds the packed form of all lines before
+ *   Range     4,096 terms a block, 8,192 a series; the packed form is shorter than the text
+ *   Rules     01, Series, as text and packed; Refusals and what they leave
+ */
+stephylax_written stephylax_read_text(const uint8_t *text, size_t n, uint8_t *packed, size_t room);
+
+/*
+ * stephylax_text_start, _piece, _end, _answer: the same for a text that comes in pieces of any lengths, zero too.
+ *   Given     state                 what the call before returned, from stephylax_text_start() on
+ *             text, n               the next piece
+ *             packed, room          output, the same buffer in all calls, unaltered between them
+ *   Returned  the next state; from stephylax_text_answer what stands: `length` is what is packed so far, and after
+ *             stephylax_text_end of an accepted text the length of its packed form
+ *   Refused   as stephylax_read_text, with offsets from the beginning of the whole text; calls after a refusal or after
+ *             the end repeat the answer and write nothing
+ *   Range     any number of bytes that a size_t counts. A state that no call gave, another buffer or altered packed
+ *             bytes are safe, but their answer is undecided
+ *   Rules     01, Series, as text and packed; Refusals and what they leave
+ */
+stephylax_text stephylax_text_start(void);
+stephylax_text stephylax_text_piece(stephylax_text state, const uint8_t *text, size_t n, uint8_t *packed, size_t room);
+stephylax_text stephylax_text_end(stephylax_text state, uint8_t *packed, size_t room);
+stephylax_written stephylax_text_answer(stephylax_text state);
+
+/*
+ * stephylax_check: whether packed bytes are a good series.
+ *   Given     packed, n
+ *   Returned  terms                 how many terms the series has
+ *   Refused   the first of 4, 5, 6, 8, 9, 10
+ *   Rules     01, Series, as text and packed; Refusals and what they leave
+ */
+stephylax_checked stephylax_check(const uint8_t *packed, size_t n);
+
+/*
+ * stephylax_print: a packed series to plain text, which stephylax_read_text packs to the same bytes.
+ *   Given     packed, n
+ *             text, room            output
+ *   Returned  length                bytes of the text
+ *   Refused   as stephylax_check, then 7 with the length of the whole text
+ *   Rules     01, Series, as text and packed
+ */
+stephylax_written stephylax_print(const uint8_t *packed, size_t n, uint8_t *text, size_t room);
+
+/*
+ * stephylax_coordinates_at: heliocentric coordinates of a series at an instant.
+ *   Given     packed, n, t
+ *   Returned  longitude, latitude   parts of a radian; the longitude keeps its whole turns
+ *             radius                parts of an AU
+ *   Refused   2, then as stephylax_check
+ *   Range     within 10^-6 (radian or AU) of the exact sum of the series
+ *   Rules     01, Working cosine and sums
+ */
+stephylax_coordinates stephylax_coordinates_at(const uint8_t *packed, size_t n, int64_t t);
+
+/*
+ * stephylax_apparent_place: apparent equatorial place of a planet, seen from Earth.
+ *   Given     planet, np, earth, ne, t   both packed series
+ *   Returned  right_ascension, declination   hundredths of an arcsecond
+ *             distance                       parts of an AU, at t
+ *   Refused   2, the planet's series, Earth's series, 11, then 2 and 11 at the earlier instant
+ *   Range     both radii 0.1 to 64 AU, distance at least 0.1 AU and a sixteenth of the sum of both radii
+ *   Rules     01, Places
+ */
+stephylax_place stephylax_apparent_place(const uint8_t *planet, size_t np, const uint8_t *earth, size_t ne, int64_t t);
+
+/*
+ * stephylax_mount_place: the same as doubles for a mount.
+ *   Given     planet, np, earth, ne, t
+ *   Returned  right_ascension, declination   degrees: the whole number over 360000.0, rounded once
+ *             distance                       AU: the whole number over 1e11, rounded once
+ *   Refused   as stephylax_apparent_place, the number alone
+ *   Rules     01, Places
+ */
+stephylax_mount stephylax_mount_place(const uint8_t *planet, size_t np, const uint8_t *earth, size_t ne, int64_t t);
+
+/*
+ * stephylax_sun_list: the minutes at which a planet stands too near the Sun.
+ *   Given     planet, np, earth, ne      both packed series
+ *             t0, minutes                minute j is t0 + 60,000 j, j from 0 to minutes - 1
+ *             keep_out                   arcminutes
+ *             runs, room                 output, in numbers; 1,440 always do
+ *   Returned  length                     how many numbers: first and last minute of each run of listed minutes, ascending
+ *   Refused   12, 2 (first, then last minute), the planet's series, Earth's series, 11 at the first bad minute, 7 with the
+ *             count of numbers it would need
+ *   Range     every minute within keep_out by the exact sums is in a run, and none farther out than keep_out + 2
+ *   Rules     01, Sun list
+ */
+stephylax_written stephylax_sun_list(const uint8_t *planet, size_t np, const uint8_t *earth, size_t ne,
+                                     int64_t t0, int64_t minutes, int64_t keep_out, uint64_t *runs, size_t room);
+
+#ifdef __cplusplus
+}
+#endif
+
+#endif
