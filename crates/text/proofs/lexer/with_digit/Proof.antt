@@ -1,0 +1,41 @@
+-- `text::lexer::with_digit` meets its contract: a digit that goes on fits. Assumes nothing.
+use mathlib.Core.Path.{_≡_, sym, _∙_}
+use mathlib.Core.Bool.{true}
+use native.Mathlib.Omega.{arith}
+use borrow.Author.Needs.{needs}
+use Rattle.text.specs.Lexer.{takesDigit, withDigit}
+use Rattle.text.proofs.Digits.{small, early}
+use Rattle.text.proofs.lexer.with_digit.Statement.{statement}
+use Rattle.text.proofs.lexer.with_digit.Tie as tie
+
+takes-digit-requires : tie.Need-takes-digit-requires
+takes-digit-requires c κs = search needs
+
+took : (c : tie.Then1) → let a = c .before .before .args in takesDigit (a .l .spot) (a .l .minus) (a .l .value) (a .d) ≡ true
+took c = sym (c .before .takes-digit .ensures) ∙ c .if1 .taken
+
+add-t4 : tie.Need-add-t4
+add-t4 c = omega (arith, early _ _ _ _ (took (c .before)))
+
+mul-t5 : tie.Need-mul-t5
+mul-t5 c = omega (arith, small _ _ _ _ (took (c .before .before)))
+
+add-t6 : tie.Need-add-t6
+add-t6 c = omega (arith, small _ _ _ _ (took (c .before .before)), c .before .before .before .before .pre)
+
+returns : tie.Need-returns
+unfolding withDigit
+returns c = rw (took (c .before .before))
+
+fresh-line-requires : tie.Need-fresh-line-requires
+fresh-line-requires c κs = search needs
+
+returns-2 : tie.Need-returns-2
+unfolding withDigit
+returns-2 c =
+    rw (c .fresh-line .ensures, sym (c .before .before .takes-digit .ensures) ∙ c .before .if1 .left)
+
+pub with-digit-spec : {M : Type 1} → statement M
+with-digit-spec =
+    tie.close
+    (tie.spec takes-digit-requires add-t4 mul-t5 add-t6 returns fresh-line-requires returns-2)

@@ -1,0 +1,56 @@
+-- `text::piece` meets its contract: what is left to run gives what the whole piece gives. Assumes nothing.
+use mathlib.Core.Path.{_≡_, refl, sym, ap, _∙_}
+use Prim.Native.Nat.{_-_}
+use native.Mathlib.Omega.{arith}
+use borrow.Author.Needs.{needs}
+use lib.ListN.{length}
+use lib.ListN.{drop}
+use Rattle.text.proofs.Stepping.{run-more, run-end}
+use Rattle.text.specs.Reader.{Run, run}
+use Rattle.text.proofs.piece.Statement.{statement}
+use Rattle.text.proofs.piece.Tie as tie
+
+abbrev Inv-loop : tie.InvT-loop
+Inv-loop text out₀ reader₀ i₀ out reader i = (length out ≡ length out₀) × (run reader out (drop i text) ≡ run reader₀ out₀ text)
+
+abbrev μ-loop : tie.MeasureT-loop
+μ-loop text out₀ reader₀ i₀ out reader i = length text - i
+
+loop-holds : tie.Need-loop-holds Inv-loop μ-loop
+loop-holds c = (refl, refl)
+
+shared-slice-read-take-byte : tie.Need-shared-slice-read-take-byte Inv-loop μ-loop
+shared-slice-read-take-byte c = omega arith
+
+take-byte-requires : tie.Need-take-byte-requires Inv-loop μ-loop
+take-byte-requires c κs = search needs
+
+add-i : tie.Need-add-i Inv-loop μ-loop
+add-i c = omega arith
+
+loop-less : tie.Need-loop-less Inv-loop μ-loop
+loop-less c = omega arith
+
+loop-again : tie.Need-loop-again Inv-loop μ-loop
+loop-again c = let l = c .before .before .before .before .before .before .loop in let t = c .before .before .take-byte in let s = c .before .before .before .before .before .before .before .before .before .args .text .now in (t .kept .1 .1 .0 ∙ l .inv .0, sym (run-more _ _ _ _ s (l .i) _ refl (omega arith) (t .ensures .0) (t .ensures .1)) ∙ l .inv .1)
+
+same-length : tie.Need-same-length Inv-loop μ-loop
+same-length c = c .before .loop .inv .0
+
+returns : tie.Need-returns Inv-loop μ-loop
+returns c = let l = c .before .loop in let e = sym (run-end (l .reader) (l .out) _ (l .i) (omega arith)) ∙ l .inv .1 in (ap (λ (x : Run). x .reader) e, ap (λ (x : Run). x .out) e)
+
+pub piece-spec : {M : Type 1} → statement M
+piece-spec =
+    tie.close
+    (tie.spec
+    Inv-loop
+    μ-loop
+    loop-holds
+    shared-slice-read-take-byte
+    take-byte-requires
+    add-i
+    loop-less
+    loop-again
+    same-length
+    returns)

@@ -1,0 +1,30 @@
+-- `text::read` meets its contract. Assumes nothing.
+use mathlib.Core.Path.{ap, _∙_}
+use borrow.Author.Needs.{needs}
+use Rattle.text.specs.Reader.{run, ended, told}
+use Rattle.text.specs.declared.Reader.{Reader}
+use Rattle.text.proofs.read.Statement.{statement}
+use Rattle.text.proofs.read.Tie as tie
+
+start-requires : tie.Need-start-requires
+start-requires c κs = search needs
+
+piece-requires : tie.Need-piece-requires
+piece-requires c κs = search needs
+
+end-requires : tie.Need-end-requires
+end-requires c κs = search needs
+
+answer-requires : tie.Need-answer-requires
+answer-requires c κs = search needs
+
+same-length : tie.Need-same-length
+same-length c = search needs
+
+returns : tie.Need-returns
+returns c = let a = c .before .before .before .before .before .before .before .before .before .before .before .before .args in let t = a .text .now in let o = a .out .now in let b = c .before .before .before .before .before .before .before .before .before .start .ensures in let e = c .before .before .before .before .before .before .before .piece .ensures .0 ∙ ap (λ (r : Reader). run r o t .reader) b in (c .answer .ensures ∙ ap told (c .before .before .before .end .ensures .0 ∙ ap ended e), c .before .before .before .end .ensures .1 ∙ c .before .before .before .before .before .before .before .piece .ensures .1 ∙ ap (λ (r : Reader). run r o t .out) b)
+
+pub read-spec : {M : Type 1} → statement M
+read-spec =
+    tie.close
+    (tie.spec start-requires piece-requires end-requires answer-requires same-length returns)

@@ -1,0 +1,21 @@
+-- `text::steps::next_spot` meets its contract. Assumes nothing.
+use native.Mathlib.Omega.{arith}
+use borrow.Author.Tests.{eq-eqb, ne-eqb}
+use Rattle.text.specs.Reader.{nextSpot}
+use Rattle.text.proofs.steps.next_spot.Statement.{statement}
+use Rattle.text.proofs.steps.next_spot.Tie as tie
+
+returns : tie.Need-returns
+unfolding nextSpot
+returns c = let a = c .before .before .args in rw (eq-eqb (a .left) 0 (omega arith), eq-eqb (a .blocks) 18 (omega arith))
+
+returns-2 : tie.Need-returns-2
+unfolding nextSpot
+returns-2 c = let a = c .before .before .args in rw (eq-eqb (a .left) 0 (omega arith), ne-eqb (a .blocks) 18 (λ e. omega (arith, e)))
+
+returns-3 : tie.Need-returns-3
+unfolding nextSpot
+returns-3 c = let a = c .before .args in rw (ne-eqb (a .left) 0 (λ e. omega (arith, e)))
+
+pub next-spot-spec : {M : Type 1} → statement M
+next-spot-spec = tie.close (tie.spec returns returns-2 returns-3)

@@ -1,0 +1,170 @@
+-- Document 01, "Series, as text and packed" and "Refusals": the reader of a text. A call folds the step of one byte over its bytes, so how
+-- the text is cut into calls cannot matter.
+use mathlib.Core.Bool.{Bool, cond}
+use mathlib.Core.List.{List, [], _∷_}
+use Prim.Native.Nat.{ℕ, _+_}
+use lib.Dec.{leb, eqb}
+use lib.ListN.{length}
+use lib.Seq.{sets}
+use Rattle.units.specs.declared.Refusal.{Refusal}
+use Rattle.units.specs.declared.Refusal.the-variants.{BadByte, OverLimit, TotalOverLimit, TooCoarse, NoRoom, EndedEarly, ByteAfterEnd}
+use Rattle.packed.specs.declared.Sums.{Sums}
+use Rattle.packed.specs.Limits.{block-count, coarse-base}
+use Rattle.text.specs.declared.Line.{Line}
+use Rattle.text.specs.declared.Reader.{Reader}
+use Rattle.text.specs.declared.Outcome.{Outcome}
+use Rattle.text.specs.declared.Outcome.the-variants.{More, Accepted, Refused}
+use Rattle.text.specs.Lexer.{fresh, lex, spot-decimal, spot-count, spot-after, spot-bad}
+use Rattle.text.specs.Judge.{Verdict, verdict}
+
+-- The status of a reader: it reads, it has accepted the text at its end, or it has refused it, with the refusal's number.
+abbrev pub reading : ℕ
+reading = 0
+
+abbrev pub accepted : ℕ
+accepted = 1
+
+-- Before the first byte.
+abbrev pub begun : Reader
+begun =
+    record {
+      line = fresh spot-count;
+      at = 0;
+      written = 0;
+      blocks = 0;
+      left = 0;
+      terms = 0;
+      total = 0;
+      coarse = coarse-base;
+      status = reading;
+      place = 0;
+    }
+
+-- The first refusal, with the offset of the byte that is judged; at the end, with the number of bytes.
+abbrev pub stopped : Reader → ℕ → Reader
+stopped r status =
+    record {
+      line = r .line;
+      at = r .at;
+      written = r .written;
+      blocks = r .blocks;
+      left = r .left;
+      terms = r .terms;
+      total = r .total;
+      coarse = r .coarse;
+      status = status;
+      place = r .at;
+    }
+
+-- One byte further in the line.
+abbrev pub inLine : Reader → Line → Reader
+inLine r line =
+    record {
+      line = line;
+      at = r .at + 1;
+      written = r .written;
+      blocks = r .blocks;
+      left = r .left;
+      terms = r .terms;
+      total = r .total;
+      coarse = r .coarse;
+      status = reading;
+      place = 0;
+    }
+
+-- The next line has a term, or a count, or nothing more may come.
+unfoldable pub nextSpot : ℕ → ℕ → ℕ
+nextSpot blocks left = cond (eqb left 0) (cond (eqb blocks block-count) spot-after spot-count) spot-decimal
+
+-- After a line that was written up to written.
+abbrev pub advanced : Reader → ℕ → ℕ → ℕ → Sums → Reader
+advanced r written blocks left s =
+    record {
+      line = fresh (nextSpot blocks left);
+      at = r .at + 1;
+      written = written;
+      blocks = blocks;
+      left = left;
+      terms = s .terms;
+      total = s .total;
+      coarse = s .coarse;
+      status = reading;
+      place = 0;
+    }
+
+abbrev pub nextLine : Reader → Verdict → Reader
+nextLine r v = advanced r (r .written + length (v .bytes)) (v .blocks) (v .left) (v .sums)
+
+-- The writer, after the judgement of a line: 7 where its bytes do not fit.
+unfoldable pub fits : List ℕ → ℕ → List ℕ → Bool
+fits bytes written out = leb (written + length bytes) (length out)
+
+unfoldable pub wrote : Reader → List ℕ → Verdict → Reader
+wrote r out v =
+    cond (eqb (v .refusal) 0)
+    (cond (fits (v .bytes) (r .written) out) (nextLine r v) (stopped r 7))
+    (stopped r (v .refusal))
+
+unfoldable pub putBytes : List ℕ → ℕ → List ℕ → List ℕ
+putBytes bytes written out = cond (fits bytes written out) (sets out written bytes) out
+
+unfoldable pub wroteOut : Reader → List ℕ → Verdict → List ℕ
+wroteOut r out v = cond (eqb (v .refusal) 0) (putBytes (v .bytes) (r .written) out) out
+
+-- A byte that is no line feed: 3 where it cannot continue the line.
+unfoldable pub other : Reader → ℕ → Reader
+other r byte = cond (eqb (lex (r .line) byte .spot) spot-bad) (stopped r 3) (inLine r (lex (r .line) byte))
+
+-- Undecided by document 01: one more byte than a usize counts. The reader then stops.
+unfoldable pub uncounted : Reader → Bool
+uncounted r = eqb (r .at) 18446744073709551615
+
+-- One byte: the reader and the output after it. A reader that has stopped stays as it is; any byte after block 18 is 9.
+unfoldable pub step : Reader → List ℕ → ℕ → Reader
+step r out byte =
+    cond (eqb (r .status) reading)
+    (cond (uncounted r) (stopped r 3)
+    (cond (eqb (r .line .spot) spot-after) (stopped r 9)
+    (cond (eqb byte 10) (wrote r out (verdict r)) (other r byte))))
+    r
+
+unfoldable pub stepOut : Reader → List ℕ → ℕ → List ℕ
+stepOut r out byte =
+    cond (eqb (r .status) reading)
+    (cond (uncounted r) out
+    (cond (eqb (r .line .spot) spot-after) out
+    (cond (eqb byte 10) (wroteOut r out (verdict r)) out)))
+    out
+
+-- A call: reader and output after its bytes.
+pub record Run : Type 0 where
+  pub reader : Reader
+  pub out : List ℕ
+
+unfoldable pub run : Reader → List ℕ → List ℕ → Run
+run r out [] = record { reader = r; out = out }
+run r out (byte ∷ bytes) = run (step r out byte) (stepOut r out byte) bytes
+
+-- The last call: accepted after block 18, else 8 with the number of bytes.
+unfoldable pub ended : Reader → Reader
+ended r = cond (eqb (r .status) reading) (stopped r (cond (eqb (r .line .spot) spot-after) accepted 8)) r
+
+-- What stands: more may come, with the packed length so far; or the answer, which later calls repeat.
+unfoldable pub refusal : ℕ → ℕ → Refusal
+refusal status place =
+    cond (eqb status 4) (OverLimit place)
+    (cond (eqb status 5) (TotalOverLimit place)
+    (cond (eqb status 6) (TooCoarse place)
+    (cond (eqb status 7) (NoRoom place)
+    (cond (eqb status 8) (EndedEarly place)
+    (cond (eqb status 9) (ByteAfterEnd place)
+    (BadByte place))))))
+
+unfoldable pub told : Reader → Outcome
+told r =
+    cond (eqb (r .status) reading) (More (r .written))
+    (cond (eqb (r .status) accepted) (Accepted (r .written)) (Refused (refusal (r .status) (r .place))))
+
+-- The whole text in one call, then its end.
+abbrev pub whole : List ℕ → List ℕ → Run
+whole text out = record { reader = ended (run begun out text .reader); out = run begun out text .out }

@@ -1,0 +1,112 @@
+// The reader of series texts (document 01, "Series, as text and packed"): a text comes in pieces, all with one output buffer, and its
+// packed form is written there line by line.
+mod judge;
+mod lexer;
+mod steps;
+mod writer;
+
+use crate::steps::close;
+use crate::steps::refusal_of;
+use crate::steps::take_byte;
+use units::Refusal;
+ghost use mathlib.Core.Path.{_≡_};
+ghost use Rattle.text.specs.Reader.{begun, Run, run, ended, told, whole};
+
+// A line as far as it is read: where the next byte stands (specs/Lexer.antt), how many decimals stand before this one, the decimal or
+// count so far, with 1 for a minus, and the two decimals before it, in parts.
+#[repr(C)]
+pub struct Line {
+    pub spot: u64,
+    pub field: u64,
+    pub minus: u64,
+    pub value: u64,
+    pub minusa: u64,
+    pub a: u64,
+    pub minusb: u64,
+    pub b: u64,
+}
+
+// What a reader has of the text so far: the line, the bytes read and written, the counts that have come, the terms that are left of the
+// block, the sums so far (packed::Sums), and the status with its place: 0 while it reads, 1 for a text that was accepted, else the
+// refusal's number.
+#[repr(C)]
+pub struct Reader {
+    pub line: Line,
+    pub at: usize,
+    pub written: usize,
+    pub blocks: u64,
+    pub left: u64,
+    pub terms: u64,
+    pub total: u64,
+    pub coarse: u64,
+    pub status: u64,
+    pub place: usize,
+}
+
+// What stands after a call: more may come, and so many bytes are packed; the text is accepted, and its packed form has so many bytes; or
+// it is refused.
+pub enum Outcome {
+    More(usize),
+    Accepted(usize),
+    Refused(Refusal),
+}
+
+pub fn start() -> Reader
+    ensures { λ r. ⌜ r ≡ begun ⌝ }
+{
+    let l = lexer::fresh_line(20);
+    Reader {
+        line: l,
+        at: 0,
+        written: 0,
+        blocks: 0,
+        left: 0,
+        terms: 0,
+        total: 0,
+        coarse: 32000000000,
+        status: 0,
+        place: 0,
+    }
+}
+
+// The next piece of the text, of any length, zero too.
+pub fn piece(r: Reader, text: &[u8], out: &mut [u8]) -> Reader
+    ensures { λ s. ⌜ (s ≡ run r (now (out .entry)) (now (text .entry)) .reader) × (now (out .exit) ≡ run r (now (out .entry)) (now (text .entry)) .out) ⌝ }
+{
+    let mut reader = r;
+    let mut i = 0;
+    while i < text.len() {
+        reader = take_byte(reader, text[i], out);
+        i = i + 1;
+    }
+    reader
+}
+
+// The last call: the text has ended. It writes nothing.
+pub fn end(r: Reader, out: &mut [u8]) -> Reader
+    ensures { λ s. ⌜ (s ≡ ended r) × (now (out .exit) ≡ now (out .entry)) ⌝ }
+{
+    close(r)
+}
+
+// What stands after the calls so far.
+pub fn answer(r: Reader) -> Outcome
+    ensures { λ a. ⌜ a ≡ told r ⌝ }
+{
+    if r.status == 0 {
+        return Outcome::More(r.written);
+    }
+    if r.status == 1 {
+        return Outcome::Accepted(r.written);
+    }
+    let refusal = refusal_of(r.status, r.place);
+    Outcome::Refused(refusal)
+}
+
+// The whole text in one call, and its end.
+pub fn read(text: &[u8], out: &mut [u8]) -> Outcome
+    ensures { λ a. ⌜ (a ≡ told (whole (now (text .entry)) (now (out .entry)) .reader)) × (now (out .exit) ≡ whole (now (text .entry)) (now (out .entry)) .out) ⌝ }
+{
+    let r = piece(start(), text, out);
+    answer(end(r, out))
+}

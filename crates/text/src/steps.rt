@@ -1,0 +1,225 @@
+// The reader's steps: one byte, the end of a line, the end of the text.
+use crate::Reader;
+use crate::judge::count_refusal;
+use crate::judge::factor_of;
+use crate::judge::judge_term;
+use crate::judge::open_block;
+use crate::lexer::fresh_line;
+use crate::lexer::lex;
+use crate::lexer::whole_count;
+use crate::lexer::whole_term;
+use crate::writer::put_term;
+use packed::Sums;
+use packed::numbers::Put;
+use packed::numbers::put_number;
+use units::Refusal;
+ghost use mathlib.Core.Path.{_≡_};
+ghost use Prim.Native.Nat.{_+_, _-_, _<_};
+ghost use Rattle.text.specs.Judge.{countEnd, termEnd, verdict};
+ghost use Rattle.text.specs.Reader.{stopped, nextSpot, advanced, wrote, wroteOut, other, step, stepOut, ended, refusal};
+
+// The reader with its answer.
+fn stop(r: Reader, status: u64) -> Reader
+    ensures { λ s. ⌜ s ≡ stopped r status ⌝ }
+{
+    let l = r.line;
+    Reader {
+        line: l,
+        at: r.at,
+        written: r.written,
+        blocks: r.blocks,
+        left: r.left,
+        terms: r.terms,
+        total: r.total,
+        coarse: r.coarse,
+        status,
+        place: r.at,
+    }
+}
+
+// Where the next line begins.
+fn next_spot(blocks: u64, left: u64) -> u64
+    ensures { λ s. ⌜ s ≡ nextSpot blocks left ⌝ }
+{
+    if left == 0 {
+        if blocks == 18 {
+            return 30;
+        }
+        return 20;
+    }
+    0
+}
+
+// The reader after a line that was written up to written.
+fn advance(r: Reader, written: usize, blocks: u64, left: u64, s: Sums) -> Reader
+    requires { ⌜ r .at < 18446744073709551615 ⌝ }
+    ensures { λ n. ⌜ n ≡ advanced r written blocks left s ⌝ }
+{
+    let l = fresh_line(next_spot(blocks, left));
+    Reader {
+        line: l,
+        at: r.at + 1,
+        written,
+        blocks,
+        left,
+        terms: s.terms,
+        total: s.total,
+        coarse: s.coarse,
+        status: 0,
+        place: 0,
+    }
+}
+
+// The line feed of a count.
+fn end_count(r: Reader, out: &mut [u8]) -> Reader
+    requires { ⌜ r .at < 18446744073709551615 ⌝ }
+    ensures { λ s. ⌜ (s ≡ wrote r (now (out .entry)) (countEnd r)) × (now (out .exit) ≡ wroteOut r (now (out .entry)) (countEnd r)) ⌝ }
+{
+    let l = r.line;
+    let n = l.value;
+    let blocks = r.blocks;
+    let s = Sums {
+        terms: r.terms,
+        total: r.total,
+        coarse: r.coarse,
+    };
+    let refusal = count_refusal(blocks, s, n);
+    if refusal != 0 {
+        return stop(r, refusal);
+    }
+    let put = put_number(n, out, r.written);
+    match put {
+        Put::NoRoom(_) => stop(r, 7),
+        Put::Next(next) => advance(r, next, blocks + 1, n, open_block(blocks, n, s)),
+    }
+}
+
+fn less_one(n: u64) -> u64
+    ensures { λ r. ⌜ r ≡ n - 1 ⌝ }
+{
+    if n == 0 {
+        return 0;
+    }
+    n - 1
+}
+
+// The line feed of a term.
+fn end_term(r: Reader, out: &mut [u8]) -> Reader
+    requires { ⌜ r .at < 18446744073709551615 ⌝ }
+    ensures { λ s. ⌜ (s ≡ wrote r (now (out .entry)) (termEnd r)) × (now (out .exit) ≡ wroteOut r (now (out .entry)) (termEnd r)) ⌝ }
+{
+    let l = r.line;
+    let s = Sums {
+        terms: r.terms,
+        total: r.total,
+        coarse: r.coarse,
+    };
+    let j = judge_term(factor_of(r.blocks), s, l);
+    if j.refusal != 0 {
+        return stop(r, j.refusal);
+    }
+    let more = j.sums;
+    let put = put_term(l, out, r.written);
+    match put {
+        Put::NoRoom(_) => stop(r, 7),
+        Put::Next(next) => advance(r, next, r.blocks, less_one(r.left), more),
+    }
+}
+
+// A line feed.
+fn end_line(r: Reader, out: &mut [u8]) -> Reader
+    requires { ⌜ r .at < 18446744073709551615 ⌝ }
+    ensures { λ s. ⌜ (s ≡ wrote r (now (out .entry)) (verdict r)) × (now (out .exit) ≡ wroteOut r (now (out .entry)) (verdict r)) ⌝ }
+{
+    let l = r.line;
+    if whole_count(l) {
+        return end_count(r, out);
+    }
+    if whole_term(l) {
+        return end_term(r, out);
+    }
+    stop(r, 3)
+}
+
+// A byte that is no line feed.
+fn take_other(r: Reader, byte: u8) -> Reader
+    requires { ⌜ r .at < 18446744073709551615 ⌝ }
+    ensures { λ s. ⌜ s ≡ other r byte ⌝ }
+{
+    let l = r.line;
+    let next = lex(l, byte);
+    if next.spot == 31 {
+        return stop(r, 3);
+    }
+    Reader {
+        line: next,
+        at: r.at + 1,
+        written: r.written,
+        blocks: r.blocks,
+        left: r.left,
+        terms: r.terms,
+        total: r.total,
+        coarse: r.coarse,
+        status: 0,
+        place: 0,
+    }
+}
+
+// One byte.
+pub fn take_byte(r: Reader, byte: u8, out: &mut [u8]) -> Reader
+    ensures { λ s. ⌜ (s ≡ step r (now (out .entry)) byte) × (now (out .exit) ≡ stepOut r (now (out .entry)) byte) ⌝ }
+{
+    if r.status != 0 {
+        return r;
+    }
+    if r.at == 18446744073709551615 {
+        return stop(r, 3);
+    }
+    let l = r.line;
+    if l.spot == 30 {
+        return stop(r, 9);
+    }
+    if byte == 10 {
+        return end_line(r, out);
+    }
+    take_other(r, byte)
+}
+
+// The end of the text.
+pub fn close(r: Reader) -> Reader
+    ensures { λ s. ⌜ s ≡ ended r ⌝ }
+{
+    if r.status != 0 {
+        return r;
+    }
+    let l = r.line;
+    if l.spot == 30 {
+        return stop(r, 1);
+    }
+    stop(r, 8)
+}
+
+// The refusal of a status.
+pub fn refusal_of(status: u64, place: usize) -> Refusal
+    ensures { λ s. ⌜ s ≡ refusal status place ⌝ }
+{
+    if status == 4 {
+        return Refusal::OverLimit(place);
+    }
+    if status == 5 {
+        return Refusal::TotalOverLimit(place);
+    }
+    if status == 6 {
+        return Refusal::TooCoarse(place);
+    }
+    if status == 7 {
+        return Refusal::NoRoom(place);
+    }
+    if status == 8 {
+        return Refusal::EndedEarly(place);
+    }
+    if status == 9 {
+        return Refusal::ByteAfterEnd(place);
+    }
+    Refusal::BadByte(place)
+}

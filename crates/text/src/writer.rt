@@ -1,0 +1,48 @@
+// The writer of a line's packed bytes: refusal 7.
+use crate::Line;
+use packed::numbers::Put;
+use packed::numbers::groups_of;
+use packed::numbers::put_groups;
+ghost use mathlib.Core.Path.{_≡_};
+ghost use mathlib.Core.Bool.{cond};
+ghost use lib.ListN.{length};
+ghost use Prim.Native.Nat.{_+_, _<_};
+ghost use Rattle.packed.specs.declared.numbers.Put.the-variants.{Next, NoRoom};
+ghost use Rattle.packed.specs.Numbers.{folded};
+ghost use Rattle.packed.specs.Series.{pack-term};
+ghost use Rattle.text.specs.Judge.{signed, termOf};
+ghost use Rattle.text.specs.Reader.{fits, putBytes};
+
+// A decimal folded: its parts twice, less one below zero.
+fn fold(minus: u64, value: u64) -> u64
+    requires { ⌜ value < 100000000000000000 ⌝ }
+    ensures { λ r. ⌜ r ≡ folded (signed minus value) ⌝ }
+{
+    if minus == 0 {
+        return 2 * value;
+    }
+    if value == 0 {
+        return 0;
+    }
+    2 * value - 1
+}
+
+// Writes a term from at, or nothing where there is no room.
+pub fn put_term(l: Line, out: &mut [u8], at: usize) -> Put
+    requires { ⌜ (l .a < 100000000000000000) × (l .value < 100000000000000000) ⌝ }
+    ensures { λ r. ⌜ (r ≡ cond (fits (pack-term (termOf l)) at (now (out .entry))) (Next (at + length (pack-term (termOf l)))) (NoRoom (length (pack-term (termOf l))))) × (now (out .exit) ≡ putBytes (pack-term (termOf l)) at (now (out .entry))) ⌝ }
+{
+    let a = fold(l.minusa, l.a);
+    let b = l.b;
+    let c = fold(l.minus, l.value);
+    let n = groups_of(a) + groups_of(b) + groups_of(c);
+    if out.len() < at {
+        return Put::NoRoom(n);
+    }
+    if out.len() - at < n {
+        return Put::NoRoom(n);
+    }
+    let at_b = put_groups(a, out, at);
+    let at_c = put_groups(b, out, at_b);
+    Put::Next(put_groups(c, out, at_c))
+}
