@@ -1,0 +1,4 @@
+-- Laws of the vectors: sizes of components, lengths, usable figures.
+pub mod Cells
+pub mod Places
+pub mod Usable
