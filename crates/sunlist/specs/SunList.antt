@@ -1,0 +1,95 @@
+-- Document 01, "Sun list" and "Refusals": the minutes, the window, and what the call answers and leaves in the output.
+use mathlib.Core.Bool.{Bool, true, false, cond, _&&_}
+use mathlib.Core.List.{List, [], _∷_}
+use Prim.Native.Nat.{ℕ, zero, suc, _*_, _-_}
+use lib.Dec.{leb, ltb}
+use lib.IntN.{ℤ, pos, natAbs, _+ℤ_}
+use lib.ListN.{length}
+use lib.Seq.{sets}
+use lib.Signed.{leZ}
+use Rattle.units.specs.Units.{in-limit}
+use Rattle.units.specs.declared.Instant.{Instant}
+use Rattle.units.specs.declared.Refusal.{Refusal}
+use Rattle.units.specs.declared.Refusal.the-variants.{PastLimit, NoRoom, NotUsable, BadWindow}
+use Rattle.packed.specs.declared.Term.{Term}
+use Rattle.packed.specs.Series.{Parsed, accepted, refused, parse}
+use Rattle.series.specs.Sums.{coordinates}
+use Rattle.runs.specs.Runs.{run-numbers}
+use Rattle.sunlist.specs.declared.Decision.{Decision}
+use Rattle.sunlist.specs.declared.Decision.the-variants.{Listed, Clear, Unusable}
+use Rattle.sunlist.specs.declared.ListAnswer.{ListAnswer}
+use Rattle.sunlist.specs.declared.ListAnswer.the-variants.{Runs, NoList}
+use Rattle.sunlist.specs.Minute.{decide}
+
+-- "Minute j is t0 + 60,000j."
+abbrev pub minute : Instant → ℕ → Instant
+minute t0 j = record { ms = t0 .ms +ℤ pos (60000 * j) }
+
+-- 12: "keep-out outside 60 to 2,700 arcminutes, or minutes outside 1 to 1,440."
+unfoldable pub window-fits : (minutes keep-out : ℤ) → Bool
+window-fits minutes keep-out = (leZ (pos 60) keep-out && leZ keep-out (pos 2700)) && (leZ (pos 1) minutes && leZ minutes (pos 1440))
+
+-- Minute j decided, from the blocks of the two series.
+unfoldable pub decision-at : (planet earth : List (List Term)) → Instant → ℕ → ℕ → Decision
+decision-at planet earth t0 k j = decide k (coordinates (minute t0 j .ms) planet) (coordinates (minute t0 j .ms) earth)
+
+-- Whether places are usable at a minute so decided, and its flag: 1 is listed.
+unfoldable pub good : Decision → Bool
+good (Listed f) = true
+good (Clear f) = true
+good Unusable = false
+
+unfoldable pub flag-of : Decision → ℕ
+flag-of (Listed f) = 1
+flag-of (Clear f) = 0
+flag-of Unusable = 0
+
+-- Of n minutes from j on: the first bad one, or the minute after them; and their flags.
+unfoldable pub first-bad : (ℕ → Decision) → ℕ → ℕ → ℕ
+first-bad at j zero = j
+first-bad at j (suc n) = cond (good (at j)) (first-bad at (suc j) n) j
+
+unfoldable pub window-flags : (ℕ → Decision) → ℕ → ℕ → List ℕ
+window-flags at j zero = []
+window-flags at j (suc n) = flag-of (at j) ∷ window-flags at (suc j) n
+
+-- The numbers of the list, or why there are none.
+pub data Outcome : Type 0 where
+  numbers : List ℕ → Outcome
+  no-numbers : Refusal → Outcome
+
+-- "11 at the first bad minute"; else "two numbers for each maximal run of listed minutes".
+unfoldable pub of-minutes : (ℕ → Decision) → ℕ → Outcome
+of-minutes at n = cond (ltb (first-bad at 0 n) n) (no-numbers (NotUsable (first-bad at 0 n))) (numbers (run-numbers (window-flags at 0 n)))
+
+unfoldable pub of-series : (planet earth : Parsed) → Instant → ℕ → ℕ → Outcome
+of-series (refused r) earth t0 n k = no-numbers r
+of-series (accepted planet) (refused r) t0 n k = no-numbers r
+of-series (accepted planet) (accepted earth) t0 n k = of-minutes (decision-at planet earth t0 k) n
+
+-- "12, 2 (first, then last minute), planet, Earth, 11 at the first bad minute."
+unfoldable pub outcome : (planet earth : List ℕ) → Instant → (minutes keep-out : ℤ) → Outcome
+outcome planet earth t0 minutes keep-out =
+    cond (window-fits minutes keep-out)
+    (cond (in-limit (t0 .ms))
+    (cond (in-limit (minute t0 (natAbs minutes - 1) .ms))
+    (of-series (parse planet) (parse earth) t0 (natAbs minutes) (natAbs keep-out))
+    (no-numbers (PastLimit (minute t0 (natAbs minutes - 1)))))
+    (no-numbers (PastLimit t0)))
+    (no-numbers BadWindow)
+
+-- Last, 7: "the count answered, and the length that 7 gives, count numbers and not runs." A refusal leaves the output untouched, a success what lies past the numbers.
+unfoldable pub answered : ℕ → Outcome → ListAnswer
+answered room (numbers xs) = cond (leb (length xs) room) (Runs (length xs)) (NoList (NoRoom (length xs)))
+answered room (no-numbers r) = NoList r
+
+unfoldable pub written : List ℕ → Outcome → List ℕ
+written out (numbers xs) = cond (leb (length xs) (length out)) (sets out 0 xs) out
+written out (no-numbers r) = out
+
+-- What the call answers with an output of this many places, and what an output then holds.
+unfoldable pub sun-list : (planet earth : List ℕ) → Instant → (minutes keep-out : ℤ) → (room : ℕ) → ListAnswer
+sun-list planet earth t0 minutes keep-out room = answered room (outcome planet earth t0 minutes keep-out)
+
+unfoldable pub sun-list-out : (planet earth : List ℕ) → Instant → (minutes keep-out : ℤ) → (out : List ℕ) → List ℕ
+sun-list-out planet earth t0 minutes keep-out out = written out (outcome planet earth t0 minutes keep-out)
