@@ -1,4 +1,11 @@
 pub mod Decode
 pub mod Encode
 pub mod Folding
+pub mod Reading
+pub mod Judging
+pub mod Accepting
+pub mod Walking
+pub mod Blocks
+pub mod Tabling
+pub mod Unpacking
 pub mod Theorems

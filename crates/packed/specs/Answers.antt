@@ -14,7 +14,12 @@ use Rattle.packed.specs.declared.numbers.Number.{Number}
 use Rattle.packed.specs.declared.numbers.Number.the-variants.{Value, Bad}
 use Rattle.packed.specs.declared.numbers.Put.{Put}
 use Rattle.packed.specs.declared.numbers.Put.the-variants.{Next, NoRoom}
-use Rattle.packed.specs.Numbers.{Read, got, bad, encode}
+use Rattle.packed.specs.declared.inner.TermRead.{TermRead}
+use Rattle.packed.specs.declared.inner.TermRead.the-variants.{Found, Wrong}
+use Rattle.packed.specs.declared.inner.Walk.{Walk}
+use Rattle.packed.specs.declared.inner.Walk.the-variants.{Moved, Stopped}
+use Rattle.packed.specs.Tables.{Sized}
+use Rattle.packed.specs.Numbers.{Read, got, bad, encode, folded, unfolded}
 
 -- A number, or one made of what was read.
 unfoldable pub shown : {A : Type 0} → (A → ℕ) → Read A → Number
@@ -33,3 +38,43 @@ put-answer v at out = cond (room-for v at out) (Next (at + length (encode v))) (
 
 unfoldable pub put-out : ℕ → ℕ → List ℕ → List ℕ
 put-out v at out = cond (room-for v at out) (sets out at (encode v)) out
+
+-- A term as it is packed.
+unfoldable pub shown-term : Read Term → TermRead
+shown-term (got t at rest) = Found (folded (t .a)) (t .b) (folded (t .c)) at
+shown-term (bad r) = Wrong r
+
+abbrev pub term-of : ℕ → ℕ → ℕ → Term
+term-of a b c = record { a = unfolded a; b = b; c = unfolded c }
+
+-- The offset past what was read, and the sums with it.
+unfoldable pub walked : {A : Type 0} → (A → Sums) → Read A → Walk
+walked sums (got x at rest) = Moved at (sums x)
+walked sums (bad r) = Stopped r
+
+-- The numbers of a term, one for each list of a table.
+abbrev pub a-of : Term → ℤ
+a-of t = t .a
+
+abbrev pub b-of : Term → ℕ
+b-of t = t .b
+
+abbrev pub c-of : Term → ℤ
+c-of t = t .c
+
+-- A list of a table with the number of the term that was read at place k.
+unfoldable pub stored : {X : Type 0} → (Term → X) → ℕ → Read Term → List X → List X
+stored number k (got t at rest) l = set l k (number t)
+stored number k (bad r) l = l
+
+-- After the terms that were read a list of a table holds their numbers from place k, and before k what it held. After a
+-- refusal nothing is said of it.
+unfoldable pub filled : {X : Type 0} → (Term → X) → ℕ → Read (List Term) → List X → List X → Type 0
+filled number k (got ts at rest) before after = take (k + length ts) after ≡ take k before ++ map number ts
+filled number k (bad r) before after = Unit
+
+pub record Filled (k : ℕ) (r : Read (List Term)) (la₀ : List ℤ) (lb₀ : List ℕ) (lc₀ la : List ℤ) (lb : List ℕ) (lc : List ℤ) : Type 0 where
+  pub filled-a : filled a-of k r la₀ la
+  pub filled-b : filled b-of k r lb₀ lb
+  pub filled-c : filled c-of k r lc₀ lc
+  pub sized : Sized la lb lc

@@ -1,9 +1,18 @@
 -- A term table: the numbers a, b, c of all terms in order, and for each block the place where it ends.
+use mathlib.Core.Path.{_≡_}
 use mathlib.Core.List.{List, [], _∷_}
 use Prim.Native.Nat.{ℕ, zero, suc, _+_, _-_}
 use lib.IntN.{ℤ, pos}
-use lib.ListN.{getD}
+use lib.ListN.{length, getD}
 use Rattle.packed.specs.declared.Term.{Term}
+use Rattle.packed.specs.Limits.{series-limit}
+use Rattle.packed.specs.Series.{Parsed, accepted, refused}
+
+-- The lists of a table have room for a series.
+pub record Sized (la : List ℤ) (lb : List ℕ) (lc : List ℤ) : Type 0 where
+  pub size-a : length la ≡ series-limit
+  pub size-b : length lb ≡ series-limit
+  pub size-c : length lc ≡ series-limit
 
 -- The term at place k.
 unfoldable pub term-at : List ℤ → List ℕ → List ℤ → ℕ → Term
@@ -21,3 +30,18 @@ blocks-at la lb lc k (e ∷ ends) = terms-at la lb lc k (e - k) ∷ blocks-at la
 
 unfoldable pub table-blocks : List ℤ → List ℕ → List ℤ → List ℕ → List (List Term)
 table-blocks la lb lc ends = blocks-at la lb lc 0 ends
+
+-- Where the blocks of a series end, the first of which starts at place k.
+unfoldable pub block-ends : ℕ → List (List Term) → List ℕ
+block-ends k [] = []
+block-ends k (ts ∷ blocks) = (k + length ts) ∷ block-ends (k + length ts) blocks
+
+-- A table holds the blocks of a series.
+pub record Holds (la : List ℤ) (lb : List ℕ) (lc : List ℤ) (ends : List ℕ) (blocks : List (List Term)) : Type 0 where
+  pub table : table-blocks la lb lc ends ≡ blocks
+  pub places : ends ≡ block-ends 0 blocks
+
+-- The table after a packed series was read into it. After a refusal nothing is said of it.
+unfoldable pub unpacked : Parsed → List ℤ → List ℕ → List ℤ → List ℕ → Type 0
+unpacked (accepted blocks) la lb lc ends = Holds la lb lc ends blocks
+unpacked (refused r) la lb lc ends = Unit

@@ -1,7 +1,11 @@
 // Packed numbers and packed series: document 01, "Series, as text and packed".
+pub mod inner;
 pub mod numbers;
 
+use inner::unpack;
 use units::Refusal;
+ghost use mathlib.Core.Path.{_≡_};
+ghost use Rattle.packed.specs.Series.{parse, checked};
 
 // A term of a series, in parts: a times the cosine of b + c tau.
 pub struct Term {
@@ -22,4 +26,15 @@ pub struct Sums {
 pub enum Checked {
     Terms(u64),
     NoSeries(Refusal),
+}
+
+// Checks a packed series: the number of its terms, or the refusal.
+pub fn check(bytes: &[u8]) -> Checked
+    ensures { λ r. ⌜ r ≡ checked (parse (now (bytes .entry))) ⌝ }
+{
+    let mut a = [0i64; 8192];
+    let mut b = [0u64; 8192];
+    let mut c = [0i64; 8192];
+    let mut ends = [0u64; 18];
+    unpack(bytes, &mut a, &mut b, &mut c, &mut ends)
 }

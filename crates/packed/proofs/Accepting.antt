@@ -1,0 +1,203 @@
+-- What holds of the numbers that a reader has accepted. Assumes nothing.
+use mathlib.Core.Path.{_≡_, refl, sym, ap, _∙_, subst}
+use mathlib.Core.Bool.{Bool, true, false, cond, _&&_}
+use mathlib.Core.List.{List, [], _∷_}
+use Prim.Native.Nat.{ℕ, zero, suc, _+_, _*_, _-_, _≤_, _<_}
+use native.Mathlib.Omega.{arith}
+use borrow.Author.Tests.{ltb-true, leb-true}
+use lib.Dec.{leb, ltb}
+use lib.IntN.{ℤ, natAbs}
+use lib.ListN.{drop}
+use Rattle.units.specs.Units.{a-limit, b-limit, c-limit}
+use Rattle.units.specs.declared.Refusal.{Refusal}
+use Rattle.units.specs.declared.Refusal.the-variants.{OverLimit, TotalOverLimit, TooCoarse}
+use Rattle.packed.specs.declared.Term.{Term}
+use Rattle.packed.specs.declared.Sums.{Sums}
+use Rattle.packed.specs.Limits.{total-limit, coarse-limit, weight, a-fits, b-fits, c-fits, total-fits, coarse-fits}
+use Rattle.packed.specs.Numbers.{Read, got, bad, next, number, folded, unfolded}
+use Rattle.packed.specs.Series.{judged, read-a, read-b, read-c, read-term}
+use Rattle.packed.specs.Answers.{plain, shown-term, term-of}
+use Rattle.packed.specs.declared.inner.TermRead.the-variants.{Found, Wrong}
+use Rattle.packed.proofs.Folding.{folded-unfolded, unfolded-folded}
+use Rattle.packed.proofs.Reading.{After, moved, stopped}
+use Rattle.packed.proofs.Judging.{a-got, b-got, c-got}
+
+-- Two readers, one after the other.
+pub record Twice {A B : Type 0} (r : Read A) (f : A → ℕ → List ℕ → Read B) (z : Read B) : Type 0 where
+  pub x : A
+  pub at : ℕ
+  pub rest : List ℕ
+  pub first : r ≡ got x at rest
+  pub second : f x at rest ≡ z
+
+pub next-got : {A B : Type 0} {y : B} {to : ℕ} {left : List ℕ} (r : Read A) (f : A → ℕ → List ℕ → Read B) → next r f ≡ got y to left → Twice r f (got y to left)
+unfolding next
+next-got (got x at rest) f e = record { x = x; at = at; rest = rest; first = refl; second = e }
+next-got (bad q) f e = let z : _≡_ {A = ℕ} 0 1 = cc in absurd (omega arith)
+
+pub record Passed {A : Type 0} (t : Bool) (r z : Read A) : Type 0 where
+  pub passed : t ≡ true
+  pub is : r ≡ z
+
+pub judged-got : {A : Type 0} {y : A} {to : ℕ} {left : List ℕ} (t : Bool) (refusal : ℕ → Refusal) (end : ℕ) (r : Read A) → judged t refusal end r ≡ got y to left → Passed t r (got y to left)
+unfolding judged
+judged-got true refusal end r e = record { passed = refl; is = e }
+judged-got false refusal end r e = let z : _≡_ {A = ℕ} 0 1 = cc in absurd (omega arith)
+
+same : {A : Type 0} {y z : A} {i j : ℕ} {l m : List ℕ} → got y i l ≡ got z j m → y ≡ z
+same h = cc
+
+-- A number that stands for y was read, and then y was answered at the same place.
+read-as : {A : Type 0} {y : A} {i j : ℕ} {l m : List ℕ} (h : A → ℕ) (g : ℕ → A) (v at : ℕ) (x : List ℕ) → ((n : ℕ) → h (g n) ≡ n) → number at x ≡ got v i l → got (g v) i l ≡ got y j m → number at x ≡ got (h y) j m
+read-as {y = y} {i = i} {j = j} {l = l} {m = m} h g v at x k e q =
+    let p : g v ≡ y = same q in
+    let w : v ≡ h y = sym (k v) ∙ ap h p in
+    let u : i ≡ j = cc in
+    let t : l ≡ m = cc in
+    rw (w, u, t) at e
+
+-- The numbers of a term that are accepted after the sums s.
+pub record GoodA (s : Sums) (a : ℤ) : Type 0 where
+  pub small : natAbs a < a-limit
+  pub total : s .total + natAbs a ≤ total-limit
+
+pub record GoodC (f : ℕ) (s : Sums) (a : ℤ) (b : ℕ) (c : ℤ) : Type 0 where
+  pub small : natAbs c < c-limit
+  pub coarse : s .coarse + weight f a b c ≤ coarse-limit
+
+pub record GoodTerm (f : ℕ) (s : Sums) (t : Term) : Type 0 where
+  pub good-a : GoodA s (t .a)
+  pub good-b : t .b < b-limit
+  pub good-c : GoodC f s (t .a) (t .b) (t .c)
+
+-- A number that was read, and what holds of its value.
+pub record Accepted (P : Type 0) (at : ℕ) (x : List ℕ) (v to : ℕ) (rest : List ℕ) : Type 0 where
+  pub read : number at x ≡ got v to rest
+  pub good : P
+
+pub a-accepted : (s : Sums) (at : ℕ) (x : List ℕ) {a : ℤ} {to : ℕ} {rest : List ℕ} → read-a s at x ≡ got a to rest → Accepted (GoodA s a) at x (folded a) to rest
+unfolding read-a a-fits total-fits
+a-accepted s at x {a} e =
+    let n = next-got (number at x) _ e in
+    let v = n .x in
+    let p = judged-got (ltb (natAbs (unfolded v)) a-limit) OverLimit (n .at) _ (n .second) in
+    let q = judged-got (leb (s .total + natAbs (unfolded v)) total-limit) TotalOverLimit (n .at) _ (p .is) in
+    let i : unfolded v ≡ a = same (q .is) in
+    let small : natAbs (unfolded v) < a-limit = ltb-true _ _ (p .passed) in
+    let total : s .total + natAbs (unfolded v) ≤ total-limit = leb-true _ _ (q .passed) in
+    record {
+      read = read-as folded unfolded v at x folded-unfolded (n .first) (q .is);
+      good = record { small = rw i at small; total = rw i at total };
+    }
+
+pub b-accepted : (at : ℕ) (x : List ℕ) {b to : ℕ} {rest : List ℕ} → read-b at x ≡ got b to rest → Accepted (b < b-limit) at x b to rest
+unfolding read-b b-fits
+b-accepted at x {b} e =
+    let n = next-got (number at x) _ e in
+    let v = n .x in
+    let p = judged-got (ltb v b-limit) OverLimit (n .at) _ (n .second) in
+    let i : v ≡ b = same (p .is) in
+    let small : v < b-limit = ltb-true _ _ (p .passed) in
+    record { read = read-as plain plain v at x (λ n. refl) (n .first) (p .is); good = rw i at small }
+
+pub c-accepted : (f : ℕ) (s : Sums) (a : ℤ) (b at : ℕ) (x : List ℕ) {c : ℤ} {to : ℕ} {rest : List ℕ} → read-c f s a b at x ≡ got c to rest → Accepted (GoodC f s a b c) at x (folded c) to rest
+unfolding read-c c-fits coarse-fits
+c-accepted f s a b at x {c} e =
+    let n = next-got (number at x) _ e in
+    let v = n .x in
+    let p = judged-got (ltb (natAbs (unfolded v)) c-limit) OverLimit (n .at) _ (n .second) in
+    let q = judged-got (leb (s .coarse + weight f a b (unfolded v)) coarse-limit) TooCoarse (n .at) _ (p .is) in
+    let i : unfolded v ≡ c = same (q .is) in
+    let small : natAbs (unfolded v) < c-limit = ltb-true _ _ (p .passed) in
+    let coarse : s .coarse + weight f a b (unfolded v) ≤ coarse-limit = leb-true _ _ (q .passed) in
+    record {
+      read = read-as folded unfolded v at x folded-unfolded (n .first) (q .is);
+      good = record { small = rw i at small; coarse = rw i at coarse };
+    }
+
+abbrev whole : ℤ → ℕ → ℤ → Term
+whole a b c = record { a = a; b = b; c = c }
+
+-- A term that was read: its three numbers, and that it is within the limits.
+pub record TermAt (f : ℕ) (s : Sums) (at : ℕ) (x : List ℕ) (t : Term) (to : ℕ) (rest : List ℕ) : Type 0 where
+  pub at-b : ℕ
+  pub from-b : List ℕ
+  pub at-c : ℕ
+  pub from-c : List ℕ
+  pub number-a : number at x ≡ got (folded (t .a)) at-b from-b
+  pub number-b : number at-b from-b ≡ got (t .b) at-c from-c
+  pub number-c : number at-c from-c ≡ got (folded (t .c)) to rest
+  pub good : GoodTerm f s t
+
+pub term-accepted : (f : ℕ) (s : Sums) (at : ℕ) (x : List ℕ) {t : Term} {to : ℕ} {rest : List ℕ} → read-term f s at x ≡ got t to rest → TermAt f s at x t to rest
+unfolding read-term
+term-accepted f s at x {t} {to} {rest} e =
+    let ra = next-got (read-a s at x) _ e in
+    let rb = next-got (read-b (ra .at) (ra .rest)) _ (ra .second) in
+    let rc = next-got (read-c f s (ra .x) (rb .x) (rb .at) (rb .rest)) _ (rb .second) in
+    let i : whole (ra .x) (rb .x) (rc .x) ≡ t = same (rc .second) in
+    let m : rc .at ≡ to = at-of (rc .second) in
+    let l : rc .rest ≡ rest = rest-of (rc .second) in
+    let pa = a-accepted s at x (ra .first) in
+    let pb = b-accepted (ra .at) (ra .rest) (rb .first) in
+    let pc = c-accepted f s (ra .x) (rb .x) (rb .at) (rb .rest) (rc .first) in
+    subst (λ (t : Term). TermAt f s at x t to rest) i
+    (record {
+      at-b = ra .at;
+      from-b = ra .rest;
+      at-c = rb .at;
+      from-c = rb .rest;
+      number-a = pa .read;
+      number-b = pb .read;
+      number-c = rw (m, l) at (pc .read);
+      good = record { good-a = pa .good; good-b = pb .good; good-c = pc .good };
+    })
+  where
+    at-of : {y z : Term} {i j : ℕ} {l m : List ℕ} → got y i l ≡ got z j m → i ≡ j
+    at-of h = cc
+
+    rest-of : {y z : Term} {i j : ℕ} {l m : List ℕ} → got y i l ≡ got z j m → l ≡ m
+    rest-of h = cc
+
+-- And back: three numbers within the limits are read as a term.
+pub term-made : (f : ℕ) (s : Sums) (at : ℕ) (x : List ℕ) (t : Term) (to : ℕ) (rest : List ℕ) → TermAt f s at x t to rest → read-term f s at x ≡ got t to rest
+unfolding read-term next
+term-made f s at x t to rest h =
+    let g = h .good in
+    let ea : unfolded (folded (t .a)) ≡ t .a = unfolded-folded (t .a) in
+    let ec : unfolded (folded (t .c)) ≡ t .c = unfolded-folded (t .c) in
+    let ra : read-a s at x ≡ got (t .a) (h .at-b) (h .from-b) = rw ea at (a-got s at x _ _ _ (h .number-a) (rw ea (g .good-a .small)) (rw ea (g .good-a .total))) in
+    let rb : read-b (h .at-b) (h .from-b) ≡ got (t .b) (h .at-c) (h .from-c) = b-got _ _ _ _ _ (h .number-b) (g .good-b) in
+    let rc : read-c f s (t .a) (t .b) (h .at-c) (h .from-c) ≡ got (t .c) to rest = rw ec at (c-got f s (t .a) (t .b) (h .at-c) (h .from-c) _ _ _ (h .number-c) (rw ec (g .good-c .small)) (rw ec (g .good-c .coarse))) in
+    rw (ra, rb, rc)
+
+-- The answers, from what was read.
+pub show-wrong : {r : Read Term} {q : Refusal} → r ≡ bad q → Wrong q ≡ shown-term r
+unfolding shown-term
+show-wrong e = sym (ap shown-term e)
+
+pub show-found : {r : Read Term} {a b c to : ℕ} {rest : List ℕ} → r ≡ got (term-of a b c) to rest → Found a b c to ≡ shown-term r
+unfolding shown-term
+show-found {a = a} {b = b} {c = c} {to = to} e =
+    ap (λ (n : ℕ). Found n b c to) (sym (folded-unfolded a)) ∙ ap (λ (n : ℕ). Found (folded (unfolded a)) b n to) (sym (folded-unfolded c)) ∙ sym (ap shown-term e)
+
+-- And what was read, from the answers.
+pub was-wrong : (r : Read Term) (q : Refusal) → shown-term r ≡ Wrong q → r ≡ bad q
+unfolding shown-term
+was-wrong (got t to rest) q e = let z : _≡_ {A = ℕ} 0 1 = cc in absurd (omega arith)
+was-wrong (bad r) q e = let p : r ≡ q = cc in ap bad p
+
+pub was-found : {s : List ℕ} {low : ℕ} {r : Read Term} (a b c to : ℕ) → After s low r → shown-term r ≡ Found a b c to → r ≡ got (term-of a b c) to (drop to s)
+unfolding shown-term
+was-found {s} {r = got t end rest} a b c to (moved h l) e =
+    let pa : folded (t .a) ≡ a = cc in
+    let pb : t .b ≡ b = cc in
+    let pc : folded (t .c) ≡ c = cc in
+    let p : end ≡ to = cc in
+    let qa : t .a ≡ unfolded a = sym (unfolded-folded (t .a)) ∙ ap unfolded pa in
+    let qc : t .c ≡ unfolded c = sym (unfolded-folded (t .c)) ∙ ap unfolded pc in
+    rw (h, p) (ap (λ (t : Term). got t to (drop to s)) (whole-is t qa pb qc))
+  where
+    whole-is : (t : Term) {x z : ℤ} {y : ℕ} → t .a ≡ x → t .b ≡ y → t .c ≡ z → t ≡ whole x y z
+    whole-is t p q r = rw (← p, ← q, ← r)
+was-found {r = bad q} a b c to h e = let z : _≡_ {A = ℕ} 0 1 = cc in absurd (omega arith)
