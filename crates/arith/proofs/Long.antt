@@ -1,5 +1,5 @@
 -- Long multiplication and division by digits of 16 bits: (q, r) is the quotient and the rest of the product of the digits so far. Assumes nothing.
-use mathlib.Core.Path.{_≡_, refl, sym, ap, ap₂, _∙_, subst}
+use mathlib.Core.Path.{_≡_, sym, ap, ap₂, _∙_, subst}
 use Prim.Native.Nat.{ℕ, _+_, _-_, _*_, _/_, _%_, _^_, _≤_, _<_}
 use native.Mathlib.Omega.{arith, by-contra}
 use native.Mathlib.Nat.{div-add-mod, div-add-mod', mod-lt, mul-le-mul-left, mul-le-mul-right}

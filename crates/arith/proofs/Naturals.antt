@@ -1,20 +1,16 @@
 -- What `naturalOr` gives, and what it tells of its number. Assumes nothing.
-use mathlib.Core.Path.{_≡_, refl, subst}
-use mathlib.Core.Bool.{Bool, true, false}
-use Prim.Native.Nat.{ℕ, _≤_, _<_}
-use native.Mathlib.Omega.{arith}
+use mathlib.Core.Path.{_≡_, refl}
+use mathlib.Core.Bool.{true}
+use Prim.Native.Nat.{ℕ}
 use lib.IntN.{ℤ, pos, negsuc}
 use Rattle.integers.specs.Signs.{negative}
+use Rattle.arith.proofs.Signs.{false-true}
 use Rattle.arith.specs.Signed.{naturalOr}
 
 pub natural-of-negative : (x : ℤ) (other : ℕ) → negative x ≡ true → naturalOr x other ≡ other
 unfolding naturalOr negative
 natural-of-negative (negsuc n) other e = refl
-natural-of-negative (pos n) other e = absurd (subst IsFalse e tt)
-  where
-    IsFalse : Bool → Type 0
-    IsFalse true = ⊥
-    IsFalse false = Unit {0}
+natural-of-negative (pos n) other e = absurd (false-true e)
 
 pub natural-of-pos : (n other : ℕ) → naturalOr (pos n) other ≡ n
 unfolding naturalOr

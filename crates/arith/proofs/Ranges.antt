@@ -1,9 +1,9 @@
 -- How large a rounded quotient is. Assumes nothing.
 use mathlib.Core.Path.{_≡_, refl, sym, ap, _∙_, subst}
 use mathlib.Core.Bool.{Bool, true, false}
-use Prim.Native.Nat.{ℕ, zero, suc, _+_, _*_, _^_, _≤_, _<_}
-use native.Mathlib.Nat.{le-trans, mul-le-mul, lt-of-le-of-lt}
-use lib.IntN.{ℤ, pos, negsuc, negℤ, natAbs, _*ℤ_}
+use Prim.Native.Nat.{ℕ, zero, suc, _*_, _≤_, _<_}
+use native.Mathlib.Nat.{mul-le-mul}
+use lib.IntN.{ℤ, natAbs, _*ℤ_}
 use Rattle.integers.specs.Division.{rounded}
 use Rattle.integers.specs.Signs.{negative, sgn, near}
 use Rattle.integers.proofs.Division.{rounded-by, near-most, near-le}

@@ -1,12 +1,12 @@
 -- A factor is reduced before it is multiplied. Assumes nothing.
 use mathlib.Core.Path.{_≡_, sym, ap, _∙_}
-use mathlib.Core.List.{List, [], _∷_}
+use mathlib.Core.List.{[], _∷_}
 use Prim.Native.Nat.{ℕ, _*_, _%_, _≤_, _<_}
 use native.Mathlib.Omega.{arith}
 use native.Mathlib.Nat.{mul-le-mul-left}
 use lib.IntN.{ℤ, pos, _+ℤ_, _*ℤ_}
 use Rattle.integers.specs.Division.{floor, modulo}
-use Rattle.integers.proofs.Division.{floor-modulo, modulo-shift, modulo-lt}
+use Rattle.integers.proofs.Division.{floor-modulo, modulo-shift}
 use Rattle.integers.proofs.Auto.{polys, ring! }
 
 pub modulo-times : (k : ℕ) (n : ℤ) (d : ℕ) → 0 < d → k * modulo n d % d ≡ modulo (pos k *ℤ n) d

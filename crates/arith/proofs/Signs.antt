@@ -1,16 +1,25 @@
 -- What the functions on signed numbers lean on, and what their callers need: `back`, `ok`, the signs. Assumes nothing.
 use mathlib.Core.Path.{_≡_, refl, sym, ap, _∙_, subst}
 use mathlib.Core.Bool.{Bool, true, false}
-use Prim.Native.Nat.{ℕ, zero, suc, _+_, _*_, _-_, _^_, _≤_, _<_}
+use Prim.Native.Nat.{ℕ, zero, suc, _^_, _<_}
 use native.Mathlib.Omega.{arith}
 use lib.Dec.{T, ltb, ltb→lt}
-use lib.IntN.{ℤ, pos, negsuc, negℤ, natAbs, _+ℤ_, _-ℤ_}
-use lib.Signed.{_≤ℤ_, _<ℤ_, ltZ, mag, nonNeg}
+use lib.IntN.{ℤ, pos, negsuc, natAbs, _-ℤ_}
+use lib.Signed.{_≤ℤ_, ltZ, mag, nonNeg}
 use mir.Syntax.{w64}
 use mir.Val.{SFits, toZ, ofZ}
 use mir.ValLaws.{toZ-ofZ}
 use Rattle.integers.proofs.Pairs.{sub-pos, sub-neg, nonneg}
 use Rattle.integers.specs.Signs.{negative, sgn}
+
+IsFalse : Bool → Type 0
+IsFalse true = ⊥
+IsFalse false = Unit {0}
+
+-- the two tests differ
+pub false-true : false ≡ true → ⊥
+unfolding IsFalse
+false-true e = subst IsFalse e tt
 
 is-false : (b : Bool) → (T b → ⊥) → b ≡ false
 is-false true f = absurd (f tt)
@@ -24,11 +33,7 @@ lt-zero (negsuc n) = refl
 -- −1 − z of a negative z, as a natural
 pub flipped : (z : ℤ) → negative z ≡ true → negsuc 0 -ℤ z ≡ pos (mag z)
 unfolding negative
-flipped (pos n) e = absurd (subst IsFalse e tt)
-  where
-    IsFalse : Bool → Type 0
-    IsFalse true = ⊥
-    IsFalse false = Unit {0}
+flipped (pos n) e = absurd (false-true e)
 flipped (negsuc n) e = sub-pos (suc n) 1 n (omega arith)
 
 pub flip-fits : (z : ℤ) → negative z ≡ true → SFits w64 z → SFits w64 (negsuc 0 -ℤ z)
@@ -36,21 +41,13 @@ flip-fits z e h = subst (λ t. SFits w64 t) (sym (flipped z e)) (record { sfits 
 
 pub flip-back : (z : ℤ) (r : ℕ) → negative z ≡ true → pos r ≡ negsuc 0 -ℤ z → negsuc r ≡ z
 unfolding negative
-flip-back (pos n) r e p = absurd (subst IsFalse e tt)
-  where
-    IsFalse : Bool → Type 0
-    IsFalse true = ⊥
-    IsFalse false = Unit {0}
+flip-back (pos n) r e p = absurd (false-true e)
 flip-back (negsuc n) r e p = ap negsuc (ap mag (p ∙ flipped (negsuc n) e))
 
 pub not-negative : (z : ℤ) → negative z ≡ false → pos 0 ≤ℤ z
 unfolding negative
 not-negative (pos n) e = nonneg n
-not-negative (negsuc n) e = absurd (subst IsTrue e tt)
-  where
-    IsTrue : Bool → Type 0
-    IsTrue true = Unit {0}
-    IsTrue false = ⊥
+not-negative (negsuc n) e = absurd (false-true (sym e))
 
 pub as-natural : (z : ℤ) → pos 0 ≤ℤ z → pos (natAbs z) ≡ z
 as-natural (pos n) h = refl
@@ -92,7 +89,3 @@ back z h = toZ-ofZ w64 z h
 
 pub ok : {z : ℤ} → mag z < 2 ^ 63 → SFits w64 z
 ok h = record { sfits = h }
-
-pub natAbs-pos : (z : ℤ) → pos 0 <ℤ z → 0 < natAbs z
-natAbs-pos (pos n) h = ltb→lt 0 n (h .lt)
-natAbs-pos (negsuc n) h = absurd (h .lt)

@@ -1,13 +1,13 @@
 -- A factor split at the divisor: x·k by d from (x / d)·k and (x % d)·k; and a division in two, the second with rounding. Assumes nothing.
-use mathlib.Core.Path.{_≡_, refl, sym, ap, ap₂, _∙_, subst}
+use mathlib.Core.Path.{_≡_, sym, ap, _∙_}
 use mathlib.Core.Bool.{false}
-use Prim.Native.Nat.{ℕ, _+_, _-_, _*_, _/_, _%_, _≤_, _<_}
+use Prim.Native.Nat.{ℕ, _+_, _*_, _/_, _%_, _≤_, _<_}
 use native.Mathlib.Omega.{arith}
 use native.Mathlib.Nat.{div-add-mod, mod-lt, mul-le-mul, mul-le-mul-left, mul-le-mul-right}
 use native.Mathlib.Decide.{decLe}
 use borrow.Author.Tests.{le-leb, lt-leb}
 use lib.Dec.{leb}
-use lib.IntN.{ℤ, pos, _*ℤ_}
+use lib.IntN.{pos, _*ℤ_}
 use Rattle.integers.specs.Division.{rounded}
 use Rattle.integers.specs.Signs.{sgn, near}
 use Rattle.integers.proofs.Division.{div-is, rounded-near}
@@ -32,9 +32,6 @@ low-factor x k d w h l = let g : x % d ≤ d = below (mod-lt x h) in omega (arit
   where
     below : x % d < d → x % d ≤ d
     below g = omega arith
-
-pub first : (a b : ℕ) {w : ℕ} → a + b < w → a < w
-first a b h = omega arith
 
 -- rounding by an even t does not see the rest of a division before it
 pub two-steps : (n s t : ℕ) → 0 < s → 0 < t → t % 2 ≡ 0 → near false (n / s) t ≡ near false n (s * t)

@@ -3,14 +3,14 @@ use mathlib.Core.Path.{_≡_, refl, sym, ap, ap₂, _∙_, subst}
 use mathlib.Core.Bool.{Bool, true, false, not}
 use Prim.Native.Nat.{ℕ, zero, suc, _+_, _-_, _*_, _/_, _%_, _^_, _≤_, _<_}
 use native.Mathlib.Omega.{arith, by-contra}
-use native.Mathlib.Nat.{mul-le-mul, mul-le-mul-left, mul-le-mul-right, div-add-mod', lt-of-le-of-lt}
+use native.Mathlib.Nat.{mul-le-mul, div-add-mod', lt-of-le-of-lt}
 use native.Mathlib.Decide.{decLe}
 use borrow.Author.Tests.{lt-ltb, le-ltb}
-use lib.Dec.{T, lit<, ltb, ltb→lt, nltb→le}
+use lib.Dec.{T, lit<, ltb, ltb→lt}
 use lib.IntN.{ℤ, pos, negsuc, natAbs, _+ℤ_, _*ℤ_}
 use Rattle.integers.specs.Root.{root}
-use Rattle.integers.proofs.Root.{IsRoot, root-is}
-use Rattle.integers.proofs.Order.{natAbs-+, natAbs-*}
+use Rattle.integers.proofs.Root.{root-is}
+use Rattle.arith.proofs.Signs.{false-true}
 use Rattle.arith.proofs.Long.{Divided}
 
 -- x·x from its halves, S the base of a half limb
@@ -80,11 +80,7 @@ pub is-above : (n m : ℕ) (r : Bool) → r ≡ ltb n m → r ≡ true → n < m
 is-above n m r e f = ltb→lt n m (subst T (sym f ∙ e) tt)
 
 pub not-above : (n m : ℕ) (r : Bool) → r ≡ ltb n m → r ≡ false → m ≤ n
-not-above n m r e f = by-contra m n (λ (h : n < m). absurd (subst IsFalse (sym (lt-ltb n m h) ∙ sym e ∙ f) tt))
-  where
-    IsFalse : Bool → Type 0
-    IsFalse true = Unit {0}
-    IsFalse false = ⊥
+not-above n m r e f = by-contra m n (λ (h : n < m). absurd (false-true (sym f ∙ e ∙ lt-ltb n m h)))
 
 pub not-true : (b : Bool) → not b ≡ true → b ≡ false
 not-true true e = sym e

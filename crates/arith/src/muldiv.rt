@@ -1,7 +1,7 @@
 // Products that pass 64 bits, divided and rounded. For the crates above.
 ghost use mathlib.Core.Path.{_≡_};
 ghost use Prim.Native.Nat.{_+_, _-_, _*_, _/_, _%_, _<_, _≤_, _^_};
-ghost use lib.IntN.{ℤ, pos, natAbs, _*ℤ_};
+ghost use lib.IntN.{pos, natAbs, _*ℤ_};
 ghost use Rattle.integers.specs.Division.{rounded};
 ghost use Rattle.units.specs.Units.{U};
 use crate::round::nearest;

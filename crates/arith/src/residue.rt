@@ -1,7 +1,7 @@
 // The remainder that is never negative: document 01, "Units and rounding". For the crates above.
 ghost use mathlib.Core.Path.{_≡_};
 ghost use Prim.Native.Nat.{_*_, _<_, _^_};
-ghost use lib.IntN.{ℤ, pos, _*ℤ_};
+ghost use lib.IntN.{pos, _*ℤ_};
 ghost use Rattle.integers.specs.Division.{modulo};
 use crate::signed::flip;
 use crate::signed::is_neg;

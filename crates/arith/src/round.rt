@@ -1,7 +1,7 @@
 // A fraction rounded to the nearest whole number, a tie going up: document 01, "Units and rounding". For the crates above.
 ghost use mathlib.Core.Path.{_≡_};
 ghost use Prim.Native.Nat.{_+_, _*_, _<_, _^_};
-ghost use lib.IntN.{ℤ, natAbs};
+ghost use lib.IntN.{natAbs};
 ghost use Rattle.integers.specs.Division.{rounded};
 ghost use Rattle.integers.specs.Signs.{near};
 use crate::signed::abs;

@@ -1,6 +1,6 @@
 -- `arith::muldiv::mul_div` meets its contract: after each digit, (q, r) is the quotient and the rest of the digits so far, times b. Assumes nothing.
 use mathlib.Core.Path.{_≡_, _∙_}
-use Prim.Native.Nat.{ℕ, _+_, _*_, _/_, _%_, _<_, _^_}
+use Prim.Native.Nat.{_+_, _*_, _/_}
 use native.Mathlib.Omega.{arith}
 use Rattle.arith.proofs.Long.{divided, quotient, next-is, next-fits, first-fits, top-digit}
 use Rattle.arith.proofs.muldiv.mul_div.Statement.{statement}

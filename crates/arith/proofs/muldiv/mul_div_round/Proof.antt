@@ -1,10 +1,9 @@
 -- `arith::muldiv::mul_div_round` meets its contract. Assumes nothing.
-use mathlib.Core.Path.{_≡_, _∙_, sym, ap, ap₂, subst}
+use mathlib.Core.Path.{_≡_, _∙_, sym, ap₂, subst}
 use Prim.Native.Nat.{ℕ, _+_, _-_, _*_, _<_, _≤_, _^_}
 use lib.IntN.{natAbs}
 use borrow.Author.Needs.{needs}
 use Rattle.integers.proofs.Division.{rounded-mul, near-next}
-use Rattle.integers.specs.Signs.{differ, negative}
 use Rattle.arith.proofs.Signs.{back, ok}
 use Rattle.arith.proofs.Long.{Divided, divided, more-room, next-word, half-word, quot-lt}
 use Rattle.arith.proofs.muldiv.mul_div_round.Statement.{statement}

@@ -1,14 +1,14 @@
 -- `arith::muldiv::mul_div_round_wide` meets its contract. Assumes nothing.
-use mathlib.Core.Path.{_≡_, sym, ap, _∙_, subst}
+use mathlib.Core.Path.{_≡_, ap, _∙_}
 use mathlib.Core.Bool.{false}
 use Prim.Native.Nat.{ℕ, _+_, _-_, _*_, _/_, _%_, _<_, _≤_, _^_}
 use native.Mathlib.Omega.{arith}
 use native.Mathlib.Nat.{mod-lt, div-le-self, div-add-mod'}
-use borrow.Author.Needs.{needs}
 use Rattle.integers.specs.Signs.{near}
 use Rattle.integers.proofs.Division.{near-le}
 use Rattle.arith.proofs.Signs.{back, ok}
-use Rattle.arith.proofs.Split.{split-below, low-factor, first, rounded-two-steps}
+use Rattle.arith.proofs.Long.{le-left}
+use Rattle.arith.proofs.Split.{split-below, low-factor, rounded-two-steps}
 use Rattle.arith.proofs.muldiv.mul_div_round_wide.Statement.{statement}
 use Rattle.arith.proofs.muldiv.mul_div_round_wide.Tie as tie
 
@@ -29,7 +29,7 @@ div-e : tie.Need-div-e
 div-e c = c .pre .0
 
 mul-e : tie.Need-mul-e
-mul-e c = record { fits = first _ _ (word (small c)) }
+mul-e c = record { fits = le-left _ _ (word (small c)) }
 
 rem-e : tie.Need-rem-e
 rem-e c = c .pre .0

@@ -1,13 +1,12 @@
 -- `arith::muldiv::scale` meets its contract. Assumes nothing.
-use mathlib.Core.Path.{_≡_, _∙_, sym, ap, ap₂, subst}
-use Prim.Native.Nat.{ℕ, _+_, _-_, _*_, _<_, _≤_, _^_}
+use mathlib.Core.Path.{_≡_, _∙_, sym, ap₂, subst}
+use Prim.Native.Nat.{ℕ, _+_, _*_, _<_, _≤_, _^_}
 use native.Mathlib.Omega.{arith}
 use native.Mathlib.Nat.{mul-le-mul-left}
 use lib.Dec.{lit<}
 use lib.IntN.{natAbs}
 use borrow.Author.Needs.{needs}
 use Rattle.integers.proofs.Division.{rounded-mul, near-most}
-use Rattle.integers.specs.Signs.{differ, negative}
 use Rattle.arith.proofs.Signs.{back, ok}
 use Rattle.arith.proofs.Long.{Divided, divided}
 use Rattle.arith.proofs.muldiv.scale.Statement.{statement}

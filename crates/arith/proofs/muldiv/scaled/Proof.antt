@@ -1,10 +1,9 @@
 -- `arith::muldiv::scaled` meets its contract: m split at U. Assumes nothing.
-use Prim.Native.Nat.{ℕ, _+_, _*_, _/_, _%_, _<_, _^_}
-use native.Mathlib.Omega.{arith}
+use Prim.Native.Nat.{_+_, _*_, _/_, _%_, _<_, _^_}
 use native.Mathlib.Nat.{lt-of-le-of-lt, mul-le-mul-right}
 use lib.Dec.{lit<}
-use Rattle.arith.proofs.Long.{quotient}
-use Rattle.arith.proofs.Split.{split, split-below, small-factor, low-factor, first}
+use Rattle.arith.proofs.Long.{quotient, le-left}
+use Rattle.arith.proofs.Split.{split, split-below, small-factor, low-factor}
 use Rattle.arith.proofs.muldiv.scaled.Statement.{statement}
 use Rattle.arith.proofs.muldiv.scaled.Tie as tie
 
@@ -18,7 +17,7 @@ mul-p c =
     record { fits = low-factor (c .args .m) (c .args .k) 1000000000 _ (lit< tt) (lt-of-le-of-lt (mul-le-mul-right 1000000000 (c .pre)) (lit< tt)) }
 
 mul-t5 : tie.Need-mul-t5
-mul-t5 c = record { fits = first _ _ (whole c) }
+mul-t5 c = record { fits = le-left _ _ (whole c) }
 
 add-t7 : tie.Need-add-t7
 add-t7 c = record { fits = whole c }

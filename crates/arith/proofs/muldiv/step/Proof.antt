@@ -1,5 +1,5 @@
 -- `arith::muldiv::step` meets its contract. Assumes nothing.
-use Prim.Native.Nat.{ℕ, _+_, _*_, _<_, _^_}
+use Prim.Native.Nat.{_+_, _*_, _<_, _^_}
 use Rattle.arith.proofs.Long.{quotient, digit, digit-fits, sum-fits, above-zero, times-base, le-left, le-right}
 use Rattle.arith.proofs.muldiv.step.Statement.{statement}
 use Rattle.arith.proofs.muldiv.step.Tie as tie

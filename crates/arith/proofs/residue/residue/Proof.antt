@@ -1,11 +1,10 @@
 -- `arith::residue::residue` meets its contract. Assumes nothing.
 use mathlib.Core.Path.{_≡_, _∙_, sym, ap}
-use Prim.Native.Nat.{_+_, _-_, _%_, suc}
+use Prim.Native.Nat.{_-_, _%_, suc}
 use native.Mathlib.Omega.{arith}
 use native.Mathlib.Nat.{mod-lt}
 use borrow.Author.Needs.{needs}
 use Rattle.integers.specs.Division.{modulo}
-use Rattle.integers.specs.Signs.{negative}
 use Rattle.arith.proofs.Signs.{back, not-negative}
 use Rattle.arith.proofs.residue.residue.Statement.{statement}
 use Rattle.arith.proofs.residue.residue.Tie as tie

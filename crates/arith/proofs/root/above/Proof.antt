@@ -1,7 +1,7 @@
 -- `arith::root::above` meets its contract. Assumes nothing.
 use native.Mathlib.Omega.{arith}
 use borrow.Author.Needs.{needs}
-use Prim.Native.Nat.{ℕ, _*_, _^_}
+use Prim.Native.Nat.{_*_, _^_}
 use lib.Dec.{lit<}
 use Rattle.arith.proofs.Long.{Divided, divided}
 use Rattle.arith.proofs.Squares.{limbs-less, upper-most}

@@ -1,5 +1,5 @@
 -- `arith::root::lowered` meets its contract. Assumes nothing.
-use Prim.Native.Nat.{ℕ, _+_, _*_, _≤_, _<_, _^_}
+use Prim.Native.Nat.{_≤_, _<_, _^_}
 use native.Mathlib.Omega.{arith}
 use Rattle.arith.proofs.Squares.{is-above, not-above, above-zero}
 use Rattle.arith.proofs.root.lowered.Statement.{statement}

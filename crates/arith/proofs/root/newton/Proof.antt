@@ -1,7 +1,7 @@
 -- `arith::root::newton` meets its contract. Assumes nothing.
 use native.Mathlib.Omega.{arith}
 use borrow.Author.Needs.{needs}
-use Prim.Native.Nat.{ℕ, _/_, _<_, _^_}
+use Prim.Native.Nat.{_/_, _<_, _^_}
 use Rattle.arith.proofs.Squares.{quotient-below}
 use Rattle.arith.proofs.root.newton.Statement.{statement}
 use Rattle.arith.proofs.root.newton.Tie as tie

@@ -1,6 +1,4 @@
 -- `arith::root::not_above` meets its contract. Assumes nothing.
-use native.Mathlib.Nat.{mul-le-mul}
-use native.Mathlib.Omega.{arith}
 use borrow.Author.Needs.{needs}
 use Rattle.arith.proofs.Squares.{square-fits}
 use Rattle.arith.proofs.root.not_above.Statement.{statement}

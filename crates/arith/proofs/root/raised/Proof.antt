@@ -1,5 +1,5 @@
 -- `arith::root::raised` meets its contract. Assumes nothing.
-use Prim.Native.Nat.{ℕ, _+_, _-_, _*_, _≤_, _<_, _^_}
+use Prim.Native.Nat.{_+_, _-_, _*_, _≤_, _<_, _^_}
 use native.Mathlib.Omega.{arith}
 use Rattle.arith.proofs.Squares.{is-above, not-above, small-root, limbs-below, root-from, not-true, not-false}
 use Rattle.arith.proofs.root.raised.Statement.{statement}

@@ -1,11 +1,10 @@
 -- `arith::signed::abs` meets its contract. Assumes nothing.
-use mathlib.Core.Path.{_≡_, _∙_, ap, sym}
-use Prim.Native.Nat.{_<_, _^_, _+_, suc}
+use mathlib.Core.Path.{_∙_, ap, sym}
 use native.Mathlib.Omega.{arith}
 use native.Mathlib.Numerals.{add-one}
 use lib.IntN.{natAbs}
 use borrow.Author.Needs.{needs}
-use Rattle.arith.proofs.Signs.{back, ok, not-negative, natAbs-fits}
+use Rattle.arith.proofs.Signs.{back, not-negative, natAbs-fits}
 use Rattle.arith.proofs.signed.abs.Statement.{statement}
 use Rattle.arith.proofs.signed.abs.Tie as tie
 

@@ -1,7 +1,6 @@
 -- `arith::signed::natural_or` meets its contract. Assumes nothing.
-use mathlib.Core.Path.{_≡_, _∙_, sym, ap}
+use mathlib.Core.Path.{_∙_, sym, ap}
 use borrow.Author.Needs.{needs}
-use lib.IntN.{pos}
 use Rattle.arith.specs.Signed.{naturalOr}
 use Rattle.arith.proofs.Signs.{back, not-negative}
 use Rattle.arith.proofs.Naturals.{natural-of-negative}

@@ -1,5 +1,5 @@
 -- `arith::signed::of_parts` meets its contract. Assumes nothing.
-use mathlib.Core.Path.{_≡_, _∙_, ap, sym}
+use mathlib.Core.Path.{_∙_, ap}
 use lib.IntN.{pos, _-ℤ_}
 use mathlib.Core.Bool.{true}
 use borrow.Author.Needs.{needs}

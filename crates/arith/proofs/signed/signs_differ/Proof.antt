@@ -2,7 +2,7 @@
 use mathlib.Core.Path.{_≡_, _∙_, sym, ap, ap₂}
 use mathlib.Core.Bool.{Bool, true, false, not}
 use borrow.Author.Needs.{needs}
-use Rattle.integers.specs.Signs.{differ, negative}
+use Rattle.integers.specs.Signs.{differ}
 use Rattle.arith.proofs.Signs.{back}
 use Rattle.arith.proofs.signed.signs_differ.Statement.{statement}
 use Rattle.arith.proofs.signed.signs_differ.Tie as tie
