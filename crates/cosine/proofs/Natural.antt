@@ -15,6 +15,7 @@ use Rattle.integers.proofs.Auto.{polys, ring!, cert!, gap, sqr}
 use Rattle.integers.proofs.Division.{rounded-add}
 use Rattle.units.specs.Units.{U, quarter, angle-step}
 use Rattle.integers.specs.Division.{modulo}
+use Rattle.cosine.proofs.Nested.{sine-turned}
 use Rattle.cosine.specs.Cosine.{q-of, r-of, w-of, y-of, horner, even-part, odd-part, evens, odds, cosine-by, sine-by, working-cosine, working-sine, cosine, sine}
 
 -- a natural number rounded
@@ -143,38 +144,49 @@ odd-of v y h p q = odd-is v h (q ∙ ap (λ t. horner t odds) p)
 flip : (a b : ℤ) → a -ℤ b ≡ negℤ (b -ℤ a)
 flip a b = ring! (a ∷ b ∷ []) (search polys depth 60 fits 100000) (search polys depth 60 fits 100000) tt
 
-pub in-0 : (k v y e : ℕ) → k ≡ 0 → pos y ≡ y-of (pos v -ℤ pos U) → pos e ≡ horner (pos y) evens → pos e -ℤ pos 0 ≡ cosine-by negℤ k (even-part (pos v -ℤ pos U)) (odd-part (pos v -ℤ pos U))
-unfolding cosine-by
-in-0 k v y e i p q =
-    ring! (pos e ∷ []) (search polys depth 60 fits 100000) (search polys depth 60 fits 100000) tt ∙ even-of v y e p q
-    ∙ ap (λ k. cosine-by negℤ k (even-part (pos v -ℤ pos U)) (odd-part (pos v -ℤ pos U))) (sym i)
+-- a number and U more, as the code has it
+lift : (a b : ℕ) → b ≤ 1000000000 + a → pos (1000000000 + a - b) ≡ pos U +ℤ (pos a -ℤ pos b)
+lift a b h = same (nat (1000000000 + a - b)) (nat U +ᵢ (nat a -ᵢ nat b)) (omega arith)
 
-pub in-2 : (k v y e : ℕ) → k ≡ 2 → pos y ≡ y-of (pos v -ℤ pos U) → pos e ≡ horner (pos y) evens → pos 0 -ℤ pos e ≡ cosine-by negℤ k (even-part (pos v -ℤ pos U)) (odd-part (pos v -ℤ pos U))
-unfolding cosine-by
-in-2 k v y e i p q =
-    ring! (pos e ∷ []) (search polys depth 60 fits 100000) (search polys depth 60 fits 100000) tt ∙ ap negℤ (even-of v y e p q)
-    ∙ ap (λ k. cosine-by negℤ k (even-part (pos v -ℤ pos U)) (odd-part (pos v -ℤ pos U))) (sym i)
+-- the cosine at the quarter k, U more
+abbrev Lifted : ℕ → ℕ → ℕ → Type 0
+Lifted r k v = pos r ≡ pos U +ℤ cosine-by negℤ k (even-part (pos v -ℤ pos U)) (odd-part (pos v -ℤ pos U))
 
-pub in-1 : (k v y h : ℕ) → k ≡ 1 → pos y ≡ y-of (pos v -ℤ pos U) → pos h ≡ horner (pos y) odds
-    → pos h -ℤ pos ((v * h + 500000000) / 1000000000) ≡ cosine-by negℤ k (even-part (pos v -ℤ pos U)) (odd-part (pos v -ℤ pos U))
-unfolding cosine-by
-in-1 k v y h i p q =
-    flip (pos h) (pos ((v * h + 500000000) / 1000000000)) ∙ ap negℤ (odd-of v y h p q)
-    ∙ ap (λ k. cosine-by negℤ k (even-part (pos v -ℤ pos U)) (odd-part (pos v -ℤ pos U))) (sym i)
+at : (r k m v : ℕ) → k ≡ m → Lifted r m v → Lifted r k v
+at r k m v i h = subst (λ n. Lifted r n v) (sym i) h
 
-pub in-3 : (k v y h : ℕ) → k ≡ 3 → pos y ≡ y-of (pos v -ℤ pos U) → pos h ≡ horner (pos y) odds
-    → pos ((v * h + 500000000) / 1000000000) -ℤ pos h ≡ cosine-by negℤ k (even-part (pos v -ℤ pos U)) (odd-part (pos v -ℤ pos U))
+pub in-0 : (k v y e : ℕ) → k ≡ 0 → pos y ≡ y-of (pos v -ℤ pos U) → pos e ≡ horner (pos y) evens
+    → pos (1000000000 + e) ≡ pos U +ℤ cosine-by negℤ k (even-part (pos v -ℤ pos U)) (odd-part (pos v -ℤ pos U))
 unfolding cosine-by
-in-3 k v y h i p q = odd-of v y h p q ∙ ap (λ k. cosine-by negℤ k (even-part (pos v -ℤ pos U)) (odd-part (pos v -ℤ pos U))) (sym i)
+in-0 k v y e i p q = at (1000000000 + e) k 0 v i (ap (λ z. pos U +ℤ z) (even-of v y e p q))
 
--- the quotient is small enough to be signed
-pub odd-small : (v h : ℕ) → v ≤ 1785398164 → h ≤ 1000000000 → v * h ≤ 1785398164000000000
-odd-small v h l m = mul-le-mul l m
+pub in-2 : (k v y e : ℕ) → k ≡ 2 → pos y ≡ y-of (pos v -ℤ pos U) → pos e ≡ horner (pos y) evens → e ≤ 1000000000
+    → pos (1000000000 - e) ≡ pos U +ℤ cosine-by negℤ k (even-part (pos v -ℤ pos U)) (odd-part (pos v -ℤ pos U))
+unfolding cosine-by
+in-2 k v y e i p q l = at (1000000000 - e) k 2 v i (minus-nat 1000000000 e l ∙ ap (λ z. pos U +ℤ negℤ z) (even-of v y e p q))
+
+pub in-1 : (k v y h : ℕ) → k ≡ 1 → pos y ≡ y-of (pos v -ℤ pos U) → pos h ≡ horner (pos y) odds → (v * h + 500000000) / 1000000000 ≤ 1000000000 + h
+    → pos (1000000000 + h - (v * h + 500000000) / 1000000000) ≡ pos U +ℤ cosine-by negℤ k (even-part (pos v -ℤ pos U)) (odd-part (pos v -ℤ pos U))
+unfolding cosine-by
+in-1 k v y h i p q l =
+    let o = (v * h + 500000000) / 1000000000 in
+    at (1000000000 + h - o) k 1 v i (lift h o l ∙ ap (λ z. pos U +ℤ z) (flip (pos h) (pos o) ∙ ap negℤ (odd-of v y h p q)))
+
+pub in-3 : (k v y h : ℕ) → k ≡ 3 → pos y ≡ y-of (pos v -ℤ pos U) → pos h ≡ horner (pos y) odds → h ≤ 1000000000
+    → pos (1000000000 + (v * h + 500000000) / 1000000000 - h) ≡ pos U +ℤ cosine-by negℤ k (even-part (pos v -ℤ pos U)) (odd-part (pos v -ℤ pos U))
+unfolding cosine-by
+in-3 k v y h i p q l =
+    let o = (v * h + 500000000) / 1000000000 in
+    at (1000000000 + o - h) k 3 v i (lift o h (omega arith) ∙ ap (λ z. pos U +ℤ z) (odd-of v y h p q))
+
+-- the odd part is small
+pub odd-small : (v h : ℕ) → v ≤ 1785398164 → v * h ≤ 1785398164 * h
+odd-small v h l = mul-le-mul-right h l
 
 -- ---- the whole, from q and v
 
-w-back : (v : ℕ) (w : ℤ) → pos v ≡ pos U +ℤ w → pos v -ℤ pos U ≡ w
-w-back v w e = ap (λ t. t -ℤ pos U) e ∙ ring! (w ∷ []) (search polys depth 60 fits 100000) (search polys depth 60 fits 100000) tt
+pub lowered : (v : ℕ) (w : ℤ) → pos v ≡ pos U +ℤ w → pos v -ℤ pos U ≡ w
+lowered v w e = ap (λ t. t -ℤ pos U) e ∙ ring! (w ∷ []) (search polys depth 60 fits 100000) (search polys depth 60 fits 100000) tt
 
 quarter-back : (x q : ℕ) → pos q ≡ q-of quarter (pos x) → q % 4 ≡ modulo (q-of quarter (pos x)) 4
 unfolding modulo
@@ -182,8 +194,11 @@ quarter-back x q e = ap (λ t. modulo t 4) e
 
 pub cosine-from : (x q v : ℕ) → pos q ≡ q-of quarter (pos x) → pos v ≡ pos U +ℤ w-of quarter angle-step (pos x) → cosine-by negℤ (q % 4) (even-part (pos v -ℤ pos U)) (odd-part (pos v -ℤ pos U)) ≡ cosine (pos x)
 unfolding cosine working-cosine
-cosine-from x q v e f = ap₂ (λ k w. cosine-by negℤ k (even-part w) (odd-part w)) (quarter-back x q e) (w-back v (w-of quarter angle-step (pos x)) f)
+cosine-from x q v e f = ap₂ (λ k w. cosine-by negℤ k (even-part w) (odd-part w)) (quarter-back x q e) (lowered v (w-of quarter angle-step (pos x)) f)
 
-pub sine-from : (x q v : ℕ) → pos q ≡ q-of quarter (pos x) → pos v ≡ pos U +ℤ w-of quarter angle-step (pos x) → sine-by negℤ (q % 4) (even-part (pos v -ℤ pos U)) (odd-part (pos v -ℤ pos U)) ≡ sine (pos x)
+pub sine-from : (x q v : ℕ) → pos q ≡ q-of quarter (pos x) → pos v ≡ pos U +ℤ w-of quarter angle-step (pos x)
+    → cosine-by negℤ ((q % 4 + 3) % 4) (even-part (pos v -ℤ pos U)) (odd-part (pos v -ℤ pos U)) ≡ sine (pos x)
 unfolding sine working-sine
-sine-from x q v e f = ap₂ (λ k w. sine-by negℤ k (even-part w) (odd-part w)) (quarter-back x q e) (w-back v (w-of quarter angle-step (pos x)) f)
+sine-from x q v e f =
+    sine-turned negℤ (q % 4) (omega arith) (even-part (pos v -ℤ pos U)) (odd-part (pos v -ℤ pos U))
+    ∙ ap₂ (λ k w. sine-by negℤ k (even-part w) (odd-part w)) (quarter-back x q e) (lowered v (w-of quarter angle-step (pos x)) f)

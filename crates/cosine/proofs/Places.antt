@@ -11,14 +11,15 @@ use Rattle.integers.specs.Order.{_≼_}
 use Rattle.integers.specs.Division.{rounded, modulo}
 use Rattle.integers.proofs.Pairs.{nonneg}
 use Rattle.integers.proofs.Auto.{polys, ring!, cert!, gap}
-use Rattle.integers.proofs.Order.{natAbs-low, natAbs-le, natAbs-+, fits}
+use Rattle.integers.proofs.Division.{rounded-add}
+use Rattle.integers.proofs.Order.{natAbs-low, natAbs-+, fits}
 use Rattle.units.specs.Units.{U, millennium as T, turn as P, t-limit, angle-per-part}
 use Rattle.cosine.specs.declared.term.Prepared.{Prepared}
 use Rattle.cosine.specs.Prepared.{Residue, Ready}
 use Rattle.cosine.specs.Cosine.{cosine}
 use Rattle.cosine.specs.Terms.{term-angle, term-cosine, term-value}
+use Rattle.cosine.proofs.Natural.{rounded-nat}
 use Rattle.cosine.proofs.Turns.{cosine-mod}
-use Rattle.cosine.proofs.Ranges.{cosine-range}
 use Rattle.cosine.proofs.Residues.{residue-+, residue-*, residue-carry, residue-rest, residue-as, angle-of}
 
 -- ---- x + k
@@ -147,8 +148,34 @@ ready t m q₁ r₁ q₂ r₂ q₃ r₃ q₄ r₄ e h₁ h₂ h₃ h₄ =
 
 -- ---- the value
 
-pub cosine-small : (x : ℤ) → natAbs (cosine x) ≤ U
-cosine-small x = let h = cosine-range x in natAbs-le (cosine x) U (h .least) (h .most)
+-- m is a + 10^16, and c the cosine and U more
+pub scaled-is : (a : ℤ) (c m : ℕ) → pos m ≡ a +ℤ pos 10000000000000000
+    → pos (m / 1000000000 * c + (m % 1000000000 * c + 500000000) / 1000000000 + 10000000000000000) -ℤ pos (10000000 * c + m) ≡ rounded (a *ℤ (pos c -ℤ pos U)) U
+scaled-is a c m e =
+    let hi = m / 1000000000 in
+    let lo = m % 1000000000 in
+    let whole : m ≡ 1000000000 * hi + lo = omega arith in
+    let K = pos hi *ℤ pos c -ℤ pos 10000000 *ℤ pos c -ℤ a in
+    ap (λ t. pos (hi * c) +ℤ t +ℤ pos 10000000000000000 -ℤ (pos (10000000 * c) +ℤ pos m)) (sym (rounded-nat (lo * c) U))
+    ∙ ap (λ t. pos (hi * c) +ℤ rounded (pos (lo * c)) U +ℤ pos 10000000000000000 -ℤ (pos (10000000 * c) +ℤ t)) e
+    ∙ sort a (pos hi) (pos c) (rounded (pos (lo * c)) U)
+    ∙ sym (rounded-add K (pos (lo * c)) U (omega arith))
+    ∙ ap (λ t. rounded t U) (split a (pos c) (pos hi) (pos lo) (pos m) e (ap pos whole))
+  where
+    sort : (a h c z : ℤ) → h *ℤ c +ℤ z +ℤ pos 10000000000000000 -ℤ (pos 10000000 *ℤ c +ℤ (a +ℤ pos 10000000000000000)) ≡ h *ℤ c -ℤ pos 10000000 *ℤ c -ℤ a +ℤ z
+    sort a h c z = ring! (a ∷ h ∷ c ∷ z ∷ []) (search polys depth 60 fits 100000) (search polys depth 60 fits 100000) tt
+
+    split : (a c h l m : ℤ) → m ≡ a +ℤ pos 10000000000000000 → m ≡ pos 1000000000 *ℤ h +ℤ l → pos U *ℤ (h *ℤ c -ℤ pos 10000000 *ℤ c -ℤ a) +ℤ l *ℤ c ≡ a *ℤ (c -ℤ pos U)
+    split a c h l m e f =
+        ring! (a ∷ c ∷ h ∷ l ∷ []) {y = (pos 1000000000 *ℤ h +ℤ l -ℤ pos 10000000000000000) *ℤ c -ℤ a *ℤ pos U} (search polys depth 60 fits 100000) (search polys depth 60 fits 100000) tt
+        ∙ ap (λ t. (t -ℤ pos 10000000000000000) *ℤ c -ℤ a *ℤ pos U) (sym f ∙ e)
+        ∙ ring! (a ∷ c ∷ []) (search polys depth 60 fits 100000) (search polys depth 60 fits 100000) tt
+
+pub scaled-high : (m c : ℕ) → m < 20000000000000000 → c ≤ 2000000000 → m / 1000000000 * c ≤ 40000000000000000
+scaled-high m c h k = let l : m / 1000000000 ≤ 20000000 = omega arith in mul-le-mul l k
+
+pub scaled-low : (m c : ℕ) → c ≤ 2000000000 → m % 1000000000 * c ≤ 2000000000000000000
+scaled-low m c k = let l : m % 1000000000 ≤ 1000000000 = omega arith in mul-le-mul l k
 
 pub value-is : (a : ℤ) (b : ℕ) (c t : ℤ) (r : ℕ) → modulo (pos r) P ≡ term-angle b c t → rounded (a *ℤ cosine (pos r)) U ≡ term-value a b c t
 unfolding term-value term-cosine

@@ -5,7 +5,7 @@ ghost use Prim.Native.Nat.{_*_, _<_, _≤_, _^_};
 ghost use lib.IntN.{ℤ, pos, negℤ, _+ℤ_, _-ℤ_, _*ℤ_};
 ghost use Rattle.integers.specs.Division.{rounded};
 ghost use Rattle.units.specs.Units.{U, quarter, angle-step};
-ghost use Rattle.cosine.specs.Cosine.{q-of, w-of, y-of, evens, odds, horner, even-part, odd-part, cosine-by, sine-by, cosine, sine};
+ghost use Rattle.cosine.specs.Cosine.{q-of, w-of, y-of, evens, odds, horner, even-part, odd-part, cosine-by, cosine, sine};
 use arith::signed::sub;
 use arith::signed::wide;
 
@@ -78,50 +78,51 @@ pub fn difference(a: u64, b: u64) -> i64
     sub(wide(a), wide(b))
 }
 
-// The cosine at the quarter k, from v and y. The odd part is the rounded v*h / U, less h.
-pub fn cosine_in(k: u64, v: u64, y: u64) -> i64
+// 10^9 more than the cosine at the quarter k, from v and y. The odd part is the rounded v*h / U, less h.
+pub fn lifted(k: u64, v: u64, y: u64) -> u64
     requires { ⌜ (k < 4) × (v ≤ 1785398164) × (pos y ≡ y-of (pos v -ℤ pos U)) × (y ≤ 617000000) ⌝ }
-    ensures { λ r. ⌜ r ≡ cosine-by negℤ k (even-part (pos v -ℤ pos U)) (odd-part (pos v -ℤ pos U)) ⌝ }
+    ensures { λ r. ⌜ (pos r ≡ pos U +ℤ cosine-by negℤ k (even-part (pos v -ℤ pos U)) (odd-part (pos v -ℤ pos U))) × (r ≤ 2000000000) ⌝ }
 {
     if k % 2 == 0 {
         let e = even_series(y);
         if k == 0 {
-            return difference(e, 0);
+            return 1000000000 + e;
         }
-        return difference(0, e);
+        return 1000000000 - e;
     }
     let h = odd_series(y);
     let o = (v * h + 500000000) / 1000000000;
     if k == 1 {
-        return difference(h, o);
+        return 1000000000 + h - o;
     }
-    difference(o, h)
+    1000000000 + o - h
 }
 
-pub fn sine_in(k: u64, v: u64, y: u64) -> i64
-    requires { ⌜ (k < 4) × (v ≤ 1785398164) × (pos y ≡ y-of (pos v -ℤ pos U)) × (y ≤ 617000000) ⌝ }
-    ensures { λ r. ⌜ r ≡ sine-by negℤ k (even-part (pos v -ℤ pos U)) (odd-part (pos v -ℤ pos U)) ⌝ }
+// 10^9 more than the cosine of an angle that is not negative, with no remainder by the turn.
+pub fn lifted_cosine(x: u64) -> u64
+    requires { ⌜ x < 2 ^ 63 ⌝ }
+    ensures { λ r. ⌜ (pos r ≡ pos U +ℤ cosine (pos x)) × (r ≤ 2000000000) ⌝ }
 {
-    cosine_in((k + 3) % 4, v, y)
+    let q = quarters(x);
+    let v = offset(x, q);
+    lifted(q % 4, v, square(v))
 }
 
-// The cosine of an angle that is not negative, with no remainder by the turn.
 pub fn cosine_at(x: u64) -> i64
     requires { ⌜ x < 2 ^ 63 ⌝ }
     ensures { λ r. ⌜ r ≡ cosine (pos x) ⌝ }
 {
-    let q = quarters(x);
-    let v = offset(x, q);
-    cosine_in(q % 4, v, square(v))
+    difference(lifted_cosine(x), 1000000000)
 }
 
+// The sine is the cosine three quarters on.
 pub fn sine_at(x: u64) -> i64
     requires { ⌜ x < 2 ^ 63 ⌝ }
     ensures { λ r. ⌜ r ≡ sine (pos x) ⌝ }
 {
     let q = quarters(x);
     let v = offset(x, q);
-    sine_in(q % 4, v, square(v))
+    difference(lifted((q % 4 + 3) % 4, v, square(v)), 1000000000)
 }
 
 // Both, for the price of one reduction.
@@ -133,7 +134,7 @@ pub fn cosine_sine(x: u64) -> Trig
     let v = offset(x, q);
     let y = square(v);
     Trig {
-        cos: cosine_in(q % 4, v, y),
-        sin: sine_in(q % 4, v, y),
+        cos: difference(lifted(q % 4, v, y), 1000000000),
+        sin: difference(lifted((q % 4 + 3) % 4, v, y), 1000000000),
     }
 }

@@ -2,13 +2,13 @@
 // Angles are worked modulo the turn while they are divided by T, so that no product passes 64 bits.
 ghost use mathlib.Core.Path.{_≡_};
 ghost use Prim.Native.Nat.{_+_, _*_, _/_, _%_, _<_, _≤_, _^_};
-ghost use lib.IntN.{ℤ, pos, natAbs, _+ℤ_};
-ghost use Rattle.integers.specs.Division.{modulo};
-ghost use Rattle.units.specs.Units.{millennium, turn, t-limit, a-limit, b-limit, c-limit};
+ghost use lib.IntN.{ℤ, pos, natAbs, _+ℤ_, _-ℤ_, _*ℤ_};
+ghost use Rattle.integers.specs.Division.{rounded, modulo};
+ghost use Rattle.units.specs.Units.{U, millennium, turn, t-limit, a-limit, b-limit, c-limit};
 ghost use Rattle.cosine.specs.Prepared.{Ready};
 ghost use Rattle.cosine.specs.Terms.{term-angle, term-value};
-use crate::inner::cosine_at;
-use arith::muldiv::scale;
+use crate::inner::difference;
+use crate::inner::lifted_cosine;
 use arith::signed::add;
 use arith::signed::low;
 use arith::signed::wide;
@@ -117,10 +117,20 @@ pub fn angle(p: Prepared, b: u64, c: i64) -> u64
     q + r / 31557600000000 + 100 * b
 }
 
+// a (c - 10^9) / 10^9 rounded, for a cosine that is 10^9 too great; a is split at 10^9, and 10^16 greater until the end.
+pub fn scaled(a: i64, c: u64) -> i64
+    requires { ⌜ (natAbs a < a-limit) × (c ≤ 2000000000) ⌝ }
+    ensures { λ r. ⌜ r ≡ rounded (a *ℤ (pos c -ℤ pos U)) U ⌝ }
+{
+    let m = raised(a, 10000000000000000);
+    let x = m / 1000000000 * c + (m % 1000000000 * c + 500000000) / 1000000000;
+    difference(x + 10000000000000000, 10000000 * c + m)
+}
+
 // A term's value.
 pub fn term_value(p: Prepared, a: i64, b: u64, c: i64) -> i64
     requires { ⌜ Ready p × (natAbs a < a-limit) × (b < b-limit) × (natAbs c < c-limit) ⌝ }
     ensures { λ r. ⌜ r ≡ term-value a b c (p .t) ⌝ }
 {
-    scale(a, cosine_at(angle(p, b, c)))
+    scaled(a, lifted_cosine(angle(p, b, c)))
 }
