@@ -16,7 +16,7 @@ pub struct Quot {
 }
 
 // One digit of 16 bits more: (q, r) are the quotient and the rest of the digits so far, times b.
-pub fn step(q: u64, r: u64, g: u64, b: u64, d: u64) -> Quot
+fn step(q: u64, r: u64, g: u64, b: u64, d: u64) -> Quot
     requires { ⌜ (r < d) × (d ≤ 2 ^ 47) × (b ≤ 2 ^ 47) × (g < 65536) × ((q * d + r) * 65536 + g * b < d * 2 ^ 64) ⌝ }
     ensures { λ z. ⌜ (z .q ≡ ((q * d + r) * 65536 + g * b) / d) × (z .r ≡ ((q * d + r) * 65536 + g * b) % d) ⌝ }
 {

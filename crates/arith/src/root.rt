@@ -7,13 +7,13 @@ ghost use lib.IntN.{natAbs, _+ℤ_, _*ℤ_};
 ghost use Rattle.integers.specs.Root.{root};
 use crate::signed::abs;
 
-pub struct Wide {
-    pub hi: u64,
-    pub lo: u64,
+struct Wide {
+    hi: u64,
+    lo: u64,
 }
 
 // x·x in two limbs, by halves of 23 bits.
-pub fn square(x: u64) -> Wide
+fn square(x: u64) -> Wide
     requires { ⌜ x ≤ 2 ^ 46 ⌝ }
     ensures { λ w. ⌜ (w .hi ≡ x * x / 2 ^ 46) × (w .lo ≡ x * x % 2 ^ 46) ⌝ }
 {
@@ -28,7 +28,7 @@ pub fn square(x: u64) -> Wide
 }
 
 // The sum of three squares in two limbs.
-pub fn squares(x: u64, y: u64, z: u64) -> Wide
+fn squares(x: u64, y: u64, z: u64) -> Wide
     requires { ⌜ x * x + y * y + z * z < 2 ^ 92 ⌝ }
     ensures { λ w. ⌜ (w .hi ≡ (x * x + y * y + z * z) / 2 ^ 46) × (w .lo ≡ (x * x + y * y + z * z) % 2 ^ 46) ⌝ }
 {
@@ -43,7 +43,7 @@ pub fn squares(x: u64, y: u64, z: u64) -> Wide
 }
 
 // Whether g·g is above the number.
-pub fn above(g: u64, hi: u64, lo: u64) -> bool
+fn above(g: u64, hi: u64, lo: u64) -> bool
     requires { ⌜ (g ≤ 2 ^ 46) × (hi < 2 ^ 46) × (lo < 2 ^ 46) ⌝ }
     ensures { λ r. ⌜ r ≡ ltb (hi * 2 ^ 46 + lo) (g * g) ⌝ }
 {
@@ -53,7 +53,7 @@ pub fn above(g: u64, hi: u64, lo: u64) -> bool
 }
 
 // From g down to the first whose square is not above the number.
-pub fn lowered(start: u64, hi: u64, lo: u64) -> u64
+fn lowered(start: u64, hi: u64, lo: u64) -> u64
     requires { ⌜ (start ≤ 2 ^ 46) × (hi < 2 ^ 46) × (lo < 2 ^ 46) ⌝ }
     ensures { λ r. ⌜ (r ≤ 2 ^ 46) × (r * r ≤ hi * 2 ^ 46 + lo) ⌝ }
 {
@@ -65,7 +65,7 @@ pub fn lowered(start: u64, hi: u64, lo: u64) -> u64
 }
 
 // From g, whose square is not above the number, up to the last such.
-pub fn raised(start: u64, hi: u64, lo: u64) -> u64
+fn raised(start: u64, hi: u64, lo: u64) -> u64
     requires { ⌜ (start ≤ 2 ^ 46) × (hi < 2 ^ 46) × (lo < 2 ^ 46) × (start * start ≤ hi * 2 ^ 46 + lo) ⌝ }
     ensures { λ r. ⌜ r ≡ root (hi * 2 ^ 46 + lo) ⌝ }
 {
@@ -77,7 +77,7 @@ pub fn raised(start: u64, hi: u64, lo: u64) -> u64
 }
 
 // 2^22 times the root of m / 2^44, within a part in 4,000 from 2^44 on: a polynomial of degree four.
-pub fn sketch(m: u64) -> u64
+fn sketch(m: u64) -> u64
     requires { ⌜ m < 2 ^ 46 ⌝ }
     ensures { λ r. ⌜ (1597633 ≤ r) × (r < 2 ^ 24) ⌝ }
 {
@@ -89,7 +89,7 @@ pub fn sketch(m: u64) -> u64
 }
 
 // A step of Newton's towards the root of m.
-pub fn newton(a: u64, m: u64) -> u64
+fn newton(a: u64, m: u64) -> u64
     requires { ⌜ (1597633 ≤ a) × (a < 2 ^ 24) × (m < 2 ^ 46) ⌝ }
     ensures { λ r. ⌜ (1 < r) × (r < 2 ^ 26) ⌝ }
 {
@@ -97,7 +97,7 @@ pub fn newton(a: u64, m: u64) -> u64
 }
 
 // s, or one less where its square is above m.
-pub fn not_above(s: u64, m: u64) -> u64
+fn not_above(s: u64, m: u64) -> u64
     requires { ⌜ (0 < s) × (s < 2 ^ 26) ⌝ }
     ensures { λ r. ⌜ (r ≤ s) × (s ≤ r + 1) ⌝ }
 {
@@ -108,7 +108,7 @@ pub fn not_above(s: u64, m: u64) -> u64
 }
 
 // What m has above s·s.
-pub fn rest(s: u64, m: u64) -> u64
+fn rest(s: u64, m: u64) -> u64
     requires { ⌜ s < 2 ^ 26 ⌝ }
 {
     if m < s * s {
@@ -119,7 +119,7 @@ pub fn rest(s: u64, m: u64) -> u64
 
 // A guess at the root: the number is moved up to 91 or 92 bits, the root of its upper half found by a polynomial and one step of Newton's, and the
 // root of the whole by another.
-pub fn guess(hi: u64, lo: u64) -> u64
+fn guess(hi: u64, lo: u64) -> u64
     requires { ⌜ (hi < 2 ^ 46) × (lo < 2 ^ 46) ⌝ }
 {
     let n = u64::leading_zeros(hi * 262144 + 1) % 64 / 2;
@@ -133,7 +133,7 @@ pub fn guess(hi: u64, lo: u64) -> u64
 }
 
 // The guess with its range; that of a number of one limb is made at the upper one.
-pub fn start(hi: u64, lo: u64) -> u64
+fn start(hi: u64, lo: u64) -> u64
     requires { ⌜ (hi < 2 ^ 46) × (lo < 2 ^ 46) ⌝ }
     ensures { λ r. ⌜ r ≤ 2 ^ 46 ⌝ }
 {
