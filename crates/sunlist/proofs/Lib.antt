@@ -1,0 +1,6 @@
+-- Demand 3: `Demand` states it. `Window`: the window's figures; `Answered`: what an answered list says; `Minutes`: the decided minutes and their flags; `Near`: coordinates near exact sums at each minute.
+pub mod Window
+pub mod Answered
+pub mod Minutes
+pub mod Near
+pub mod Demand

@@ -1,0 +1,58 @@
+-- The figures of a window that fits, and that its minutes are within the limit of time where the first and the last are. Assumes nothing.
+use mathlib.Core.Path.{_≡_, refl, sym, subst}
+use mathlib.Core.Bool.{Bool, true, false, _&&_}
+use mathlib.Core.List.{[], _∷_}
+use Prim.Native.Nat.{ℕ, _*_, _-_, _≤_, _<_}
+use native.Mathlib.Omega.{arith}
+use borrow.Author.Tests.{leb-true}
+use lib.Dec.{T, leb, le→leb}
+use lib.IntN.{ℤ, pos, negsuc, natAbs, negℤ, _+ℤ_}
+use lib.Signed.{leZ}
+use Rattle.integers.specs.Order.{_≼_}
+use Rattle.integers.proofs.Pairs.{nonneg}
+use Rattle.integers.proofs.Auto.{polys, cert!, gap, _⊞_}
+use Rattle.integers.proofs.Order.{natAbs-low, natAbs-high, natAbs-le}
+use Rattle.units.specs.Units.{t-limit, in-limit}
+use Rattle.units.specs.declared.Instant.{Instant}
+use Rattle.sunlist.specs.SunList.{minute, window-fits}
+
+pub both : (x y : Bool) → (x && y) ≡ true → (x ≡ true) × (y ≡ true)
+both true true e = (refl, refl)
+both true false e = (refl, e)
+both false y e = absurd (let z : T false = subst T (sym e) tt in z)
+
+-- A whole number from a to b.
+pub record From (a b : ℕ) (z : ℤ) : Type 0 where
+  pub whole : z ≡ pos (natAbs z)
+  pub least : a ≤ natAbs z
+  pub most : natAbs z ≤ b
+
+from : (a b : ℕ) (z : ℤ) → leZ (pos a) z ≡ true → leZ z (pos b) ≡ true → From a b z
+from a b (pos n) h k = record { whole = refl; least = leb-true a n h; most = leb-true n b k }
+from a b (negsuc n) h k = absurd (let z : T false = subst T (sym h) tt in z)
+
+pub record Fits (minutes keep-out : ℤ) : Type 0 where
+  pub minutes-in : From 1 1440 minutes
+  pub keep-out-in : From 60 2700 keep-out
+
+pub fits-is : (minutes keep-out : ℤ) → window-fits minutes keep-out ≡ true → Fits minutes keep-out
+unfolding window-fits
+fits-is minutes keep-out e =
+    let h = both (leZ (pos 60) keep-out && leZ keep-out (pos 2700)) (leZ (pos 1) minutes && leZ minutes (pos 1440)) e in
+    let k = both (leZ (pos 60) keep-out) (leZ keep-out (pos 2700)) (h .0) in
+    let m = both (leZ (pos 1) minutes) (leZ minutes (pos 1440)) (h .1) in
+    record { minutes-in = from 1 1440 minutes (m .0) (m .1); keep-out-in = from 60 2700 keep-out (k .0) (k .1) }
+
+-- Between two instants that are within the limit.
+between : (t : ℤ) (a b l : ℕ) → natAbs t ≤ l → natAbs (t +ℤ pos b) ≤ l → a ≤ b → natAbs (t +ℤ pos a) ≤ l
+between t a b l h k m =
+    let low = natAbs-low t l h in
+    let high = natAbs-high (t +ℤ pos b) l k in
+    let o : pos a ≼ pos b = record { le = le→leb a b m } in
+    natAbs-le (t +ℤ pos a) l
+    (cert! (t ∷ pos a ∷ pos l ∷ []) 0 (gap low ⊞ nonneg a) (search polys depth 30) (search polys depth 30) (search polys depth 30) tt)
+    (cert! (t ∷ pos a ∷ pos b ∷ pos l ∷ []) 0 (gap high ⊞ gap o) (search polys depth 30) (search polys depth 30) (search polys depth 30) tt)
+
+pub minute-in : (t0 : Instant) (n j : ℕ) → in-limit (t0 .ms) ≡ true → in-limit (minute t0 (n - 1) .ms) ≡ true → j < n → natAbs (minute t0 j .ms) ≤ t-limit
+unfolding in-limit
+minute-in t0 n j h k l = between (t0 .ms) (60000 * j) (60000 * (n - 1)) t-limit (leb-true _ _ h) (leb-true _ _ k) (omega arith)
