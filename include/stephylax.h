@@ -48,7 +48,7 @@ typedef struct { uint64_t refusal; int64_t figure; int64_t right_ascension, decl
 typedef struct { uint64_t refusal; double right_ascension, declination, distance; } stephylax_mount;
 
 /* The state of a text reader, given and returned by value. Its words are the library's own. */
-typedef struct { uint64_t words[24]; } stephylax_text;
+typedef struct { uint64_t words[17]; } stephylax_text;
 
 /*
  * stephylax_day_of_date: noon day number of a date.

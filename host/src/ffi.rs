@@ -3,7 +3,7 @@
 //! Nothing checks these declarations against the library but the tests, which compare every field of every answer.
 
 /// How many 64-bit words the state of a text reader has.
-pub const TEXT_WORDS: usize = 24;
+pub const TEXT_WORDS: usize = 17;
 
 #[repr(C)]
 #[derive(Clone, Copy, Debug, PartialEq, Eq)]

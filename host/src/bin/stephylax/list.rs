@@ -170,32 +170,34 @@ fn csv(window: &Window, runs: &[Run]) -> Result<String, Failure> {
     Ok(text)
 }
 
+/// A number and its noun.
+fn counted(n: i64, noun: &str) -> String {
+    format!("{} {noun}{}", parted(n), if n == 1 { "" } else { "s" })
+}
+
 fn table(planet: &Series, window: &Window, runs: &[Run]) -> Result<String, Failure> {
     let mut text = format!(
-        "{} within {} arcminutes ({}°{:02}′) of the Sun, {} minutes from {} TD\n",
+        "{} within {} ({}°{:02}′) of the Sun, {} from {} TD\n",
         planet.name,
-        parted(window.keep_out),
+        counted(window.keep_out, "arcminute"),
         window.keep_out / 60,
         window.keep_out % 60,
-        parted(window.minutes),
+        counted(window.minutes, "minute"),
         when(window, 0)?
     );
     if runs.is_empty() {
         return Ok(text + "No minute is listed.\n");
     }
-    text += &format!("{:<18}{:<18}{:>9}   {}\n", "from (TD)", "to (TD)", "minutes", "minutes from the start");
+    let width = when(window, 0)?.chars().count() + 2;
+    text += &format!("{:<width$}{:<width$}{:>9}   {}\n", "from (TD)", "to (TD)", "minutes", "minutes from the start");
     let mut listed = 0;
     for &(first, last) in runs {
         let count = last - first + 1;
         listed += count;
-        text += &format!(
-            "{:<18}{:<18}{:>9}   {first} to {last}\n",
-            when(window, first)?,
-            when(window, last)?,
-            parted(count)
-        );
+        let (from, to) = (when(window, first)?, when(window, last)?);
+        text += &format!("{from:<width$}{to:<width$}{:>9}   {first} to {last}\n", parted(count));
     }
-    let word = if runs.len() == 1 { "run" } else { "runs" };
-    text += &format!("{} {word}, {} of {} minutes.\n", runs.len(), parted(listed), parted(window.minutes));
+    text +=
+        &format!("{}, {} of {} minutes.\n", counted(runs.len() as i64, "run"), parted(listed), parted(window.minutes));
     Ok(text)
 }

@@ -25,13 +25,13 @@ const TOP: f64 = 74.0;
 const BOTTOM: f64 = 392.0;
 const MINUTE_MS: i64 = 60_000;
 /// How many points the curve has at most.
-const POINTS: i64 = 360;
+const POINTS: i64 = 900;
 
 const STYLE: &str = "text{font-family:'DejaVu Sans',Verdana,Helvetica,Arial,sans-serif;font-size:14px;fill:#333}\
 .title{font-size:19px;font-weight:bold;fill:#111}.note{font-size:13px;fill:#555}\
 .grid{stroke:#ddd;stroke-width:1}.frame{fill:none;stroke:#888;stroke-width:1}\
 .listed{fill:#e69f00;fill-opacity:0.38}.curve{fill:none;stroke:#0b4f8a;stroke-width:2.2;stroke-linejoin:round}\
-.angle{stroke:#b3261e;stroke-width:1.6;stroke-dasharray:8 5}.angle-text{fill:#b3261e}";
+.angle{stroke:#b3261e;stroke-width:1.6;stroke-dasharray:8 5}.angle-text{fill:#b3261e;paint-order:stroke;stroke:#fff;stroke-width:4px;stroke-opacity:0.75}";
 
 /// The heliocentric vector of a series at t, in AU.
 fn vector(series: &Series, t: i64) -> Result<[f64; 3], Failure> {
@@ -125,7 +125,10 @@ fn time_axis(svg: &mut String, scale: &Scale, window: &Window) -> Result<(), Fai
         let x = scale.x(ms as f64 / MINUTE_MS as f64);
         *svg += &format!("<line class='grid' x1='{x:.1}' y1='{TOP}' x2='{x:.1}' y2='{BOTTOM}'/>\n");
         let label = if step < 1440 { time_text(date) } else { date_text(date) };
-        *svg += &format!("<text x='{x:.1}' y='{}' text-anchor='middle'>{label}</text>\n", BOTTOM + 21.0);
+        // A label at the right edge ends there instead of standing under its tick.
+        let at_edge = RIGHT < x + 20.0;
+        let (x, anchor) = if at_edge { (RIGHT + 12.0, "end") } else { (x, "middle") };
+        *svg += &format!("<text x='{x:.1}' y='{}' text-anchor='{anchor}'>{label}</text>\n", BOTTOM + 21.0);
         ms += step * MINUTE_MS;
     }
     Ok(())
@@ -192,7 +195,9 @@ pub fn picture(scene: &Scene) -> Result<String, Failure> {
     listed_minutes(&mut svg, &scale, scene.runs);
     let drawn = minutes.iter().zip(&curve);
     let drawn = drawn.map(|(minute, degrees)| format!("{:.2},{:.2}", scale.x(*minute as f64), scale.y(*degrees)));
-    let drawn: Vec<String> = drawn.collect();
+    let mut drawn: Vec<String> = drawn.collect();
+    // The last minute lasts to the plot's edge.
+    drawn.push(format!("{RIGHT:.2},{:.2}", scale.y(curve[curve.len() - 1])));
     svg += &format!("<polyline class='curve' points='{}'/>\n", drawn.join(" "));
     keep_out(&mut svg, &scale, window.keep_out);
     svg += &format!("<rect class='frame' x='{LEFT}' y='{TOP}' width='{}' height='{}'/>\n", RIGHT - LEFT, BOTTOM - TOP);
