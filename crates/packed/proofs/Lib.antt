@@ -1,6 +1,8 @@
 pub mod Decode
 pub mod Encode
 pub mod Folding
+pub mod Shortest
+pub mod Appending
 pub mod Reading
 pub mod Judging
 pub mod Accepting
@@ -8,4 +10,8 @@ pub mod Walking
 pub mod Blocks
 pub mod Tabling
 pub mod Unpacking
+pub mod Limits
+pub mod Coarse
+pub mod Judged
+pub mod Packing
 pub mod Theorems

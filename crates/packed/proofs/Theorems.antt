@@ -1,12 +1,53 @@
--- The figures of document 01 for packed input. Assumes nothing.
-use mathlib.Core.Path.{_≡_, refl}
-use mathlib.Core.List.{List, [], _∷_}
+-- What holds of packed series as a whole, and the figures of document 01. Assumes nothing.
+use mathlib.Core.Path.{_≡_, refl, sym, ap, _∙_}
+use mathlib.Core.List.{List, [], _∷_, _++_, append-nil}
 use Prim.Native.Nat.{ℕ}
-use lib.ListN.{replicate}
+use native.Mathlib.Omega.{arith}
+use lib.ListN.{length, replicate}
 use Rattle.units.specs.declared.Refusal.the-variants.{NotShortest}
-use Rattle.packed.specs.Limits.{opened, count-fits}
+use Rattle.packed.specs.declared.Term.{Term}
+use Rattle.packed.specs.Limits.{block-count, no-sums, opened, count-fits}
 use Rattle.packed.specs.Numbers.{Read, got, bad, next, closed, groups-from, number, groups, encode}
-use Rattle.packed.specs.Series.{Parsed, accepted, refused, judged, read-terms, read-block, summed, after-block, read-blocks, read-series, ended, parse}
+use Rattle.packed.specs.Series.{Parsed, accepted, refused, judged, read-terms, read-block, summed, after-block, read-blocks, read-series, ended, parse, pack}
+use Rattle.packed.specs.Allowed.{Allowed}
+use Rattle.packed.proofs.Shortest.{AllBytes}
+use Rattle.packed.proofs.Judged.{good-allowed, allowed-good}
+use Rattle.packed.proofs.Packing.{blocks-begin, blocks-are-good, blocks-packed}
+
+-- An accepted series was read to the end of its bytes.
+record ToEnd (x : List ℕ) (blocks : List (List Term)) : Type 0 where
+  at : ℕ
+  is : read-blocks block-count 0 no-sums 0 x ≡ got blocks at []
+
+to-end : (x : List ℕ) (blocks : List (List Term)) → parse x ≡ accepted blocks → ToEnd x blocks
+unfolding parse read-series
+to-end x blocks e = go (read-blocks block-count 0 no-sums 0 x) refl e
+  where
+    go : (r : Read (List (List Term))) → read-blocks block-count 0 no-sums 0 x ≡ r → ended r ≡ accepted blocks → ToEnd x blocks
+    go (got bs at []) p q = unfold ended in let w : bs ≡ blocks = cc in record { at = at; is = rw w at p }
+    go (got bs at (b ∷ rest)) p q = unfold ended in let z : _≡_ {A = ℕ} 0 1 = cc in absurd (omega arith)
+    go (bad r) p q = unfold ended in let z : _≡_ {A = ℕ} 0 1 = cc in absurd (omega arith)
+
+-- The blocks of an accepted series are within the limits.
+pub accepted-allowed : (x : List ℕ) (blocks : List (List Term)) → parse x ≡ accepted blocks → Allowed blocks
+accepted-allowed x blocks e =
+    let t = to-end x blocks e in
+    let g = blocks-are-good block-count 0 no-sums 0 x blocks (t .at) [] (t .is) in
+    good-allowed blocks (g .many) (g .good)
+
+-- The packed form of a series within the limits is accepted as that series.
+pub pack-parse : (blocks : List (List Term)) → Allowed blocks → parse (pack blocks) ≡ accepted blocks
+unfolding parse read-series ended
+pack-parse blocks a =
+    let c = blocks-packed 0 [] (allowed-good blocks a) in
+    let e : read-blocks block-count 0 no-sums 0 (pack blocks) ≡ got blocks (c .to) [] = rw (append-nil (pack blocks), a .eighteen) at (c .is) in
+    rw e
+
+-- The bytes of an accepted series are the packed form of its blocks: no other bytes are accepted for them.
+pub parse-pack : (x : List ℕ) (blocks : List (List Term)) → AllBytes x → parse x ≡ accepted blocks → x ≡ pack blocks
+parse-pack x blocks b e =
+    let t = to-end x blocks e in
+    blocks-begin block-count 0 no-sums 0 x blocks (t .at) [] b (t .is) .form ∙ append-nil (pack blocks)
 
 -- 300 is AC 02.
 pub three-hundred : encode 300 ≡ 172 ∷ 2 ∷ []

@@ -2,5 +2,6 @@
 pub mod Limits
 pub mod Numbers
 pub mod Series
+pub mod Allowed
 pub mod Tables
 pub mod Answers

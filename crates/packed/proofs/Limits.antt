@@ -1,0 +1,76 @@
+-- The running judgement of blocks, and the limits of a whole series: each follows from the other. Assumes nothing.
+use mathlib.Core.Path.{_≡_, refl, sym, ap, _∙_, subst}
+use mathlib.Core.Bool.{Bool, true, false, cond, _&&_}
+use mathlib.Core.List.{List, [], _∷_, _++_}
+use Prim.Native.Nat.{ℕ, zero, suc, _+_, _*_, _-_, _%_, _^_, _≤_, _<_}
+use native.Mathlib.Nat.{le-trans, mul-add}
+use native.Mathlib.Omega.{arith}
+use native.Mathlib.Decide.{ℕ-discrete}
+use borrow.Author.Tests.{eq-eqb, ne-eqb}
+use lib.Dec.{eqb}
+use lib.IntN.{ℤ, natAbs}
+use lib.ListN.{length, getD, take, drop}
+use Rattle.units.specs.Units.{U, tau-limit, a-limit, b-limit, c-limit}
+use Rattle.packed.specs.declared.Term.{Term}
+use Rattle.packed.specs.declared.Sums.{Sums}
+use Rattle.packed.specs.Limits.{block-limit, series-limit, total-limit, powers, block-count, constant, weight, coarse-share, coarse-base, coarse-limit, factor, opened, added}
+use Rattle.packed.specs.Series.{summed, after-block, term-count}
+use Rattle.packed.specs.Allowed.{TermFits, AllFit, none, more, total-of, moving-total, moving-count, BlockFits, coarseness, coordinate, Allowed}
+use Rattle.packed.proofs.Accepting.{GoodA, GoodC, GoodTerm}
+
+-- What a block adds to the coarseness sum, at factor f.
+unfoldable pub burden : ℕ → List Term → ℕ
+burden f ts = f * (coarse-share * moving-total ts + U * moving-count ts)
+
+-- A term more.
+burden-more : (f : ℕ) (t : Term) (ts : List Term) → burden f (t ∷ ts) ≡ weight f (t .a) (t .b) (t .c) + burden f ts
+unfolding burden weight moving-total moving-count
+burden-more f t ts = go (constant (t .b) (t .c))
+  where
+    go : (b : Bool) → f * (coarse-share * (cond b 0 (natAbs (t .a)) + moving-total ts) + U * (cond b 0 1 + moving-count ts)) ≡ cond b 0 (f * (coarse-share * natAbs (t .a) + U)) + f * (coarse-share * moving-total ts + U * moving-count ts)
+    go true = omega arith
+    go false = omega (arith, mul-add f (coarse-share * natAbs (t .a) + U) (coarse-share * moving-total ts + U * moving-count ts))
+
+-- Each term is good after the sums of those before it.
+pub data GoodTerms (f : ℕ) : Sums → List Term → Type 0 where
+  good-none : {s : Sums} → GoodTerms f s []
+  good-term : {s : Sums} {t : Term} {ts : List Term} → GoodTerm f s t → GoodTerms f (added f s t) ts → GoodTerms f s (t ∷ ts)
+
+pub terms-fit : {f : ℕ} {s : Sums} {ts : List Term} → GoodTerms f s ts → AllFit ts
+terms-fit good-none = none
+terms-fit (good-term g h) = more (record { a-below = g .good-a .small; b-below = g .good-b; c-below = g .good-c .small }) (terms-fit h)
+
+-- The sums after terms.
+pub summed-total : (f : ℕ) (s : Sums) (ts : List Term) → summed f s ts .total ≡ s .total + total-of ts
+unfolding summed added total-of
+summed-total f s [] = omega arith
+summed-total f s (t ∷ ts) = summed-total f (added f s t) ts ∙ omega arith
+
+pub summed-coarse : (f : ℕ) (s : Sums) (ts : List Term) → summed f s ts .coarse ≡ s .coarse + burden f ts
+unfolding summed added
+summed-coarse f s [] = unfold burden moving-total moving-count in omega arith
+summed-coarse f s (t ∷ ts) = rw (burden-more f t ts) (summed-coarse f (added f s t) ts ∙ omega arith)
+
+pub terms-total : {f : ℕ} {s : Sums} {ts : List Term} → GoodTerms f s ts → s .total ≤ total-limit → s .total + total-of ts ≤ total-limit
+unfolding added total-of
+terms-total good-none h = omega arith
+terms-total (good-term g k) h = let r = terms-total k (g .good-a .total) in omega arith
+
+pub terms-coarse : {f : ℕ} {s : Sums} {ts : List Term} → GoodTerms f s ts → s .coarse ≤ coarse-limit → s .coarse + burden f ts ≤ coarse-limit
+unfolding added
+terms-coarse good-none h = unfold burden moving-total moving-count in omega arith
+terms-coarse {f} {s} {ts = t ∷ ts} (good-term g k) h = let r = terms-coarse k (g .good-c .coarse) in rw (burden-more f t ts) (omega arith)
+
+-- And back: terms that fit, with a total and a coarseness that fit, are good one by one.
+pub terms-good : (f : ℕ) (s : Sums) (ts : List Term) → AllFit ts → s .total + total-of ts ≤ total-limit → s .coarse + burden f ts ≤ coarse-limit → GoodTerms f s ts
+unfolding added total-of
+terms-good f s [] none p q = good-none
+terms-good f s (t ∷ ts) (more w h) p q =
+    let r : s .coarse + (weight f (t .a) (t .b) (t .c) + burden f ts) ≤ coarse-limit = rw (burden-more f t ts) at q in
+    good-term {s = s} {t = t}
+    (record {
+      good-a = record { small = w .a-below; total = omega arith };
+      good-b = w .b-below;
+      good-c = record { small = w .c-below; coarse = omega arith };
+    })
+    (terms-good f (added f s t) ts h (omega arith) (omega arith))

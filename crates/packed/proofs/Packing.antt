@@ -1,0 +1,146 @@
+-- Bytes that are read as terms, blocks and a series are their packed form, and the packed form of a series within the limits is
+-- read as that series. Assumes nothing.
+use mathlib.Core.Path.{_≡_, refl, sym, ap, _∙_, subst}
+use mathlib.Core.List.{List, [], _∷_, _++_, append-assoc, append-nil}
+use Prim.Native.Nat.{ℕ, zero, suc, _+_, _*_, _^_, _≤_, _<_}
+use native.Mathlib.Nat.{lt-of-le-of-lt}
+use native.Mathlib.Omega.{arith}
+use lib.IntN.{ℤ, natAbs}
+use lib.ListN.{length}
+use Rattle.units.specs.Units.{a-limit, b-limit, c-limit}
+use Rattle.packed.specs.declared.Term.{Term}
+use Rattle.packed.specs.declared.Sums.{Sums}
+use Rattle.packed.specs.Limits.{block-limit, series-limit, factor, opened, added}
+use Rattle.packed.specs.Numbers.{Read, got, bad, next, number, encode, folded, unfolded}
+use Rattle.packed.specs.Series.{read-term, read-terms, read-block, read-blocks, after-block, pack-term, pack-terms, pack-block, pack}
+use Rattle.packed.proofs.Folding.{folded-natAbs}
+use Rattle.packed.proofs.Shortest.{AllBytes, Encoded, number-encoded, number-encodes}
+use Rattle.packed.proofs.Accepting.{GoodTerm, TermAt, term-accepted, term-made, next-got}
+use Rattle.packed.proofs.Blocks.{TermsAt, no-terms, a-term, block-accepted, block-got}
+use Rattle.packed.proofs.Limits.{GoodTerms, good-none, good-term}
+use Rattle.packed.proofs.Judged.{GoodBlock, GoodBlocks, none, more}
+
+-- Bytes that begin with a packed form, and what is left.
+pub record Begins (p x rest : List ℕ) : Type 0 where
+  pub form : x ≡ p ++ rest
+  pub left : AllBytes rest
+
+both : {p q x y rest : List ℕ} → Begins p x y → Begins q y rest → Begins (p ++ q) x rest
+both {p} {q} {rest = rest} f g = record { form = f .form ∙ rw (g .form) (sym (append-assoc p q rest)); left = g .left }
+
+number-begins : (at : ℕ) {v to : ℕ} {x rest : List ℕ} → AllBytes x → number at x ≡ got v to rest → Begins (encode v) x rest
+number-begins at {v} {to} {x} {rest} a e = let n = number-encodes at v to rest x a e in record { form = n .form; left = n .left }
+
+-- What was read is the packed form.
+term-begins : (f : ℕ) (s : Sums) (at : ℕ) (x : List ℕ) (t : Term) (to : ℕ) (rest : List ℕ) → AllBytes x → read-term f s at x ≡ got t to rest → Begins (pack-term t) x rest
+unfolding pack-term
+term-begins f s at x t to rest a e =
+    let h = term-accepted f s at x e in
+    let p = number-begins at a (h .number-a) in
+    let q = number-begins (h .at-b) (p .left) (h .number-b) in
+    let r = number-begins (h .at-c) (q .left) (h .number-c) in
+    both (both p q) r
+
+terms-begin : {f n : ℕ} {s : Sums} {at : ℕ} {x : List ℕ} {ts : List Term} {to : ℕ} {rest : List ℕ} → AllBytes x → TermsAt f n s at x ts to rest → Begins (pack-terms ts) x rest
+unfolding pack-terms
+terms-begin a no-terms = record { form = refl; left = a }
+terms-begin {f} {s = s} {at = at} {x = x} a (a-term {t = t} {mid = mid} {y = y} e h) =
+    let p = term-begins f s at x t mid y a e in
+    both p (terms-begin (p .left) h)
+
+block-begins : (k : ℕ) (s : Sums) (at : ℕ) (x : List ℕ) (ts : List Term) (to : ℕ) (rest : List ℕ) → AllBytes x → read-block k s at x ≡ got ts to rest → Begins (pack-block ts) x rest
+unfolding pack-block
+block-begins k s at x ts to rest a e =
+    let b = block-accepted k s at x ts to rest e in
+    let p = number-begins at a (b .count) in
+    both p (terms-begin (p .left) (b .terms))
+
+carry : {A : Type 0} {y z : A} {i j : ℕ} {l m : List ℕ} (P : A → List ℕ → Type 0) → got y i l ≡ got z j m → P y l → P z m
+carry {y = y} {z = z} {l = l} {m = m} P h w =
+    let p : y ≡ z = cc in
+    let q : l ≡ m = cc in
+    rw (p, q) at w
+
+pub blocks-begin : (n k : ℕ) (s : Sums) (at : ℕ) (x : List ℕ) (bs : List (List Term)) (to : ℕ) (rest : List ℕ) → AllBytes x → read-blocks n k s at x ≡ got bs to rest → Begins (pack bs) x rest
+unfolding read-blocks pack
+blocks-begin zero k s at x bs to rest a e = carry (λ (l : List (List Term)) (r : List ℕ). Begins (pack l) x r) e (record { form = refl; left = a })
+blocks-begin (suc n) k s at x bs to rest a e =
+    let u = next-got (read-block k s at x) _ e in
+    let v = next-got (read-blocks n (k + 1) (after-block k s (u .x)) (u .at) (u .rest)) _ (u .second) in
+    let f = block-begins k s at x (u .x) (u .at) (u .rest) a (u .first) in
+    carry (λ (l : List (List Term)) (r : List ℕ). Begins (pack l) x r) (v .second)
+    (both f (blocks-begin n (k + 1) (after-block k s (u .x)) (u .at) (u .rest) (v .x) (v .at) (v .rest) (f .left) (v .first)))
+
+-- What was read is good, one by one.
+terms-are-good : {f n : ℕ} {s : Sums} {at : ℕ} {x : List ℕ} {ts : List Term} {to : ℕ} {rest : List ℕ} → TermsAt f n s at x ts to rest → GoodTerms f s ts
+terms-are-good no-terms = good-none
+terms-are-good {f} {s = s} {at = at} {x = x} (a-term e h) = good-term (term-accepted f s at x e .good) (terms-are-good h)
+
+pub record Blocks-are (n k : ℕ) (s : Sums) (bs : List (List Term)) : Type 0 where
+  pub many : length bs ≡ n
+  pub good : GoodBlocks k s bs
+
+pub blocks-are-good : (n k : ℕ) (s : Sums) (at : ℕ) (x : List ℕ) (bs : List (List Term)) (to : ℕ) (rest : List ℕ) → read-blocks n k s at x ≡ got bs to rest → Blocks-are n k s bs
+unfolding read-blocks
+blocks-are-good zero k s at x bs to rest e = carry (λ (l : List (List Term)) (r : List ℕ). Blocks-are 0 k s l) e (record { many = refl; good = none })
+blocks-are-good (suc n) k s at x bs to rest e =
+    let u = next-got (read-block k s at x) _ e in
+    let v = next-got (read-blocks n (k + 1) (after-block k s (u .x)) (u .at) (u .rest)) _ (u .second) in
+    let b = block-accepted k s at x (u .x) (u .at) (u .rest) (u .first) in
+    let i = blocks-are-good n (k + 1) (after-block k s (u .x)) (u .at) (u .rest) (v .x) (v .at) (v .rest) (v .first) in
+    carry (λ (l : List (List Term)) (r : List ℕ). Blocks-are (suc n) k s l) (v .second)
+    (record { many = ap suc (i .many); good = more (record { few = b .few; fewer = b .fewer; terms = terms-are-good (b .terms) }) (i .good) })
+
+-- The packed form is read.
+small : (v : ℕ) (z : ℤ) → natAbs z < c-limit → folded z < 2 ^ 63
+small v z h = omega (arith, folded-natAbs z)
+
+term-packed : (f : ℕ) (s : Sums) (at : ℕ) (t : Term) (rest : List ℕ) → GoodTerm f s t → read-term f s at (pack-term t ++ rest) ≡ got t (at + length (encode (folded (t .a))) + length (encode (t .b)) + length (encode (folded (t .c)))) rest
+unfolding pack-term
+term-packed f s at t rest g =
+    let a = encode (folded (t .a)) in
+    let b = encode (t .b) in
+    let c = encode (folded (t .c)) in
+    let la : natAbs (t .a) < c-limit = omega (arith, g .good-a .small) in
+    rw (append-assoc (a ++ b) c rest, append-assoc a b (c ++ rest))
+    (term-made f s at (a ++ (b ++ (c ++ rest))) t (at + length a + length b + length c) rest
+    (record {
+      at-b = at + length a;
+      from-b = b ++ (c ++ rest);
+      at-c = at + length a + length b;
+      from-c = c ++ rest;
+      number-a = number-encoded (folded (t .a)) at (b ++ (c ++ rest)) (small 0 (t .a) la);
+      number-b = number-encoded (t .b) (at + length a) (c ++ rest) (omega (arith, g .good-b));
+      number-c = number-encoded (folded (t .c)) (at + length a + length b) rest (small 0 (t .c) (g .good-c .small));
+      good = g;
+    }))
+
+-- Where a reader of a packed form comes to.
+pub record Comes {A : Type 0} (r : Read A) (x : A) (rest : List ℕ) : Type 0 where
+  pub to : ℕ
+  pub is : r ≡ got x to rest
+
+terms-packed : {f : ℕ} {s : Sums} {ts : List Term} (at : ℕ) (rest : List ℕ) → GoodTerms f s ts → Comes (read-terms (length ts) f s at (pack-terms ts ++ rest)) ts rest
+unfolding read-terms pack-terms next
+terms-packed at rest good-none = record { to = at; is = refl }
+terms-packed {f} {s} {ts = t ∷ ts} at rest (good-term g h) =
+    let p = term-packed f s at t (pack-terms ts ++ rest) g in
+    let i = terms-packed (at + length (encode (folded (t .a))) + length (encode (t .b)) + length (encode (folded (t .c)))) rest h in
+    record { to = i .to; is = rw (append-assoc (pack-term t) (pack-terms ts) rest, p, i .is) }
+
+block-packed : (k : ℕ) (s : Sums) (ts : List Term) (at : ℕ) (rest : List ℕ) → GoodBlock k s ts → Comes (read-block k s at (pack-block ts ++ rest)) ts rest
+unfolding pack-block
+block-packed k s ts at rest g =
+    let n = length ts in
+    let c = number-encoded n at (pack-terms ts ++ rest) (omega (arith, g .few)) in
+    let i = terms-packed (at + length (encode n)) rest (g .terms) in
+    let b = block-got k s at (encode n ++ (pack-terms ts ++ rest)) n (at + length (encode n)) (pack-terms ts ++ rest) c (g .few) (g .fewer) in
+    record { to = i .to; is = rw (append-assoc (encode n) (pack-terms ts) rest) (b ∙ i .is) }
+
+pub blocks-packed : {k : ℕ} {s : Sums} {bs : List (List Term)} (at : ℕ) (rest : List ℕ) → GoodBlocks k s bs → Comes (read-blocks (length bs) k s at (pack bs ++ rest)) bs rest
+unfolding read-blocks pack next
+blocks-packed at rest none = record { to = at; is = refl }
+blocks-packed {k} {s} {bs = ts ∷ bs} at rest (more g h) =
+    let p = block-packed k s ts at (pack bs ++ rest) g in
+    let i = blocks-packed (p .to) rest h in
+    record { to = i .to; is = rw (append-assoc (pack-block ts) (pack bs) rest, p .is, i .is) }

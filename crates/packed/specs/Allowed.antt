@@ -1,0 +1,56 @@
+-- Document 01, "Series, as text and packed": what the limits say of the blocks of a whole series.
+use mathlib.Core.Path.{_≡_}
+use mathlib.Core.Bool.{cond}
+use mathlib.Core.List.{List, [], _∷_}
+use Prim.Native.Nat.{ℕ, suc, _+_, _*_, _^_, _≤_, _<_}
+use lib.IntN.{natAbs}
+use lib.ListN.{length, getD, take, drop}
+use Rattle.units.specs.Units.{U, tau-limit, a-limit, b-limit, c-limit}
+use Rattle.packed.specs.declared.Term.{Term}
+use Rattle.packed.specs.Limits.{block-limit, series-limit, total-limit, powers, block-count, constant, coarse-share, coarse-base, coarse-limit}
+use Rattle.packed.specs.Series.{term-count}
+
+-- The limits of a term.
+pub record TermFits (t : Term) : Type 0 where
+  pub a-below : natAbs (t .a) < a-limit
+  pub b-below : t .b < b-limit
+  pub c-below : natAbs (t .c) < c-limit
+
+pub data AllFit : List Term → Type 0 where
+  none : AllFit []
+  more : {t : Term} {ts : List Term} → TermFits t → AllFit ts → AllFit (t ∷ ts)
+
+-- The total |a| of a block; A_i and n_i, the total |a| and the number of its terms that are not constant.
+unfoldable pub total-of : List Term → ℕ
+total-of [] = 0
+total-of (t ∷ ts) = natAbs (t .a) + total-of ts
+
+unfoldable pub moving-total : List Term → ℕ
+moving-total [] = 0
+moving-total (t ∷ ts) = cond (constant (t .b) (t .c)) 0 (natAbs (t .a)) + moving-total ts
+
+unfoldable pub moving-count : List Term → ℕ
+moving-count [] = 0
+moving-count (t ∷ ts) = cond (constant (t .b) (t .c)) 0 1 + moving-count ts
+
+-- The limits of a block.
+pub record BlockFits (ts : List Term) : Type 0 where
+  pub few : length ts ≤ block-limit
+  pub terms : AllFit ts
+  pub total : total-of ts ≤ total-limit
+
+-- The sum of 2^i(14 A_i + 10^9 n_i) over blocks, the first of which has power i.
+unfoldable pub coarseness : ℕ → List (List Term) → ℕ
+coarseness i [] = 0
+coarseness i (ts ∷ blocks) = tau-limit ^ i * (coarse-share * moving-total ts + U * moving-count ts) + coarseness (suc i) blocks
+
+-- The six blocks of coordinate q: 0 longitude, 1 latitude, 2 radius.
+abbrev pub coordinate : ℕ → List (List Term) → List (List Term)
+coordinate q blocks = take powers (drop (powers * q) blocks)
+
+-- A series within the limits.
+pub record Allowed (blocks : List (List Term)) : Type 0 where
+  pub eighteen : length blocks ≡ block-count
+  pub few : term-count blocks ≤ series-limit
+  pub fits : (k : ℕ) → k < block-count → BlockFits (getD blocks k [])
+  pub coarse : (q : ℕ) → q < 3 → coarseness 0 (coordinate q blocks) + coarse-base ≤ coarse-limit
