@@ -1,6 +1,7 @@
 //! The benchmark: the proved library, the plain exact implementation and plain f64, interleaved in one run.
 //!
-//! `cargo run --release --bin bench` takes about two minutes; `-- --quick` a quarter of it. Output buffers are not cleared
+//! `cargo run --release --bin bench` takes about two minutes; `-- --quick` a quarter of it; other words choose the lines that
+//! have them. Output buffers are not cleared
 //! between calls, times are of the processor. The f64 program works from tables that are unpacked beforehand; the two others get packed bytes.
 
 use std::hint::black_box;
@@ -76,6 +77,10 @@ fn figure(value: Option<f64>) -> String {
 impl Measurement<'_> {
     /// One round takes a reading of each program in turn; the medians of all rounds are printed.
     fn run(&mut self, rounds: usize) {
+        let chosen: Vec<String> = std::env::args().skip(1).filter(|word| !word.starts_with("--")).collect();
+        if !chosen.is_empty() && !chosen.iter().any(|word| self.name.contains(word)) {
+            return;
+        }
         let programs = [&mut self.library, &mut self.plain, &mut self.floating];
         let calls = programs.map(calls_for);
         let mut readings = [Vec::new(), Vec::new(), Vec::new()];

@@ -48,17 +48,8 @@ fn pieces(pieces: &[&[u8]], packed: &mut [u8]) -> Outcome<usize> {
             state = ffi::stephylax_text_piece(state, piece.as_ptr(), piece.len(), out, room);
             assert_eq!(ffi::stephylax_text_answer(state), answer, "a call after the end changed the answer");
         }
-        written_so_far(answer)
+        written(answer)
     }
-}
-
-/// As `written`, but a refused text may say how much is packed.
-fn written_so_far(written: Written) -> Outcome<usize> {
-    if written.refusal == 0 {
-        assert_eq!(written.figure, 0, "an answer has no figure");
-        return Ok(written.length as usize);
-    }
-    Err((written.refusal, written.figure))
 }
 
 /// The proved library through its C interface.
