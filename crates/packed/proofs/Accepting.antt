@@ -1,8 +1,8 @@
 -- What holds of the numbers that a reader has accepted. Assumes nothing.
 use mathlib.Core.Path.{_≡_, refl, sym, ap, _∙_, subst}
-use mathlib.Core.Bool.{Bool, true, false, cond, _&&_}
-use mathlib.Core.List.{List, [], _∷_}
-use Prim.Native.Nat.{ℕ, zero, suc, _+_, _*_, _-_, _≤_, _<_}
+use mathlib.Core.Bool.{Bool, true, false}
+use mathlib.Core.List.{List}
+use Prim.Native.Nat.{ℕ, _+_, _≤_, _<_}
 use native.Mathlib.Omega.{arith}
 use borrow.Author.Tests.{ltb-true, leb-true}
 use lib.Dec.{leb, ltb}
@@ -19,7 +19,7 @@ use Rattle.packed.specs.Series.{judged, read-a, read-b, read-c, read-ter
 use Rattle.packed.specs.Answers.{plain, shown-term, term-of}
 use Rattle.packed.specs.declared.inner.TermRead.the-variants.{Found, Wrong}
 use Rattle.packed.proofs.Folding.{folded-unfolded, unfolded-folded}
-use Rattle.packed.proofs.Reading.{After, moved, stopped}
+use Rattle.packed.proofs.Reading.{After, moved}
 use Rattle.packed.proofs.Judging.{a-got, b-got, c-got}
 
 -- Two readers, one after the other.

@@ -1,6 +1,6 @@
 -- What is read does not depend on what follows: a reader that accepts x with a rest accepts x ++ y with the same value, at the
 -- same offset, and y after that rest. Assumes nothing.
-use mathlib.Core.Path.{_≡_, refl, sym, ap, _∙_}
+use mathlib.Core.Path.{_≡_}
 use mathlib.Core.Bool.{Bool, true, false, cond}
 use mathlib.Core.List.{List, [], _∷_, _++_}
 use Prim.Native.Nat.{ℕ, zero, suc, _+_, _*_, _-_, _^_}

@@ -1,26 +1,24 @@
 -- A block: each case of its count, and what holds of the sums after its terms. Assumes nothing.
-use mathlib.Core.Path.{_≡_, refl, sym, ap, _∙_, subst}
-use mathlib.Core.Bool.{Bool, true, false, cond, _&&_, and-eq-true-iff}
-use mathlib.Core.List.{List, [], _∷_, _++_}
-use Prim.Native.Nat.{ℕ, zero, suc, _+_, _*_, _-_, _%_, _≤_, _<_}
+use mathlib.Core.Path.{_≡_, refl, sym, ap, _∙_}
+use mathlib.Core.Bool.{Bool, true, false, cond, _&&_}
+use mathlib.Core.List.{List, [], _∷_}
+use Prim.Native.Nat.{ℕ, zero, suc, _+_, _-_, _%_, _≤_, _<_}
 use native.Mathlib.Nat.{le-refl}
 use native.Mathlib.Omega.{arith}
 use borrow.Author.Tests.{lt-leb, le-leb, leb-true}
 use lib.Dec.{leb, eqb}
-use lib.IntN.{ℤ, natAbs}
 use lib.ListN.{length, drop}
 use Rattle.units.specs.declared.Refusal.{Refusal}
 use Rattle.units.specs.declared.Refusal.the-variants.{OverLimit}
 use Rattle.packed.specs.declared.Term.{Term}
 use Rattle.packed.specs.declared.Sums.{Sums}
-use Rattle.packed.specs.declared.inner.Walk.{Walk}
 use Rattle.packed.specs.Limits.{total-limit, coarse-limit, coarse-base, block-limit, series-limit, powers, factor, opened, added, count-fits}
 use Rattle.packed.specs.Numbers.{Read, got, bad, next, number}
-use Rattle.packed.specs.Series.{judged, read-term, read-terms, read-block, read-blocks, summed, after-block}
+use Rattle.packed.specs.Series.{judged, read-term, read-terms, read-block, summed, after-block}
 use Rattle.packed.specs.Answers.{walked}
-use Rattle.packed.proofs.Reading.{After, moved, stopped, later, next-after, judged-after, number-after}
+use Rattle.packed.proofs.Reading.{After, moved, later, next-after, judged-after, number-after}
 use Rattle.packed.proofs.Judging.{term-after}
-use Rattle.packed.proofs.Accepting.{Twice, next-got, Passed, judged-got, term-accepted, GoodTerm}
+use Rattle.packed.proofs.Accepting.{next-got, judged-got, term-accepted}
 
 -- The count of a block.
 module _ (k : ℕ) (s : Sums) (at : ℕ) (x : List ℕ) where
@@ -80,11 +78,6 @@ terms-accepted (suc n) f s at x ts to rest e =
     let a = next-got (read-term f s at x) _ e in
     let b = next-got (read-terms n f (added f s (a .x)) (a .at) (a .rest)) _ (a .second) in
     carry (b .second) (a-term (a .first) (terms-accepted n f (added f s (a .x)) (a .at) (a .rest) (b .x) (b .at) (b .rest) (b .first)))
-
-pub terms-made : {f n : ℕ} {s : Sums} {at : ℕ} {x : List ℕ} {ts : List Term} {to : ℕ} {rest : List ℕ} → TermsAt f n s at x ts to rest → read-terms n f s at x ≡ got ts to rest
-unfolding read-terms next
-terms-made no-terms = refl
-terms-made (a-term e h) = rw (e, terms-made h)
 
 pub terms-length : {f n : ℕ} {s : Sums} {at : ℕ} {x : List ℕ} {ts : List Term} {to : ℕ} {rest : List ℕ} → TermsAt f n s at x ts to rest → length ts ≡ n
 terms-length no-terms = refl
@@ -147,10 +140,6 @@ block-accepted k s at x ts to rest e =
     both : (a b : Bool) → (a && b) ≡ true → (a ≡ true) × (b ≡ true)
     both true b e = (refl, e)
     both false b e = let z : _≡_ {A = ℕ} 0 1 = cc in absurd (omega arith)
-
-pub block-made : (k : ℕ) (s : Sums) (at : ℕ) (x : List ℕ) (ts : List Term) (to : ℕ) (rest : List ℕ) → BlockAt k s at x ts to rest → read-block k s at x ≡ got ts to rest
-block-made k s at x ts to rest b =
-    block-got k s at x (length ts) (b .at-terms) (b .from-terms) (b .count) (b .few) (b .fewer) ∙ terms-made (b .terms)
 
 -- The sums after a block.
 pub record AfterBlock (k : ℕ) (s : Sums) (ts : List Term) : Type 0 where

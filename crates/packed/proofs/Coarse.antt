@@ -1,18 +1,16 @@
 -- Coarseness, judged block by block and for each coordinate: each follows from the other. Assumes nothing.
-use mathlib.Core.Path.{_≡_, refl, sym, ap, _∙_, subst}
-use mathlib.Core.Bool.{Bool, true, false, cond}
+use mathlib.Core.Path.{_≡_}
+use mathlib.Core.Bool.{cond}
 use mathlib.Core.List.{List, [], _∷_}
-use Prim.Native.Nat.{ℕ, zero, suc, _+_, _*_, _%_, _^_, _≤_, _<_}
+use Prim.Native.Nat.{ℕ, zero, suc, _+_, _*_, _%_, _≤_, _<_}
 use native.Mathlib.Omega.{arith}
-use native.Mathlib.Numerals.{add-one}
 use borrow.Author.Tests.{eq-eqb, ne-eqb}
 use lib.Dec.{eqb}
 use lib.ListN.{length, take, drop, drop-of-length-le}
 use lib.Seq.{drop-drop}
-use Rattle.units.specs.Units.{U, tau-limit}
 use Rattle.packed.specs.declared.Term.{Term}
-use Rattle.packed.specs.Limits.{powers, block-count, coarse-share, coarse-base, coarse-limit, factor}
-use Rattle.packed.specs.Allowed.{moving-total, moving-count, coarseness, coordinate}
+use Rattle.packed.specs.Limits.{powers, block-count, coarse-base, coarse-limit, factor}
+use Rattle.packed.specs.Allowed.{coarseness, coordinate}
 use Rattle.packed.proofs.Limits.{burden}
 
 -- The coarseness sum before the terms of block k: at power 0 a new coordinate begins.

@@ -1,7 +1,7 @@
 -- The reader of a number, a byte at a time, and the size of what it has read. Assumes nothing.
-use mathlib.Core.Path.{_≡_, refl, sym, ap, _∙_}
-use mathlib.Core.List.{List, [], _∷_}
-use Prim.Native.Nat.{ℕ, zero, suc, _+_, _*_, _-_, _^_, _≤_, _<_}
+use mathlib.Core.Path.{_≡_, ap, _∙_}
+use mathlib.Core.List.{List, _∷_}
+use Prim.Native.Nat.{ℕ, _+_, _*_, _-_, _^_, _≤_, _<_}
 use native.Mathlib.Nat.{mul-le-mul-right, pow-le-pow-right, pow-succ'}
 use native.Mathlib.Numerals.{add-one}
 use native.Mathlib.Decide.{ℕ-discrete}
@@ -11,7 +11,7 @@ use lib.Dec.{lit<}
 use lib.ListN.{length, getD, drop, drop-of-length-le}
 use lib.Seq.{drop-cons}
 use Rattle.units.specs.declared.Refusal.the-variants.{OverLimit, EndedEarly, NotShortest}
-use Rattle.packed.specs.Numbers.{Read, got, bad, closed, groups-from, number}
+use Rattle.packed.specs.Numbers.{got, bad, closed, groups-from, number}
 
 pub power-small : (k : ℕ) → k ≤ 8 → 128 ^ k ≤ 72057594037927936
 power-small k h = pow-le-pow-right (lit< tt) h

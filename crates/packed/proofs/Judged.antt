@@ -1,15 +1,15 @@
 -- Blocks that are good one by one, and a series within the limits: each follows from the other. Assumes nothing.
-use mathlib.Core.Path.{_≡_, refl, sym, ap, _∙_, subst}
+use mathlib.Core.Path.{_≡_, refl}
 use mathlib.Core.List.{List, [], _∷_}
-use Prim.Native.Nat.{ℕ, zero, suc, _+_, _*_, _≤_, _<_}
+use Prim.Native.Nat.{ℕ, zero, suc, _+_, _≤_, _<_}
 use native.Mathlib.Omega.{arith}
 use lib.ListN.{length, getD}
 use Rattle.packed.specs.declared.Term.{Term}
 use Rattle.packed.specs.declared.Sums.{Sums}
 use Rattle.packed.specs.Limits.{block-limit, series-limit, total-limit, block-count, coarse-base, coarse-limit, factor, opened, no-sums}
-use Rattle.packed.specs.Series.{summed, after-block, term-count}
+use Rattle.packed.specs.Series.{after-block, term-count}
 use Rattle.packed.specs.Allowed.{total-of, BlockFits, Allowed}
-use Rattle.packed.proofs.Blocks.{Within, opened-within, summed-terms}
+use Rattle.packed.proofs.Blocks.{opened-within, summed-terms}
 use Rattle.packed.proofs.Limits.{burden, GoodTerms, terms-fit, terms-total, terms-coarse, terms-good, summed-coarse}
 use Rattle.packed.proofs.Coarse.{start, Coarse, no-blocks, a-block, coarse-coordinate, coarse-blocks}
 

@@ -1,25 +1,22 @@
 -- The numbers of a term, each case of its judgement. Assumes nothing.
-use mathlib.Core.Path.{_≡_, refl, sym, ap, _∙_}
-use mathlib.Core.Bool.{Bool, true, false, cond, _&&_}
-use mathlib.Core.List.{List, [], _∷_}
-use Prim.Native.Nat.{ℕ, zero, suc, _+_, _*_, _-_, _/_, _%_, _≤_, _<_}
+use mathlib.Core.Path.{_≡_, refl}
+use mathlib.Core.Bool.{Bool, true, false, cond}
+use mathlib.Core.List.{List}
+use Prim.Native.Nat.{ℕ, _+_, _*_, _-_, _≤_, _<_}
 use native.Mathlib.Nat.{mul-le-mul, le-refl}
 use native.Mathlib.Decide.{ℕ-discrete}
 use native.Mathlib.Omega.{arith}
-use borrow.Author.Tests.{lt-ltb, le-ltb, lt-leb, le-leb, eq-eqb, ne-eqb, ltb-true, leb-true}
-use lib.Dec.{leb, ltb, eqb}
+use borrow.Author.Tests.{lt-ltb, le-ltb, lt-leb, le-leb, eq-eqb, ne-eqb}
 use lib.IntN.{ℤ, natAbs}
-use lib.ListN.{length, drop}
+use lib.ListN.{drop}
 use Rattle.units.specs.Units.{U, a-limit, b-limit, c-limit}
 use Rattle.units.specs.declared.Refusal.{Refusal}
 use Rattle.units.specs.declared.Refusal.the-variants.{OverLimit, TotalOverLimit, TooCoarse}
-use Rattle.packed.specs.declared.Term.{Term}
 use Rattle.packed.specs.declared.Sums.{Sums}
 use Rattle.packed.specs.Limits.{total-limit, coarse-limit, coarse-share, constant, weight, a-fits, b-fits, c-fits, total-fits, coarse-fits}
-use Rattle.packed.specs.Numbers.{Read, got, bad, next, number, unfolded}
+use Rattle.packed.specs.Numbers.{got, bad, next, number, unfolded}
 use Rattle.packed.specs.Series.{judged, read-a, read-b, read-c, read-term}
-use Rattle.packed.proofs.Folding.{natAbs-unfolded}
-use Rattle.packed.proofs.Reading.{After, moved, stopped, judged-after, next-after, number-after, later}
+use Rattle.packed.proofs.Reading.{After, moved, judged-after, next-after, number-after, later}
 
 -- A term that is not constant weighs at most so much.
 pub weight-small : (f : ℕ) (a : ℤ) (b : ℕ) (c : ℤ) → f ≤ 32 → natAbs a < a-limit → weight f a b c ≤ 4480000032000000000

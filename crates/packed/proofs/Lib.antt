@@ -14,4 +14,5 @@ pub mod Limits
 pub mod Coarse
 pub mod Judged
 pub mod Packing
+pub mod Tabled
 pub mod Theorems

@@ -1,22 +1,18 @@
--- The running judgement of blocks, and the limits of a whole series: each follows from the other. Assumes nothing.
-use mathlib.Core.Path.{_≡_, refl, sym, ap, _∙_, subst}
-use mathlib.Core.Bool.{Bool, true, false, cond, _&&_}
-use mathlib.Core.List.{List, [], _∷_, _++_}
-use Prim.Native.Nat.{ℕ, zero, suc, _+_, _*_, _-_, _%_, _^_, _≤_, _<_}
-use native.Mathlib.Nat.{le-trans, mul-add}
+-- The terms of a block, judged one by one, and the limits of the block: each follows from the other. Assumes nothing.
+use mathlib.Core.Path.{_≡_, _∙_}
+use mathlib.Core.Bool.{Bool, true, false, cond}
+use mathlib.Core.List.{List, [], _∷_}
+use Prim.Native.Nat.{ℕ, _+_, _*_, _≤_}
+use native.Mathlib.Nat.{mul-add}
 use native.Mathlib.Omega.{arith}
-use native.Mathlib.Decide.{ℕ-discrete}
-use borrow.Author.Tests.{eq-eqb, ne-eqb}
-use lib.Dec.{eqb}
-use lib.IntN.{ℤ, natAbs}
-use lib.ListN.{length, getD, take, drop}
-use Rattle.units.specs.Units.{U, tau-limit, a-limit, b-limit, c-limit}
+use lib.IntN.{natAbs}
+use Rattle.units.specs.Units.{U}
 use Rattle.packed.specs.declared.Term.{Term}
 use Rattle.packed.specs.declared.Sums.{Sums}
-use Rattle.packed.specs.Limits.{block-limit, series-limit, total-limit, powers, block-count, constant, weight, coarse-share, coarse-base, coarse-limit, factor, opened, added}
-use Rattle.packed.specs.Series.{summed, after-block, term-count}
-use Rattle.packed.specs.Allowed.{TermFits, AllFit, none, more, total-of, moving-total, moving-count, BlockFits, coarseness, coordinate, Allowed}
-use Rattle.packed.proofs.Accepting.{GoodA, GoodC, GoodTerm}
+use Rattle.packed.specs.Limits.{total-limit, constant, weight, coarse-share, coarse-limit, added}
+use Rattle.packed.specs.Series.{summed}
+use Rattle.packed.specs.Allowed.{AllFit, none, more, total-of, moving-total, moving-count}
+use Rattle.packed.proofs.Accepting.{GoodTerm}
 
 -- What a block adds to the coarseness sum, at factor f.
 unfoldable pub burden : ℕ → List Term → ℕ
@@ -41,11 +37,6 @@ terms-fit good-none = none
 terms-fit (good-term g h) = more (record { a-below = g .good-a .small; b-below = g .good-b; c-below = g .good-c .small }) (terms-fit h)
 
 -- The sums after terms.
-pub summed-total : (f : ℕ) (s : Sums) (ts : List Term) → summed f s ts .total ≡ s .total + total-of ts
-unfolding summed added total-of
-summed-total f s [] = omega arith
-summed-total f s (t ∷ ts) = summed-total f (added f s t) ts ∙ omega arith
-
 pub summed-coarse : (f : ℕ) (s : Sums) (ts : List Term) → summed f s ts .coarse ≡ s .coarse + burden f ts
 unfolding summed added
 summed-coarse f s [] = unfold burden moving-total moving-count in omega arith

@@ -1,21 +1,19 @@
 -- Bytes that are read as terms, blocks and a series are their packed form, and the packed form of a series within the limits is
 -- read as that series. Assumes nothing.
-use mathlib.Core.Path.{_≡_, refl, sym, ap, _∙_, subst}
-use mathlib.Core.List.{List, [], _∷_, _++_, append-assoc, append-nil}
-use Prim.Native.Nat.{ℕ, zero, suc, _+_, _*_, _^_, _≤_, _<_}
-use native.Mathlib.Nat.{lt-of-le-of-lt}
+use mathlib.Core.Path.{_≡_, refl, sym, ap, _∙_}
+use mathlib.Core.List.{List, _∷_, _++_, append-assoc}
+use Prim.Native.Nat.{ℕ, zero, suc, _+_, _^_, _<_}
 use native.Mathlib.Omega.{arith}
 use lib.IntN.{ℤ, natAbs}
 use lib.ListN.{length}
-use Rattle.units.specs.Units.{a-limit, b-limit, c-limit}
+use Rattle.units.specs.Units.{c-limit}
 use Rattle.packed.specs.declared.Term.{Term}
 use Rattle.packed.specs.declared.Sums.{Sums}
-use Rattle.packed.specs.Limits.{block-limit, series-limit, factor, opened, added}
-use Rattle.packed.specs.Numbers.{Read, got, bad, next, number, encode, folded, unfolded}
+use Rattle.packed.specs.Numbers.{Read, got, next, number, encode, folded}
 use Rattle.packed.specs.Series.{read-term, read-terms, read-block, read-blocks, after-block, pack-term, pack-terms, pack-block, pack}
 use Rattle.packed.proofs.Folding.{folded-natAbs}
-use Rattle.packed.proofs.Shortest.{AllBytes, Encoded, number-encoded, number-encodes}
-use Rattle.packed.proofs.Accepting.{GoodTerm, TermAt, term-accepted, term-made, next-got}
+use Rattle.packed.proofs.Shortest.{AllBytes, number-encoded, number-encodes}
+use Rattle.packed.proofs.Accepting.{GoodTerm, term-accepted, term-made, next-got}
 use Rattle.packed.proofs.Blocks.{TermsAt, no-terms, a-term, block-accepted, block-got}
 use Rattle.packed.proofs.Limits.{GoodTerms, good-none, good-term}
 use Rattle.packed.proofs.Judged.{GoodBlock, GoodBlocks, none, more}

@@ -1,16 +1,14 @@
 -- Packed numbers and their shortest forms: each is read back from the other, and what follows a number does not matter. Assumes nothing.
 use mathlib.Core.Path.{_≡_, refl, sym, ap, ap₂, _∙_}
-use mathlib.Core.Bool.{Bool, true, false, cond}
 use mathlib.Core.List.{List, [], _∷_, _++_}
 use Prim.Native.Nat.{ℕ, zero, suc, _+_, _*_, _/_, _%_, _-_, _^_, _≤_, _<_}
-use native.Mathlib.Nat.{pow-succ', mul-assoc, mul-comm, add-mul, mul-one}
+use native.Mathlib.Nat.{pow-succ', mul-assoc, add-mul}
 use native.Mathlib.Decide.{decLe, ℕ-discrete}
 use native.Mathlib.Omega.{arith}
 use borrow.Author.Tests.{lt-ltb, le-ltb, lt-leb, le-leb, eq-eqb, ne-eqb}
-use lib.Dec.{leb, ltb, eqb}
 use lib.ListN.{length}
-use Rattle.units.specs.declared.Refusal.the-variants.{OverLimit, EndedEarly, NotShortest}
-use Rattle.packed.specs.Numbers.{Read, got, bad, closed, groups-from, number, groups, encode}
+use Rattle.units.specs.declared.Refusal.the-variants.{OverLimit, NotShortest}
+use Rattle.packed.specs.Numbers.{got, bad, closed, groups-from, number, groups, encode}
 use Rattle.packed.proofs.Decode.{power-next}
 
 -- the lowest group and the rest, at the weight p

@@ -1,14 +1,14 @@
 -- What holds of packed series as a whole, and the figures of document 01. Assumes nothing.
-use mathlib.Core.Path.{_≡_, refl, sym, ap, _∙_}
-use mathlib.Core.List.{List, [], _∷_, _++_, append-nil}
+use mathlib.Core.Path.{_≡_, refl, _∙_}
+use mathlib.Core.List.{List, [], _∷_, append-nil}
 use Prim.Native.Nat.{ℕ}
 use native.Mathlib.Omega.{arith}
-use lib.ListN.{length, replicate}
+use lib.ListN.{replicate}
 use Rattle.units.specs.declared.Refusal.the-variants.{NotShortest}
 use Rattle.packed.specs.declared.Term.{Term}
 use Rattle.packed.specs.Limits.{block-count, no-sums, opened, count-fits}
 use Rattle.packed.specs.Numbers.{Read, got, bad, next, closed, groups-from, number, groups, encode}
-use Rattle.packed.specs.Series.{Parsed, accepted, refused, judged, read-terms, read-block, summed, after-block, read-blocks, read-series, ended, parse, pack}
+use Rattle.packed.specs.Series.{accepted, refused, judged, read-terms, read-block, summed, after-block, read-blocks, read-series, ended, parse, pack}
 use Rattle.packed.specs.Allowed.{Allowed}
 use Rattle.packed.proofs.Shortest.{AllBytes}
 use Rattle.packed.proofs.Judged.{good-allowed, allowed-good}

@@ -1,25 +1,24 @@
 -- The walk over the 18 blocks: what is left, after the blocks done, gives what the whole gives. Assumes nothing.
-use mathlib.Core.Path.{_≡_, refl, sym, ap, _∙_, subst}
+use mathlib.Core.Path.{_≡_, refl, sym, ap, _∙_}
 use mathlib.Core.List.{List, [], _∷_, _++_, map, append-nil}
-use Prim.Native.Nat.{ℕ, zero, suc, _+_, _-_, _≤_, _<_}
+use Prim.Native.Nat.{ℕ, suc, _+_, _-_, _≤_, _<_}
 use native.Mathlib.Numerals.{add-one}
 use native.Mathlib.Omega.{arith}
 use lib.IntN.{ℤ}
-use lib.ListN.{length, getD, take, drop, set, length-append, length-set, drop-of-length-le}
+use lib.ListN.{length, take, drop, set, length-append, length-set, drop-of-length-le}
 use lib.Seq.{take-suc-set, take-all, drop-cons}
 use Rattle.units.specs.declared.Refusal.{Refusal}
 use Rattle.units.specs.declared.Refusal.the-variants.{ByteAfterEnd}
 use Rattle.packed.specs.declared.Term.{Term}
 use Rattle.packed.specs.declared.Sums.{Sums}
-use Rattle.packed.specs.declared.Checked.{Checked}
 use Rattle.packed.specs.declared.Checked.the-variants.{Terms, NoSeries}
 use Rattle.packed.specs.Limits.{coarse-limit, series-limit, block-count, no-sums}
 use Rattle.packed.specs.Numbers.{Read, got, bad, next}
-use Rattle.packed.specs.Series.{read-block, read-blocks, read-series, after-block, Parsed, accepted, refused, ended, parse, checked, term-count}
+use Rattle.packed.specs.Series.{read-block, read-blocks, read-series, after-block, accepted, refused, ended, parse, checked, term-count}
 use Rattle.packed.specs.Tables.{Sized, Holds, block-ends, unpacked}
 use Rattle.packed.specs.Answers.{filled, Filled, a-of, b-of, c-of}
 use Rattle.packed.proofs.Walking.{Stepped, joined, joined-none, joined-more}
-use Rattle.packed.proofs.Blocks.{Within, block-accepted, block-sums}
+use Rattle.packed.proofs.Blocks.{block-accepted, block-sums}
 use Rattle.packed.proofs.Tabling.{flat, flat-more, count-more, ends-more, table-law}
 
 -- The loop's invariant, with the blocks that are done.

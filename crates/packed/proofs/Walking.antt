@@ -1,11 +1,10 @@
 -- The walk over a block's terms: what is left, after the terms done, gives what the whole gives. Assumes nothing.
-use mathlib.Core.Path.{_≡_, refl, sym, ap, _∙_, subst}
+use mathlib.Core.Path.{_≡_, refl, sym, ap, _∙_}
 use mathlib.Core.List.{List, [], _∷_, _++_, map, append-assoc, append-nil}
-use Prim.Native.Nat.{ℕ, zero, suc, _+_, _*_, _-_, _^_, _≤_, _<_}
-use native.Mathlib.Nat.{le-refl}
+use Prim.Native.Nat.{ℕ, suc, _+_, _-_, _^_, _≤_, _<_}
 use native.Mathlib.Numerals.{add-one}
 use native.Mathlib.Omega.{arith}
-use lib.IntN.{ℤ, natAbs}
+use lib.IntN.{ℤ}
 use lib.Signed.{mag}
 use mir.Syntax.{w64}
 use mir.Val.{toZ, ofZ}
@@ -17,12 +16,11 @@ use Rattle.packed.specs.declared.Term.{Term}
 use Rattle.packed.specs.declared.Sums.{Sums}
 use Rattle.packed.specs.declared.inner.Walk.the-variants.{Moved, Stopped}
 use Rattle.packed.specs.Limits.{total-limit, coarse-limit, series-limit, added}
-use Rattle.packed.specs.Numbers.{Read, got, bad, next, unfolded}
+use Rattle.packed.specs.Numbers.{Read, got, bad, next}
 use Rattle.packed.specs.Series.{read-term, read-terms, summed}
 use Rattle.packed.specs.Tables.{Sized}
-use Rattle.packed.specs.Answers.{walked, stored, filled, Filled, a-of, b-of, c-of, term-of}
-use Rattle.packed.proofs.Reading.{After, moved, stopped, later, next-after}
-use Rattle.packed.proofs.Judging.{term-after}
+use Rattle.packed.specs.Answers.{walked, stored, filled, Filled, a-of, b-of, c-of}
+use Rattle.packed.proofs.Reading.{After, moved}
 use Rattle.packed.proofs.Accepting.{term-accepted}
 
 -- What was read, from an answer that moved on, and from one that stopped.

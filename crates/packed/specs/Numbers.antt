@@ -1,6 +1,6 @@
 -- Document 01, "Packed": a number in groups of seven bits, lowest group first, top bit set on all but the last; shortest
 -- form only, at most nine groups.
-use mathlib.Core.Bool.{Bool, true, false, cond}
+use mathlib.Core.Bool.{cond}
 use mathlib.Core.List.{List, [], _∷_}
 use Prim.Native.Nat.{ℕ, zero, suc, _+_, _*_, _/_, _%_, _-_, _^_}
 use lib.Dec.{leb, ltb, eqb}

@@ -1,10 +1,10 @@
 -- `read_a` meets its contract. Assumes nothing.
-use mathlib.Core.Path.{_≡_, sym, ap, _∙_}
-use Prim.Native.Nat.{ℕ, _+_, _≤_}
+use mathlib.Core.Path.{sym, _∙_}
+use Prim.Native.Nat.{_+_}
 use native.Mathlib.Omega.{arith}
 use lib.ListN.{drop}
 use borrow.Author.Needs.{needs}
-use Rattle.packed.specs.Numbers.{number, folded, unfolded}
+use Rattle.packed.specs.Numbers.{number, folded}
 use Rattle.packed.specs.Answers.{plain}
 use Rattle.packed.proofs.Reading.{Got, got-plain, was-bad, number-after, show-bad, show-folded}
 use Rattle.packed.proofs.Judging.{a-bad, a-over, a-total, a-got}

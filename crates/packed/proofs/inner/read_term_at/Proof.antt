@@ -1,6 +1,6 @@
 -- `read_term_at` meets its contract. Assumes nothing.
-use mathlib.Core.Path.{_≡_, sym, ap, _∙_}
-use Prim.Native.Nat.{ℕ, _+_, _≤_}
+use mathlib.Core.Path.{sym, _∙_}
+use Prim.Native.Nat.{_+_}
 use lib.ListN.{drop}
 use borrow.Author.Needs.{needs}
 use Rattle.packed.specs.Numbers.{folded, unfolded}

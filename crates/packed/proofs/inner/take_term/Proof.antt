@@ -1,12 +1,8 @@
 -- `take_term` meets its contract. Assumes nothing.
-use mathlib.Core.Path.{_≡_, sym, ap, _∙_}
-use Prim.Native.Nat.{ℕ, _+_, _<_}
-use lib.IntN.{natAbs}
+use mathlib.Core.Path.{_≡_, sym, _∙_}
 use lib.ListN.{drop}
 use borrow.Author.Needs.{needs}
-use Rattle.units.specs.Units.{a-limit}
-use Rattle.packed.specs.Limits.{added}
-use Rattle.packed.specs.Numbers.{got, unfolded}
+use Rattle.packed.specs.Numbers.{got}
 use Rattle.packed.specs.Series.{read-term}
 use Rattle.packed.specs.Answers.{term-of, a-of, b-of, c-of}
 use Rattle.packed.proofs.Judging.{term-after}

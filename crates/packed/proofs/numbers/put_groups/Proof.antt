@@ -1,6 +1,5 @@
 -- `put_groups` meets its contract. Assumes nothing.
 use lib.ListN.{length-set}
-use mathlib.Core.Path.{_∙_}
 use native.Mathlib.Omega.{arith}
 use Rattle.packed.proofs.Encode.{Left, left-none, left-more, left-room, left-last}
 use Rattle.packed.proofs.numbers.put_groups.Statement.{statement}
