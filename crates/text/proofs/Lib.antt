@@ -2,3 +2,13 @@ pub mod Digits
 pub mod Judging
 pub mod Writing
 pub mod Stepping
+pub mod Lexing
+pub mod Unlexing
+pub mod Parsing
+pub mod Counting
+pub mod Lines
+pub mod Verdicts
+pub mod Accepting
+pub mod Taking
+pub mod Ending
+pub mod Theorems

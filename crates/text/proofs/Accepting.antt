@@ -1,0 +1,262 @@
+-- A text that is taken is the lines of its numbers, and what was written is their packed form. Assumes nothing.
+use mathlib.Core.Path.{_≡_, refl, sym, ap, _∙_}
+use mathlib.Core.List.{List, [], _∷_, _++_, append-assoc}
+use Prim.Native.Nat.{ℕ, zero, suc, _+_, _-_, _≤_, _<_}
+use native.Mathlib.Nat.{add-zero}
+use native.Mathlib.Omega.{arith}
+use borrow.Author.Tests.{eqb-true, eqb-false, ne-eqb}
+use lib.Dec.{eqb}
+use lib.ListN.{length, length-append}
+use lib.Seq.{sets, length-sets}
+use Rattle.packed.specs.declared.Sums.{Sums}
+use Rattle.packed.specs.Limits.{opened, added, factor}
+use Rattle.packed.specs.Numbers.{encode}
+use Rattle.packed.specs.Series.{summed, after-block, pack-term, pack-terms, pack-block, pack}
+use Rattle.text.specs.declared.Line.{Line}
+use Rattle.text.specs.declared.Reader.{Reader}
+use Rattle.text.specs.Lexer.{fresh, lexes}
+use Rattle.text.specs.Judge.{countRefusal, termRefusal}
+use Rattle.text.specs.Reader.{stopped, nextSpot, uncounted, step, stepOut, Run, run}
+use Rattle.text.specs.Grammar.{CountLine, count, countBytes, GoodCount, TermLine, termBytes, GoodTerm, termIn, Block, linesBytes, blocksBytes, termsIn, blocksIn, AllGood, GoodBlocks, TermsInLimits, BlocksInLimits}
+use Rattle.text.proofs.Judging.{by-cases}
+use Rattle.text.proofs.Writing.{sets-append}
+use Rattle.text.proofs.Lexing.{flag}
+use Rattle.text.proofs.Parsing.{term-in}
+use Rattle.text.proofs.Counting.{count-in}
+use Rattle.text.proofs.Lines.{last, moved, Taken, not-stopped, next-line}
+use Rattle.text.proofs.Verdicts.{sp, st, count-verdict, term-verdict, count-limits, term-limits, ends-count, ends-term}
+
+-- A count line that is taken, and what is left to read.
+record CountStep (at w k : ℕ) (s : Sums) (out xs : List ℕ) : Type 0 where
+  c : CountLine
+  good : GoodCount c
+  rest : List ℕ
+  to : ℕ
+  is : xs ≡ countBytes c ++ (10 ∷ rest)
+  fits : countRefusal k s (count c) ≡ 0
+  room : w + length (encode (count c)) ≤ length out
+  next : run (sp 20 at w k 0 s) out xs ≡ run (st to (w + length (encode (count c))) (k + 1) (count c) (opened k (count c) s)) (sets out w (encode (count c))) rest
+
+count-step : (xs : List ℕ) (at w k : ℕ) (s : Sums) (out : List ℕ) → Taken (run (sp 20 at w k 0 s) out xs) → CountStep at w k s out xs
+count-step xs at w k s out t =
+    let n = next-line xs (sp 20 at w k 0 s) out refl refl (λ e. omega (arith, e)) t in
+    let m = length (n .body) in
+    let L = lexes (fresh 20) (n .body) in
+    let h = ends-count (n .before) (n .body) (ap (λ (r : Reader). r .line) (n .reads)) (n .good) in
+    let c = count-in (n .body) L h refl in
+    let v = count-verdict 20 at w k m s (count (c .k)) L h (ap (λ (l : Line). l .value) (sym (c .line))) in
+    let good = rw (n .reads) at (n .good) in
+    let room = rw (n .reads, v .1) at (n .room) in
+    let next = rw (n .reads, v .2, v .1) at (n .next) in
+    record {
+      c = c .k;
+      good = c .good;
+      rest = n .rest;
+      to = at + m + 1;
+      is = n .is ∙ ap (λ (y : List ℕ). y ++ (10 ∷ n .rest)) (c .is);
+      fits = sym (v .0) ∙ good;
+      room = room;
+      next = next;
+    }
+
+-- A term line that is taken.
+record TermStep (at w k n : ℕ) (s : Sums) (out xs : List ℕ) : Type 0 where
+  t : TermLine
+  good : GoodTerm t
+  rest : List ℕ
+  to : ℕ
+  is : xs ≡ termBytes t ++ (10 ∷ rest)
+  fits : termRefusal (factor (k - 1)) s (flag (t .b .minus)) (termIn t) ≡ 0
+  room : w + length (pack-term (termIn t)) ≤ length out
+  next : run (sp 0 at w k n s) out xs ≡ run (st to (w + length (pack-term (termIn t))) k (n - 1) (added (factor (k - 1)) s (termIn t))) (sets out w (pack-term (termIn t))) rest
+
+term-step : (xs : List ℕ) (at w k n : ℕ) (s : Sums) (out : List ℕ) → Taken (run (sp 0 at w k n s) out xs) → TermStep at w k n s out xs
+term-step xs at w k left s out t =
+    let n = next-line xs (sp 0 at w k left s) out refl refl (λ e. omega (arith, e)) t in
+    let m = length (n .body) in
+    let L = lexes (fresh 0) (n .body) in
+    let h = ends-term (n .before) (n .body) (ap (λ (r : Reader). r .line) (n .reads)) (n .good) in
+    let c = term-in (n .body) L h refl in
+    let v = term-verdict 0 at w k m s left (c .t) in
+    let e = n .reads ∙ ap (λ (l : Line). moved (sp 0 at w k left s) l m) (sym (c .line)) in
+    let good = rw e at (n .good) in
+    let room = rw (e, v .1) at (n .room) in
+    let next = rw (e, v .2, v .1) at (n .next) in
+    record {
+      t = c .t;
+      good = c .good;
+      rest = n .rest;
+      to = at + m + 1;
+      is = n .is ∙ ap (λ (y : List ℕ). y ++ (10 ∷ n .rest)) (c .is);
+      fits = sym (v .0) ∙ good;
+      room = room;
+      next = next;
+    }
+
+-- After block 18 nothing may come.
+after-step : (x : ℕ) (xs : List ℕ) (at w k n : ℕ) (s : Sums) (out : List ℕ) {P : Type 0} → Taken (run (sp 30 at w k n s) out (x ∷ xs)) → P
+unfolding run step uncounted
+after-step x xs at w k n s out t =
+    by-cases (eqb at last)
+    (λ z. not-stopped (stopped (sp 30 at w k n s) 3) (stepOut (sp 30 at w k n s) out x) xs (λ e. omega (arith, e)) (rw z at t))
+    (λ z. not-stopped (stopped (sp 30 at w k n s) 9) (stepOut (sp 30 at w k n s) out x) xs (λ e. omega (arith, e)) (rw z at t))
+
+-- What is left of a text that is taken: the terms left of the block, then blocks.
+abbrev pub packs : List TermLine → List Block → List ℕ
+packs ls ks = pack-terms (termsIn ls) ++ pack (blocksIn ks)
+
+pub record Rest (w k n : ℕ) (s : Sums) (out xs : List ℕ) (end : Run) : Type 0 where
+  pub lines : List TermLine
+  pub ks : List Block
+  pub is : xs ≡ linesBytes lines ++ blocksBytes ks
+  pub left : length lines ≡ n
+  pub good : AllGood lines
+  pub limits : TermsInLimits (factor (k - 1)) s lines
+  pub count : k + length ks ≡ 18
+  pub goods : GoodBlocks ks
+  pub all : BlocksInLimits k (summed (factor (k - 1)) s (termsIn lines)) ks
+  pub room : w + length (packs lines ks) ≤ length out
+  pub wrote : end .out ≡ sets out w (packs lines ks)
+  pub written : end .reader .written ≡ w + length (packs lines ks)
+
+-- A line's bytes, then the others.
+module _ (w : ℕ) (x y out : List ℕ) where
+  join-room : w + length x + length y ≤ length (sets out w x) → w + length (x ++ y) ≤ length out
+  join-room h = omega (arith, h, length-append x y, length-sets out w x)
+
+  join-out : (o : List ℕ) → o ≡ sets (sets out w x) (w + length x) y → o ≡ sets out w (x ++ y)
+  join-out o e = e ∙ sym (sets-append x y out w)
+
+  join-written : (n : ℕ) → n ≡ w + length x + length y → n ≡ w + length (x ++ y)
+  join-written n e = omega (arith, e, length-append x y)
+
+pub length-terms : (ls : List TermLine) → length (termsIn ls) ≡ length ls
+unfolding termsIn
+length-terms [] = refl
+length-terms (l ∷ ls) = ap suc (length-terms ls)
+
+pub packs-block : (b : Block) (ks : List Block) → packs [] (b ∷ ks) ≡ encode (length (b .lines)) ++ packs (b .lines) ks
+unfolding pack-terms termsIn blocksIn pack pack-block
+packs-block b ks =
+    append-assoc (encode (length (termsIn (b .lines)))) (pack-terms (termsIn (b .lines))) (pack (blocksIn ks))
+    ∙ (rw (length-terms (b .lines)))
+
+pub packs-term : (t : TermLine) (ls : List TermLine) (ks : List Block) → packs (t ∷ ls) ks ≡ pack-term (termIn t) ++ packs ls ks
+unfolding pack-terms termsIn
+packs-term t ls ks = append-assoc (pack-term (termIn t)) (pack-terms (termsIn ls)) (pack (blocksIn ks))
+
+pub less : (k : ℕ) → k + 1 - 1 ≡ k
+less k = omega arith
+
+count-rest : (at w k : ℕ) (s : Sums) (out xs : List ℕ) (end : Run) (c : CountStep at w k s out xs)
+    → Rest (w + length (encode (count (c .c)))) (k + 1) (count (c .c)) (opened k (count (c .c)) s) (sets out w (encode (count (c .c)))) (c .rest) end
+    → Rest w k 0 s out xs end
+unfolding linesBytes blocksBytes AllGood GoodBlocks TermsInLimits BlocksInLimits summed after-block termsIn
+count-rest at w k s out xs end c r =
+    let n = count (c .c) in
+    let b : Block = record { head = c .c; lines = r .lines } in
+    let q : packs [] (b ∷ r .ks) ≡ encode n ++ packs (r .lines) (r .ks) = packs-block b (r .ks) ∙ ap (λ (m : ℕ). encode m ++ packs (r .lines) (r .ks)) (r .left) in
+    let limits = rw (less k) at (r .limits) in
+    let all = rw (less k) at (r .all) in
+    let e : length (termsIn (r .lines)) ≡ n = length-terms (r .lines) ∙ r .left in
+    record {
+      lines = [];
+      ks = b ∷ r .ks;
+      is = c .is ∙ ap (λ (y : List ℕ). countBytes (c .c) ++ (10 ∷ y)) (r .is);
+      left = refl;
+      good = tt;
+      limits = tt;
+      count = omega (arith, r .count);
+      goods = (c .good, r .left, r .good, r .goods);
+      all = (count-limits k s n (c .fits) .1, limits, rw e all);
+      room = rw q (join-room w (encode n) (packs (r .lines) (r .ks)) out (r .room));
+      wrote = rw q (join-out w (encode n) (packs (r .lines) (r .ks)) out (end .out) (r .wrote));
+      written = rw q (join-written w (encode n) (packs (r .lines) (r .ks)) out (end .reader .written) (r .written));
+    }
+
+term-rest : (at w k n : ℕ) (s : Sums) (out xs : List ℕ) (end : Run) (c : TermStep at w k (suc n) s out xs)
+    → Rest (w + length (pack-term (termIn (c .t)))) k n (added (factor (k - 1)) s (termIn (c .t))) (sets out w (pack-term (termIn (c .t)))) (c .rest) end
+    → Rest w k (suc n) s out xs end
+unfolding linesBytes AllGood TermsInLimits summed termsIn
+term-rest at w k n s out xs end c r =
+    let x = pack-term (termIn (c .t)) in
+    let q = packs-term (c .t) (r .lines) (r .ks) in
+    record {
+      lines = c .t ∷ r .lines;
+      ks = r .ks;
+      is = c .is ∙ ap (λ (y : List ℕ). termBytes (c .t) ++ (10 ∷ y)) (r .is) ∙ sym (append-assoc (termBytes (c .t)) (10 ∷ linesBytes (r .lines)) (blocksBytes (r .ks)));
+      left = ap suc (r .left);
+      good = (c .good, r .good);
+      limits = (term-limits (factor (k - 1)) s (c .t) (c .fits), r .limits);
+      count = r .count;
+      goods = r .goods;
+      all = r .all;
+      room = rw q (join-room w x (packs (r .lines) (r .ks)) out (r .room));
+      wrote = rw q (join-out w x (packs (r .lines) (r .ks)) out (end .out) (r .wrote));
+      written = rw q (join-written w x (packs (r .lines) (r .ks)) out (end .reader .written) (r .written));
+    }
+
+none-rest : (xs : List ℕ) (at w k n : ℕ) (s : Sums) (out : List ℕ) → w ≤ length out → Taken (run (sp 30 at w 18 0 s) out xs)
+    → Rest w 18 0 s out xs (run (sp 30 at w 18 0 s) out xs)
+unfolding linesBytes blocksBytes AllGood GoodBlocks TermsInLimits BlocksInLimits pack-terms pack termsIn blocksIn run
+none-rest [] at w k n s out h t =
+    record { lines = []; ks = []; is = refl; left = refl; good = tt; limits = tt; count = refl; goods = tt; all = tt; room = omega arith; wrote = refl; written = sym (add-zero w) }
+none-rest (x ∷ xs) at w k n s out h t = after-step x xs at w 18 0 s out t
+
+pub spot-term : (k n : ℕ) → nextSpot k (suc n) ≡ 0
+unfolding nextSpot
+spot-term k n = rw (ne-eqb (suc n) 0 (λ e. omega (arith, e)))
+
+pub spot-count : (k : ℕ) → (k ≡ 18 → ⊥) → nextSpot k 0 ≡ 20
+unfolding nextSpot
+spot-count k h = rw (ne-eqb k 18 h)
+
+pub spot-after : nextSpot 18 0 ≡ 30
+unfolding nextSpot
+spot-after = refl
+
+shorter : (xs body rest : List ℕ) → xs ≡ body ++ (10 ∷ rest) → length rest < length xs
+shorter xs body rest e = omega (arith, ap length e, length-append body (10 ∷ rest))
+
+-- Texts that are shorter than xs.
+abbrev Shorter : List ℕ → Type 0
+Shorter xs =
+    (ys : List ℕ) (at w k n : ℕ) (s : Sums) (out : List ℕ) → length ys < length xs → w ≤ length out → Taken (run (st at w k n s) out ys)
+    → Rest w k n s out ys (run (st at w k n s) out ys)
+
+module _ (xs : List ℕ) (rec : Shorter xs) (at w k : ℕ) (s : Sums) (out : List ℕ) where
+  of-count : CountStep at w k s out xs → Taken (run (sp 20 at w k 0 s) out xs) → Rest w k 0 s out xs (run (sp 20 at w k 0 s) out xs)
+  of-count c t =
+      let n = count (c .c) in
+      rw (c .next)
+      (count-rest at w k s out xs _ c
+      (rec (c .rest) (c .to) (w + length (encode n)) (k + 1) n (opened k n s) (sets out w (encode n)) (shorter xs (countBytes (c .c)) (c .rest) (c .is))
+      (omega (arith, c .room, length-sets out w (encode n))) (rw (c .next) at t)))
+
+  of-term : (n : ℕ) → TermStep at w k (suc n) s out xs → Taken (run (sp 0 at w k (suc n) s) out xs) → Rest w k (suc n) s out xs (run (sp 0 at w k (suc n) s) out xs)
+  of-term n c t =
+      let x = pack-term (termIn (c .t)) in
+      let e : suc n - 1 ≡ n = omega arith in
+      let next = rw e at (c .next) in
+      rw next
+      (term-rest at w k n s out xs _ c
+      (rec (c .rest) (c .to) (w + length x) k n (added (factor (k - 1)) s (termIn (c .t))) (sets out w x) (shorter xs (termBytes (c .t)) (c .rest) (c .is))
+      (omega (arith, c .room, length-sets out w x)) (rw next at t)))
+
+  rest-step : (n : ℕ) → w ≤ length out → Taken (run (st at w k n s) out xs) → Rest w k n s out xs (run (st at w k n s) out xs)
+  rest-step zero h t =
+      by-cases (eqb k 18)
+      (λ z. let e = eqb-true k 18 z in rw (e, spot-after) (none-rest xs at w 18 0 s out h (rw (e, spot-after) at t)))
+      (λ z. let e = spot-count k (eqb-false k 18 z) in rw e (of-count (count-step xs at w k s out (rw e at t)) (rw e at t)))
+  rest-step (suc n) h t =
+      let e = spot-term k n in rw e (of-term n (term-step xs at w k (suc n) s out (rw e at t)) (rw e at t))
+
+rest-of : (N : ℕ) (xs : List ℕ) (at w k n : ℕ) (s : Sums) (out : List ℕ) → length xs ≤ N → w ≤ length out → Taken (run (st at w k n s) out xs)
+    → Rest w k n s out xs (run (st at w k n s) out xs)
+rest-of zero xs at w k n s out l h t = rest-step xs (λ ys at w k n s out i j u. absurd (omega (arith, i))) at w k s out n h t
+rest-of (suc N) xs at w k n s out l h t =
+    rest-step xs (λ ys at w k n s out i j u. rest-of N ys at w k n s out (omega (arith, i)) j u) at w k s out n h t
+
+pub rest-in : (xs : List ℕ) (at w k n : ℕ) (s : Sums) (out : List ℕ) → w ≤ length out → Taken (run (st at w k n s) out xs)
+    → Rest w k n s out xs (run (st at w k n s) out xs)
+rest-in xs at w k n s out h t = rest-of (length xs) xs at w k n s out (omega arith) h t

@@ -1,0 +1,91 @@
+-- The reader's promises. Assumes nothing.
+use mathlib.Core.Path.{_≡_, refl, sym, ap, _∙_}
+use mathlib.Core.List.{List, [], _∷_, _++_}
+use Prim.Native.Nat.{ℕ, _+_, _≤_}
+use native.Mathlib.Omega.{arith}
+use borrow.Author.Tests.{ne-eqb}
+use lib.ListN.{length}
+use lib.Seq.{sets}
+use Rattle.packed.specs.Limits.{no-sums}
+use Rattle.packed.specs.Series.{summed, pack-terms, pack}
+use Rattle.text.specs.declared.Reader.{Reader}
+use Rattle.text.specs.declared.Outcome.the-variants.{Accepted}
+use Rattle.text.specs.Reader.{begun, nextSpot, step, stepOut, Run, run, ended, told, whole}
+use Rattle.text.specs.Grammar.{Block, linesBytes, termsIn, blocksBytes, blocksIn, GoodText, InLimits}
+use Rattle.text.proofs.Lines.{last, stays}
+use Rattle.text.proofs.Accepting.{rest-in}
+use Rattle.text.proofs.Ending.{accepted-by, nothing}
+use Rattle.text.proofs.Taking.{blocks-run}
+
+-- The cutting rule: two calls are one with the bytes of both.
+pub cut : (r : Reader) (out xs ys : List ℕ) → run r out (xs ++ ys) ≡ run (run r out xs .reader) (run r out xs .out) ys
+unfolding run
+cut r out [] ys = refl
+cut r out (byte ∷ xs) ys = cut (step r out byte) (stepOut r out byte) xs ys
+
+-- Any number of calls, of any lengths, zero too.
+unfoldable pub calls : Reader → List ℕ → List (List ℕ) → Run
+calls r out [] = record { reader = r; out = out }
+calls r out (p ∷ ps) = calls (run r out p .reader) (run r out p .out) ps
+
+unfoldable pub joined : List (List ℕ) → List ℕ
+joined [] = []
+joined (p ∷ ps) = p ++ joined ps
+
+pub cutting : (r : Reader) (out : List ℕ) (ps : List (List ℕ)) → calls r out ps ≡ run r out (joined ps)
+unfolding calls joined
+cutting r out [] = unfold run in refl
+cutting r out (p ∷ ps) = cutting (run r out p .reader) (run r out p .out) ps ∙ sym (cut r out p (joined ps))
+
+-- Every cutting gives the output and the answer of the whole text in one call.
+pub any-cutting : (text out : List ℕ) (ps : List (List ℕ)) → joined ps ≡ text
+    → _≡_ {A = Run} record { reader = ended (calls begun out ps .reader); out = calls begun out ps .out } (whole text out)
+any-cutting text out ps e =
+    ap (λ (x : Run). record { reader = ended (x .reader); out = x .out }) (cutting begun out ps ∙ ap (λ (t : List ℕ). run begun out t) e)
+
+-- Calls after a refusal or after the end repeat the answer and write nothing.
+pub repeats : (r : Reader) (out : List ℕ) (ps : List (List ℕ)) → (r .status ≡ 0 → ⊥) → calls r out ps ≡ record { reader = r; out = out }
+repeats r out ps h = cutting r out ps ∙ stays (joined ps) r out h
+
+pub repeats-end : (r : Reader) → (r .status ≡ 0 → ⊥) → ended r ≡ r
+unfolding ended
+repeats-end r h = rw (ne-eqb (r .status) 0 h)
+
+-- A text that follows the grammar within the limits, and has room, is accepted; the output holds its packed form, the rest of it untouched.
+pub read-text : (ks : List Block) (out : List ℕ) → GoodText ks → InLimits ks → length (blocksBytes ks) ≤ last → length (pack (blocksIn ks)) ≤ length out
+    → (told (whole (blocksBytes ks) out .reader) ≡ Accepted (length (pack (blocksIn ks)))) × (whole (blocksBytes ks) out .out ≡ sets out 0 (pack (blocksIn ks)))
+unfolding nextSpot ended told
+read-text ks out g l c h =
+    let n = length (pack (blocksIn ks)) in
+    let z : 0 + n ≡ n = omega arith in
+    let r = blocks-run ks 0 0 0 no-sums out (g .good) l (omega (arith, g .eighteen)) (omega arith) (omega arith) in
+    (ap (λ (x : Run). told (ended (x .reader))) r ∙ ap (λ (i : ℕ). Accepted i) z, ap (λ (x : Run). x .out) r)
+
+-- An accepted text is the lines of its numbers, and the output is exactly their packed form.
+pub record Reads (text out : List ℕ) (n : ℕ) : Type 0 where
+  pub ks : List Block
+  pub good : GoodText ks
+  pub limits : InLimits ks
+  pub is : text ≡ blocksBytes ks
+  pub long : n ≡ length (pack (blocksIn ks))
+  pub room : n ≤ length out
+  pub written : whole text out .out ≡ sets out 0 (pack (blocksIn ks))
+
+pub accepted-text : (text out : List ℕ) (n : ℕ) → told (whole text out .reader) ≡ Accepted n → Reads text out n
+unfolding nextSpot linesBytes termsIn pack-terms summed
+accepted-text text out n e =
+    let a = accepted-by text out n e in
+    let r = rest-in text 0 0 0 0 no-sums out (omega arith) (a .0) in
+    let z = nothing (r .lines) (r .left) in
+    let m : 0 + length (pack (blocksIn (r .ks))) ≡ length (pack (blocksIn (r .ks))) = omega arith in
+    let w : n ≡ length (pack (blocksIn (r .ks))) = a .1 ∙ (rw (z, m) at (r .written)) in
+    let room : 0 + length (pack (blocksIn (r .ks))) ≤ length out = rw z at (r .room) in
+    record {
+      ks = r .ks;
+      good = record { eighteen = omega (arith, r .count); good = r .goods };
+      limits = rw z at (r .all);
+      is = rw z at (r .is);
+      long = w;
+      room = omega arith;
+      written = rw z at (r .wrote);
+    }

@@ -1,0 +1,165 @@
+-- What the judgement of a line that follows the grammar says, and that a good judgement is of such a line. Assumes nothing.
+use mathlib.Core.Path.{_≡_, refl, sym, _∙_}
+use mathlib.Core.Bool.{Bool, true, false}
+use mathlib.Core.List.{List, [], _∷_}
+use mathlib.Core.Logic.{_⊎_, inl, inr, ⊎-elim}
+use Prim.Native.Nat.{ℕ, _+_, _-_, _≤_, _<_}
+use native.Mathlib.Omega.{arith}
+use borrow.Author.Tests.{ltb-true, lt-ltb}
+use lib.Dec.{ltb, eqb}
+use lib.ListN.{length}
+use Rattle.integers.specs.Signs.{sgn}
+use Rattle.packed.specs.declared.Sums.{Sums}
+use Rattle.packed.specs.Limits.{opened, added, factor, count-fits, a-fits, b-fits, c-fits, total-fits, coarse-fits}
+use Rattle.packed.specs.Numbers.{encode}
+use Rattle.packed.specs.Series.{pack-term}
+use Rattle.text.specs.declared.Line.{Line}
+use Rattle.text.specs.declared.Reader.{Reader}
+use Rattle.text.specs.Lexer.{fresh, lex, lexes, wholeCount, wholeTerm}
+use Rattle.text.specs.Judge.{signed, termOf, countRefusal, numbersFit, termRefusal, verdict}
+use Rattle.text.specs.Reader.{nextSpot, nextLine}
+use Rattle.text.specs.Grammar.{size, value, TermLine, termIn, TermInLimits}
+use Rattle.text.proofs.Digits.{early}
+use Rattle.text.proofs.Judging.{by-cases}
+use Rattle.text.proofs.Stepping.{verdict-count, verdict-term, verdict-early}
+use Rattle.text.proofs.Lexing.{flag, termLine}
+use Rattle.text.proofs.Unlexing.{Lexed, none, digit, pointed, spaced, kept, negated, view, never, term-of, count-of}
+use Rattle.text.proofs.Parsing.{no-digit}
+use Rattle.text.proofs.Lines.{moved}
+
+-- A reader at the beginning of a line.
+abbrev pub sp : ℕ → ℕ → ℕ → ℕ → ℕ → Sums → Reader
+sp spot at w k n s =
+    record {
+      line = fresh spot;
+      at = at;
+      written = w;
+      blocks = k;
+      left = n;
+      terms = s .terms;
+      total = s .total;
+      coarse = s .coarse;
+      status = 0;
+      place = 0;
+    }
+
+abbrev pub st : ℕ → ℕ → ℕ → ℕ → Sums → Reader
+st at w k n s = sp (nextSpot k n) at w k n s
+
+signed-flag : (m : Bool) (v : ℕ) → signed (flag m) v ≡ sgn m v
+unfolding signed flag
+signed-flag true v = refl
+signed-flag false v = refl
+
+pub term-is : (t : TermLine) → termOf (termLine t) ≡ termIn t
+unfolding value
+term-is t = rw (signed-flag (t .a .minus) (size (t .a)), signed-flag (t .c .minus) (size (t .c)))
+
+-- After a count and after a term.
+module _ (spot at w k m : ℕ) (s : Sums) where
+  pub count-verdict : (n : ℕ) (L : Line) → wholeCount L ≡ true → L .value ≡ n
+      → (verdict (moved (sp spot at w k 0 s) L m) .refusal ≡ countRefusal k s n)
+      × (verdict (moved (sp spot at w k 0 s) L m) .bytes ≡ encode n)
+      × (nextLine (moved (sp spot at w k 0 s) L m) (verdict (moved (sp spot at w k 0 s) L m)) ≡ st (at + m + 1) (w + length (encode n)) (k + 1) n (opened k n s))
+  count-verdict n L h e =
+      let q = verdict-count (moved (sp spot at w k 0 s) L m) h in (rw (q, e), rw (q, e), rw (q, e))
+
+  pub term-verdict : (n : ℕ) (t : TermLine)
+      → (verdict (moved (sp spot at w k n s) (termLine t) m) .refusal ≡ termRefusal (factor (k - 1)) s (flag (t .b .minus)) (termIn t))
+      × (verdict (moved (sp spot at w k n s) (termLine t) m) .bytes ≡ pack-term (termIn t))
+      × (nextLine (moved (sp spot at w k n s) (termLine t) m) (verdict (moved (sp spot at w k n s) (termLine t) m))
+      ≡ st (at + m + 1) (w + length (pack-term (termIn t))) k (n - 1) (added (factor (k - 1)) s (termIn t)))
+  unfolding wholeCount wholeTerm
+  term-verdict n t =
+      let q = verdict-term (moved (sp spot at w k n s) (termLine t) m) refl refl in
+      let e = term-is t in (rw (q, e), rw (q, e), rw (q, e))
+
+-- A count and a term without refusal.
+pub count-zero : (k : ℕ) (s : Sums) (n : ℕ) → k < 18 → count-fits s n ≡ true → countRefusal k s n ≡ 0
+unfolding countRefusal
+count-zero k s n h e = rw (lt-ltb k 18 h, e)
+
+pub count-limits : (k : ℕ) (s : Sums) (n : ℕ) → countRefusal k s n ≡ 0 → (k < 18) × (count-fits s n ≡ true)
+unfolding countRefusal
+count-limits k s n e =
+    by-cases (ltb k 18)
+    (λ p. by-cases (count-fits s n) (λ q. (ltb-true _ _ p, q)) (λ q. absurd (apart 4 (λ x. omega (arith, x)) (rw (p, q) at e))))
+    (λ p. absurd (apart 9 (λ x. omega (arith, x)) (rw p at e)))
+  where
+    apart : (x : ℕ) → (x ≡ 0 → ⊥) → x ≡ 0 → ⊥
+    apart x h = h
+
+pub term-zero : (f : ℕ) (s : Sums) (t : TermLine) → TermInLimits f s t → termRefusal f s (flag (t .b .minus)) (termIn t) ≡ 0
+unfolding termRefusal numbersFit flag b-fits size
+term-zero f s t l = rw (l .from-zero, l .a, l .b, l .c, l .total, l .coarse)
+
+flag-zero : (m : Bool) → eqb (flag m) 0 ≡ true → m ≡ false
+unfolding flag
+flag-zero true e = never e
+flag-zero false e = refl
+
+pub term-limits : (f : ℕ) (s : Sums) (t : TermLine) → termRefusal f s (flag (t .b .minus)) (termIn t) ≡ 0 → TermInLimits f s t
+unfolding termRefusal numbersFit
+term-limits f s t e =
+    by-cases (eqb (flag (t .b .minus)) 0)
+    (λ p. by-cases (a-fits (value (t .a))) (λ q. by-cases (b-fits (size (t .b))) (λ r. by-cases (c-fits (value (t .c)))
+    (λ u. by-cases (total-fits s (value (t .a))) (λ v. by-cases (coarse-fits f s (value (t .a)) (size (t .b)) (value (t .c)))
+    (λ w. record { from-zero = flag-zero (t .b .minus) p; a = q; b = r; c = u; total = v; coarse = w })
+    (λ w. absurd (apart 6 (λ x. omega (arith, x)) (rw (p, q, r, u, v, w) at e))))
+    (λ v. absurd (apart 5 (λ x. omega (arith, x)) (rw (p, q, r, u, v) at e))))
+    (λ u. absurd (apart 4 (λ x. omega (arith, x)) (rw (p, q, r, u) at e))))
+    (λ r. absurd (apart 4 (λ x. omega (arith, x)) (rw (p, q, r) at e))))
+    (λ q. absurd (apart 4 (λ x. omega (arith, x)) (rw (p, q) at e))))
+    (λ p. absurd (apart 4 (λ x. omega (arith, x)) (rw p at e)))
+  where
+    apart : (x : ℕ) → (x ≡ 0 → ⊥) → x ≡ 0 → ⊥
+    apart x h = h
+
+-- A line keeps its kind.
+count-kind : (xs : List ℕ) (l : Line) → 20 ≤ l .spot → 20 ≤ lexes l xs .spot
+unfolding lexes
+count-kind [] l h = h
+count-kind (x ∷ xs) l h = count-kind xs (lex l x) (go (lex l x) (view l x))
+  where
+    go : (m : Line) → Lexed l x m → 20 ≤ m .spot
+    go _ none = omega arith
+    go _ (digit d i k t) = omega arith
+    go _ (pointed i k j) = absurd (omega arith)
+    go _ (spaced i k j) = h
+    go _ (kept i k j) = absurd (omega arith)
+    go _ (negated i k j) = absurd (omega arith)
+
+term-kind : (xs : List ℕ) (l : Line) → (l .spot ≤ 18) ⊎ (l .spot ≡ 31) → (lexes l xs .spot ≤ 18) ⊎ (lexes l xs .spot ≡ 31)
+unfolding lexes
+term-kind [] l h = h
+term-kind (x ∷ xs) l h = term-kind xs (lex l x) (go (lex l x) (view l x))
+  where
+    one : (s m v d : ℕ) → ((s ≤ 18) ⊎ (s ≡ 31)) → s < 24 → (s ≡ 18 → ⊥) → s + 1 ≤ 18
+    one s m v d (inl a) b c = omega arith
+    one s m v d (inr a) b c = absurd (omega arith)
+
+    go : (m : Line) → Lexed l x m → (m .spot ≤ 18) ⊎ (m .spot ≡ 31)
+    go _ none = inr refl
+    go _ (digit d i k t) = inl (one (l .spot) (l .minus) (l .value) d h (early _ _ _ _ t) (λ e. no-digit (l .minus) (l .value) d (rw e at t)))
+    go _ (pointed i k j) = inl (omega arith)
+    go _ (spaced i k j) = h
+    go _ (kept i k j) = inl (omega arith)
+    go _ (negated i k j) = inl (omega arith)
+
+early-never : {P : Type 0} (r : Reader) → wholeCount (r .line) ≡ false → wholeTerm (r .line) ≡ false → verdict r .refusal ≡ 0 → P
+early-never r p q g = let e = sym (verdict-early r p q) ∙ g in absurd (omega (arith, e))
+
+-- A line feed that is not refused ends a count after counts, and a term after terms.
+pub ends-count : (r : Reader) (xs : List ℕ) → r .line ≡ lexes (fresh 20) xs → verdict r .refusal ≡ 0 → wholeCount (lexes (fresh 20) xs) ≡ true
+ends-count r xs e g =
+    by-cases (wholeCount (lexes (fresh 20) xs)) (λ p. p)
+    (λ p. by-cases (wholeTerm (lexes (fresh 20) xs))
+    (λ q. let t = term-of _ q in absurd (omega (arith, t .spot, count-kind xs (fresh 20) (omega arith))))
+    (λ q. early-never r (rw e p) (rw e q) g))
+
+pub ends-term : (r : Reader) (xs : List ℕ) → r .line ≡ lexes (fresh 0) xs → verdict r .refusal ≡ 0 → wholeTerm (lexes (fresh 0) xs) ≡ true
+ends-term r xs e g =
+    by-cases (wholeTerm (lexes (fresh 0) xs)) (λ p. p)
+    (λ p. by-cases (wholeCount (lexes (fresh 0) xs))
+    (λ q. let c = count-of _ q in ⊎-elim (λ h. absurd (omega (arith, c .low))) (λ h. absurd (omega (arith, c .high))) (term-kind xs (fresh 0) (inl (omega arith))))
+    (λ q. early-never r (rw e q) (rw e p) g))
