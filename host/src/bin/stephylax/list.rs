@@ -2,7 +2,7 @@
 
 use crate::arguments::Arguments;
 use crate::dates::{instant, instant_text};
-use crate::picture::{picture, Scene};
+use crate::picture::{picture, separation, Scene};
 use crate::series::{series, write, Series};
 use crate::{put, Failure};
 use std::io::{IsTerminal, Write};
@@ -131,8 +131,8 @@ pub fn sun_list(rest: &[String]) -> Result<(), Failure> {
     let earth = series(arguments.option("--earth").unwrap_or("earth"), data)?;
     judge_last_minute(&window)?;
     let runs = runs(&planet, &earth, &window)?;
+    let scene = Scene { planet: &planet, earth: &earth, window: &window, runs: &runs };
     if let Some(path) = arguments.option("--svg") {
-        let scene = Scene { planet: &planet, earth: &earth, window: &window, runs: &runs };
         write(path, picture(&scene)?.as_bytes())?;
         if path == "-" {
             return Ok(());
@@ -141,7 +141,7 @@ pub fn sun_list(rest: &[String]) -> Result<(), Failure> {
     if arguments.flag("--csv") {
         return put(csv(&window, &runs)?.as_bytes());
     }
-    put(table(&planet, &window, &runs)?.as_bytes())
+    put(table(&scene)?.as_bytes())
 }
 
 /// A whole number with its thousands parted.
@@ -175,7 +175,11 @@ fn counted(n: i64, noun: &str) -> String {
     format!("{} {noun}{}", parted(n), if n == 1 { "" } else { "s" })
 }
 
-fn table(planet: &Series, window: &Window, runs: &[Run]) -> Result<String, Failure> {
+fn table(scene: &Scene) -> Result<String, Failure> {
+    let Scene { planet, window, runs, .. } = scene;
+    let last_minute = window.t0 + MINUTE_MS * (window.minutes - 1);
+    let (first, last) = (separation(scene, window.t0)?, separation(scene, last_minute)?);
+    let separations = format!("Separation {first:.2}° at the first minute, {last:.2}° at the last.\n");
     let mut text = format!(
         "{} within {} ({}°{:02}′) of the Sun, {} from {} TD\n",
         planet.name,
@@ -186,12 +190,12 @@ fn table(planet: &Series, window: &Window, runs: &[Run]) -> Result<String, Failu
         when(window, 0)?
     );
     if runs.is_empty() {
-        return Ok(text + "No minute is listed.\n");
+        return Ok(text + "No minute is listed.\n" + &separations);
     }
     let width = when(window, 0)?.chars().count() + 2;
     text += &format!("{:<width$}{:<width$}{:>9}   {}\n", "from (TD)", "to (TD)", "minutes", "minutes from the start");
     let mut listed = 0;
-    for &(first, last) in runs {
+    for &(first, last) in *runs {
         let count = last - first + 1;
         listed += count;
         let (from, to) = (when(window, first)?, when(window, last)?);
@@ -199,5 +203,5 @@ fn table(planet: &Series, window: &Window, runs: &[Run]) -> Result<String, Failu
     }
     text +=
         &format!("{}, {} of {} minutes.\n", counted(runs.len() as i64, "run"), parted(listed), parted(window.minutes));
-    Ok(text)
+    Ok(text + &separations)
 }

@@ -40,8 +40,8 @@ fn vector(series: &Series, t: i64) -> Result<[f64; 3], Failure> {
     Ok([r * b.cos() * l.cos(), r * b.cos() * l.sin(), r * b.sin()])
 }
 
-/// The angle between planet and Sun in degrees.
-fn separation(scene: &Scene, t: i64) -> Result<f64, Failure> {
+/// The angle between planet and Sun in degrees, for the eye.
+pub fn separation(scene: &Scene, t: i64) -> Result<f64, Failure> {
     let (planet, earth) = (vector(scene.planet, t)?, vector(scene.earth, t)?);
     let seen = [0, 1, 2].map(|i| planet[i] - earth[i]);
     let sun = earth.map(|v| -v);
