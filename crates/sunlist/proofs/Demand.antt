@@ -22,7 +22,7 @@ use Rattle.runs.proofs.Maximal.{Runs-of, runs-of, Holds}
 use Rattle.sunlist.specs.declared.ListAnswer.the-variants.{Runs}
 use Rattle.sunlist.specs.SunList.{minute, good, flag-of, decision-at, window-flags, sun-list, sun-list-out}
 use Rattle.sunlist.specs.Demand.{exact-coordinates, first-minute, last-minute, In-run, Demand-3}
-use Rattle.sunlist.proofs.Window.{Fits, fits-is, minute-in}
+use Rattle.sunlist.proofs.Limits.{Fits, fits-is, minute-in}
 use Rattle.sunlist.proofs.Answered.{list-of, Answered, answered-is}
 use Rattle.sunlist.proofs.Minutes.{all-good, good-usable, good-flag, flags-are}
 use Rattle.sunlist.proofs.Near.{near}

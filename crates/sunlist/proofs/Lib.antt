@@ -1,6 +1,9 @@
--- Demand 3: `Demand` states it. `Window`: the window's figures; `Answered`: what an answered list says; `Minutes`: the decided minutes and their flags; `Near`: coordinates near exact sums at each minute.
-pub mod Window
+-- Demand 3: `Demand` states it. `Limits`: the window's figures; `Answered`: what an answered list says; `Minutes`: the decided minutes and their flags; `Near`: coordinates near exact sums at each minute.
+pub mod Limits
 pub mod Answered
 pub mod Minutes
 pub mod Near
 pub mod Demand
+pub mod Separations
+pub mod Working
+pub mod Written

@@ -36,7 +36,7 @@ all-good at j (suc n) h (suc i) l =
 
 -- A decision that is good is of usable places, and its flag is whether the minute is listed.
 good-then : (u l : Bool) (f : Figures) → good (cond u (cond l (Listed f) (Clear f)) Unusable) ≡ true → (u ≡ true) × (flag (flag-of (cond u (cond l (Listed f) (Clear f)) Unusable)) ≡ l)
-unfolding good flag-of
+unfolding good
 good-then true true f e = (refl, refl)
 good-then true false f e = (refl, refl)
 good-then false l f e = let z : _≡_ {A = Bool} false true = e in let w : _≡_ {A = ℕ} 0 1 = cc in absurd (omega arith)

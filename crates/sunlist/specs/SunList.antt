@@ -33,16 +33,16 @@ window-fits minutes keep-out = (leZ (pos 60) keep-out && leZ keep-out (pos 2700)
 unfoldable pub decision-at : (planet earth : List (List Term)) → Instant → ℕ → ℕ → Decision
 decision-at planet earth t0 k j = decide k (coordinates (minute t0 j .ms) planet) (coordinates (minute t0 j .ms) earth)
 
--- Whether places are usable at a minute so decided, and its flag: 1 is listed.
+-- Whether places are usable at a minute so decided, and its flag: 1 is listed, 0 clear.
 unfoldable pub good : Decision → Bool
 good (Listed f) = true
 good (Clear f) = true
 good Unusable = false
 
-unfoldable pub flag-of : Decision → ℕ
+abbrev pub flag-of : Decision → ℕ
 flag-of (Listed f) = 1
 flag-of (Clear f) = 0
-flag-of Unusable = 0
+flag-of Unusable = 2
 
 -- Of n minutes from j on: the first bad one, or the minute after them; and their flags.
 unfoldable pub first-bad : (ℕ → Decision) → ℕ → ℕ → ℕ

@@ -1,4 +1,7 @@
 // The list of minutes when a planet stands too near the Sun: document 01, "Sun list".
+pub mod inner;
+mod window;
+
 use units::Refusal;
 
 // The figures by which a usable minute is decided: the squared separation of the two unit vectors and the threshold, both in 1/U^2, D and both R (planet, earth) in parts.

@@ -1,0 +1,112 @@
+-- The sizes of unit vectors, of their squared separation and of the threshold: all within 64 bits where the places are usable. Assumes nothing.
+use mathlib.Core.Path.{_≡_, refl, sym, ap, ap₂, _∙_, subst}
+use mathlib.Core.Bool.{Bool, true, false, _&&_}
+use mathlib.Core.List.{List, [], _∷_}
+use Prim.Native.Nat.{ℕ, _+_, _*_, _/_, _^_, _≤_, _<_}
+use native.Mathlib.Omega.{arith}
+use native.Mathlib.Nat.{mul-le-mul}
+use borrow.Author.Tests.{leb-true}
+use lib.Dec.{leb, le→leb, leb→le}
+use lib.IntN.{ℤ, pos, natAbs, negℤ, _+ℤ_, _-ℤ_, _*ℤ_}
+use lib.Signed.{leZ}
+use Rattle.integers.specs.Order.{_≼_}
+use Rattle.integers.specs.Signs.{sgn, near}
+use Rattle.integers.specs.Division.{rounded}
+use Rattle.integers.proofs.Auto.{polys, cert!, gap, _⊞_, _·_, sqr}
+use Rattle.integers.proofs.Division.{rounded-near}
+use Rattle.integers.proofs.Order.{natAbs-le, natAbs-*}
+use Rattle.arith.proofs.Ranges.{scaled-within}
+use Rattle.units.specs.Units.{U, parts, turn, angle-per-part}
+use Rattle.units.specs.declared.Coordinates.{Coordinates}
+use Rattle.cosine.specs.Cosine.{sine}
+use Rattle.vectors.specs.declared.Vector.{Vector}
+use Rattle.vectors.specs.Vectors.{geocentric, sun, squared, length, unit, radius-usable, usable}
+use Rattle.vectors.specs.Rectangular.{rectangular, place, distance, places-usable}
+use Rattle.vectors.specs.Sizes.{Components}
+use Rattle.vectors.proofs.Places.{sine-size, within-length}
+use Rattle.vectors.proofs.Usable.{radius-least}
+use Rattle.separation.specs.Listed.{squared-separation, threshold}
+use Rattle.separation.proofs.Form.{dot}
+use Rattle.separation.proofs.Sizes.{Unit³}
+use Rattle.separation.proofs.Units.{unit-is}
+use Rattle.separation.proofs.Places.{placed}
+use Rattle.separation.proofs.Closeness.{sun-long}
+use Rattle.separation.proofs.Angles.{one-far}
+use Rattle.separation.proofs.Joined.{figures}
+use Rattle.sunlist.proofs.Limits.{both}
+
+-- ---- The threshold.
+
+-- The angle of keep-out k and an arcminute, halved.
+abbrev pub half-angle : ℕ → ℕ
+half-angle k = ((k + 1) * 62831853071796 + 21600) / 43200
+
+half-angle-is : (k : ℕ) → rounded (pos ((k + 1) * turn)) 43200 ≡ pos (half-angle k)
+unfolding sgn near
+half-angle-is k = rounded-near false ((k + 1) * turn) 43200 (omega arith) ∙ ap pos (halved ((k + 1) * turn))
+  where
+    halved : (m : ℕ) → (2 * m + 43200) / (2 * 43200) ≡ (m + 21600) / 43200
+    halved m = omega arith
+
+pub threshold-is : (k : ℕ) (s : ℤ) → s ≡ sine (pos (half-angle k)) → pos 4 *ℤ (s *ℤ s) ≡ threshold k
+unfolding threshold
+threshold-is k s e = ap (λ (t : ℤ). pos 4 *ℤ (t *ℤ t)) (e ∙ ap sine (sym (half-angle-is k)))
+
+pub square-size : (s : ℤ) (k : ℕ) → natAbs s ≤ k → natAbs (s *ℤ s) ≤ k * k
+square-size s k h = subst (λ (n : ℕ). n ≤ k * k) (sym (natAbs-* s s)) (mul-le-mul h h)
+
+pub four-size : (s : ℤ) → natAbs s ≤ U → natAbs (pos 4 *ℤ (s *ℤ s)) ≤ 4 * (U * U)
+four-size s h = subst (λ (n : ℕ). n ≤ 4 * (U * U)) (sym (natAbs-* (pos 4) (s *ℤ s))) (let q = square-size s U h in omega arith)
+
+-- ---- Unit vectors.
+
+pub unit-size : (v : Vector) → 0 < length v → Components U (unit v)
+unfolding unit
+unit-size v h =
+    let w = within-length v in
+    record { x-in = scaled-within (pos U) (v .x) (length v) U h (omega arith) (w .x-in); y-in = scaled-within (pos U) (v .y) (length v) U h (omega arith) (w .y-in); z-in = scaled-within (pos U) (v .z) (length v) U h (omega arith) (w .z-in) }
+
+far : (l : ℕ) → pos U ≼ pos l → U ≤ l
+far l h = leb→le U l (h .le)
+
+pub sun-far : (earth : Coordinates) → radius-usable (earth .radius) ≡ true → U ≤ length (sun (place earth))
+unfolding figures placed place rectangular
+sun-far earth h =
+    let r = radius-least (earth .radius) h in
+    let s = sun-long (figures earth) r (one-far (pos angle-per-part *ℤ earth .latitude)) (one-far (pos angle-per-part *ℤ earth .longitude)) in
+    far _ (cert! (earth .radius ∷ pos (length (sun (place earth))) ∷ []) 99 (gap s ⊞ 47 · gap r) (search polys depth 60 fits 100000) (search polys depth 60 fits 100000) (search polys depth 60 fits 100000) tt)
+
+pub record Usable (planet earth : Coordinates) : Type 0 where
+  pub planet-radius : radius-usable (planet .radius) ≡ true
+  pub earth-radius : radius-usable (earth .radius) ≡ true
+  pub seen-far : U ≤ distance planet earth
+
+pub usable-is : (planet earth : Coordinates) → places-usable planet earth ≡ true → Usable planet earth
+unfolding places-usable usable
+usable-is p e h =
+    let d = leb (parts / 10) (distance p e) in
+    let s = leZ (p .radius +ℤ e .radius) (pos (16 * distance p e)) in
+    let a = both (radius-usable (p .radius)) (radius-usable (e .radius) && (d && s)) h in
+    let b = both (radius-usable (e .radius)) (d && s) (a .1) in
+    let c = leb-true (parts / 10) (distance p e) (both d s (b .1) .0) in
+    record { planet-radius = a .0; earth-radius = b .0; seen-far = omega arith }
+
+-- Two unit vectors are at most twice their length apart.
+pub apart-size : (u v : Vector) → Unit³ u → Unit³ v → natAbs (squared-separation u v) ≤ 4 * (U * U) + 16 * U
+unfolding squared-separation squared geocentric dot
+apart-size u v a b =
+    natAbs-le (squared-separation u v) (4 * (U * U) + 16 * U)
+    (cert! ρ 0 (sqr (u .x -ℤ v .x) ⊞ sqr (u .y -ℤ v .y) ⊞ sqr (u .z -ℤ v .z)) (search polys depth 60 fits 100000) (search polys depth 60 fits 100000) (search polys depth 60 fits 100000) tt)
+    (cert! ρ 0 (2 · gap (a .most) ⊞ 2 · gap (b .most) ⊞ sqr (u .x +ℤ v .x) ⊞ sqr (u .y +ℤ v .y) ⊞ sqr (u .z +ℤ v .z)) (search polys depth 60 fits 100000) (search polys depth 60 fits 100000) (search polys depth 60 fits 100000) tt)
+  where
+    ρ : List ℤ
+    ρ = u .x ∷ u .y ∷ u .z ∷ v .x ∷ v .y ∷ v .z ∷ []
+
+unit-of : (v : Vector) → U ≤ length v → Unit³ (unit v)
+unit-of v h = unit-is v (record { le = le→leb U (length v) h })
+
+pub separation-size : (planet earth : Coordinates) → places-usable planet earth ≡ true → natAbs (squared-separation (unit (sun (place earth))) (unit (geocentric (place planet) (place earth)))) ≤ 4 * (U * U) + 16 * U
+unfolding distance
+separation-size planet earth h =
+    let w = usable-is planet earth h in
+    apart-size (unit (sun (place earth))) (unit (geocentric (place planet) (place earth))) (unit-of _ (sun-far earth (w .earth-radius))) (unit-of _ (w .seen-far))

@@ -1,0 +1,250 @@
+-- What the functions of one minute ask of each other and answer, from the bits of their numbers. Assumes nothing.
+use mathlib.Core.Path.{_≡_, refl, sym, ap, ap₂, _∙_, subst}
+use mathlib.Core.Bool.{Bool, true, false, cond, _&&_}
+use Prim.Native.Nat.{ℕ, _+_, _*_, _^_, _≤_, _<_}
+use native.Mathlib.Omega.{arith}
+use native.Mathlib.Nat.{mul-le-mul}
+use lib.IntN.{ℤ, pos, negsuc, natAbs, negℤ, _+ℤ_, _-ℤ_, _*ℤ_}
+use lib.Signed.{leZ}
+use mir.Syntax.{w64}
+use mir.Val.{SFits}
+use Rattle.integers.proofs.Order.{natAbs-sub, natAbs-neg, fits}
+use Rattle.units.specs.Units.{U}
+use Rattle.units.specs.declared.Coordinates.{Coordinates}
+use Rattle.cosine.specs.Cosine.{sine}
+use Rattle.vectors.specs.declared.Vector.{Vector}
+use Rattle.vectors.specs.Vectors.{geocentric, sun, squared, length, unit, radius-usable, usable}
+use Rattle.vectors.specs.Rectangular.{place, distance, places-usable}
+use Rattle.vectors.specs.Sizes.{Components}
+use Rattle.vectors.proofs.Cells.{Cell, cell}
+use Rattle.vectors.proofs.Places.{sine-size, place-size, smaller}
+use Rattle.vectors.proofs.Usable.{radius-size}
+use Rattle.separation.specs.Listed.{squared-separation, threshold, listed}
+use Rattle.sunlist.specs.declared.Figures.{Figures}
+use Rattle.sunlist.specs.declared.Decision.{Decision}
+use Rattle.sunlist.specs.declared.Decision.the-variants.{Listed, Clear, Unusable}
+use Rattle.sunlist.specs.Minute.{figures, decide}
+use Rattle.sunlist.proofs.Separations.{half-angle, threshold-is, square-size, four-size, unit-size, sun-far, Usable, usable-is, separation-size}
+
+-- ---- threshold
+
+module _ (k : ℕ) (s : ℤ) (e : s ≡ sine (pos (half-angle k))) where
+  sine-in : natAbs s ≤ U
+  sine-in = subst (λ (t : ℤ). natAbs t ≤ U) (sym e) (sine-size (pos (half-angle k)))
+
+  sine-cell : Cell s ≡ s
+  sine-cell = cell s (let h = sine-in in omega arith)
+
+  pub square-fits : SFits w64 (Cell s *ℤ Cell s)
+  square-fits = rw sine-cell (fits (s *ℤ s) (let h = square-size s U sine-in in omega arith))
+
+  module _ (q : ℤ) (f : q ≡ Cell s *ℤ Cell s) where
+    q-is : Cell q ≡ s *ℤ s
+    q-is =
+        let p : q ≡ s *ℤ s = f ∙ ap₂ _*ℤ_ sine-cell sine-cell in
+        cell q (subst (λ (t : ℤ). natAbs t < 2 ^ 63) (sym p) (let h = square-size s U sine-in in omega arith)) ∙ p
+
+    pub four-fits : SFits w64 (pos 4 *ℤ Cell q)
+    four-fits = rw q-is (fits (pos 4 *ℤ (s *ℤ s)) (let h = four-size s sine-in in omega arith))
+
+    pub four-is : (r : ℤ) → r ≡ pos 4 *ℤ Cell q → Cell r ≡ threshold k
+    four-is r g =
+        let p : r ≡ pos 4 *ℤ (s *ℤ s) = g ∙ ap (λ (t : ℤ). pos 4 *ℤ t) q-is in
+        cell r (subst (λ (t : ℤ). natAbs t < 2 ^ 63) (sym p) (let h = four-size s sine-in in omega arith)) ∙ p ∙ threshold-is k s e
+
+threshold-size : (k : ℕ) → natAbs (threshold k) ≤ 4 * (U * U)
+threshold-size k = let s = sine (pos (half-angle k)) in subst (λ (t : ℤ). natAbs t ≤ 4 * (U * U)) (threshold-is k s refl) (four-size s (sine-size (pos (half-angle k))))
+
+-- ---- separation
+
+square-is : (x : ℤ) → x *ℤ x ≡ pos (natAbs x * natAbs x)
+square-is (pos n) = refl
+square-is (negsuc n) = refl
+
+pub geocentric-size : (k : ℕ) (a b : Vector) → Components k a → Components k b → Components (k + k) (geocentric a b)
+unfolding geocentric
+geocentric-size k a b h g = record { x-in = one (a .x) (b .x) (h .x-in) (g .x-in); y-in = one (a .y) (b .y) (h .y-in) (g .y-in); z-in = one (a .z) (b .z) (h .z-in) (g .z-in) }
+  where
+    one : (x y : ℤ) → natAbs x ≤ k → natAbs y ≤ k → natAbs (x -ℤ y) ≤ k + k
+    one x y h g = let s = natAbs-sub x y in omega arith
+
+pub sun-size : (k : ℕ) (a : Vector) → Components k a → Components k (sun a)
+unfolding sun
+sun-size k a h = record { x-in = one (a .x) (h .x-in); y-in = one (a .y) (h .y-in); z-in = one (a .z) (h .z-in) }
+  where
+    one : (x : ℤ) → natAbs x ≤ k → natAbs (negℤ x) ≤ k
+    one x h = rw (natAbs-neg x) h
+
+-- The squares of a difference w, and their sum.
+module _ (u v w : Vector) (hu : Components U u) (hv : Components U v) (hs : natAbs (squared-separation u v) < 2 ^ 63) (ew : w ≡ geocentric u v) where
+  w-in : Components (U + U) w
+  w-in = subst (Components (U + U)) (sym ew) (geocentric-size U u v hu hv)
+
+  whole-in : natAbs (squared w) < 2 ^ 63
+  unfolding squared-separation
+  whole-in = subst (λ (t : Vector). natAbs (squared t) < 2 ^ 63) (sym ew) hs
+
+  part-fits : (x : ℤ) → natAbs x ≤ U + U → SFits w64 (Cell x *ℤ Cell x)
+  part-fits x h = rw (cell x (omega arith)) (fits (x *ℤ x) (let s = square-size x (U + U) h in omega arith))
+
+  part-is : (x p : ℤ) → natAbs x ≤ U + U → p ≡ Cell x *ℤ Cell x → Cell p ≡ pos (natAbs x * natAbs x)
+  part-is x p h e =
+      let f : p ≡ x *ℤ x = e ∙ ap (λ (t : ℤ). t *ℤ t) (cell x (omega arith)) in
+      cell p (subst (λ (t : ℤ). natAbs t < 2 ^ 63) (sym f) (let s = square-size x (U + U) h in omega arith)) ∙ f ∙ square-is x
+
+  pub x-fits : SFits w64 (Cell (w .x) *ℤ Cell (w .x))
+  x-fits = part-fits (w .x) (w-in .x-in)
+
+  pub y-fits : SFits w64 (Cell (w .y) *ℤ Cell (w .y))
+  y-fits = part-fits (w .y) (w-in .y-in)
+
+  pub z-fits : SFits w64 (Cell (w .z) *ℤ Cell (w .z))
+  z-fits = part-fits (w .z) (w-in .z-in)
+
+  squared-is : squared w ≡ pos (natAbs (w .x) * natAbs (w .x) + natAbs (w .y) * natAbs (w .y) + natAbs (w .z) * natAbs (w .z))
+  unfolding squared
+  squared-is = rw (square-is (w .x), square-is (w .y), square-is (w .z))
+
+  total-in : natAbs (w .x) * natAbs (w .x) + natAbs (w .y) * natAbs (w .y) + natAbs (w .z) * natAbs (w .z) < 2 ^ 63
+  total-in = subst (λ (t : ℤ). natAbs t < 2 ^ 63) squared-is whole-in
+
+  module _ (x y z : ℤ) (ex : x ≡ Cell (w .x) *ℤ Cell (w .x)) (ey : y ≡ Cell (w .y) *ℤ Cell (w .y)) (ez : z ≡ Cell (w .z) *ℤ Cell (w .z)) where
+    pub xy-fits : SFits w64 (Cell x +ℤ Cell y)
+    xy-fits = rw (part-is (w .x) x (w-in .x-in) ex, part-is (w .y) y (w-in .y-in) ey) (fits (pos (natAbs (w .x) * natAbs (w .x) + natAbs (w .y) * natAbs (w .y))) (let h = total-in in omega arith))
+
+    module _ (xy : ℤ) (e : xy ≡ Cell x +ℤ Cell y) where
+      xy-is : Cell xy ≡ pos (natAbs (w .x) * natAbs (w .x) + natAbs (w .y) * natAbs (w .y))
+      xy-is =
+          let f : xy ≡ pos (natAbs (w .x) * natAbs (w .x) + natAbs (w .y) * natAbs (w .y)) = e ∙ ap₂ _+ℤ_ (part-is (w .x) x (w-in .x-in) ex) (part-is (w .y) y (w-in .y-in) ey) in
+          cell xy (subst (λ (t : ℤ). natAbs t < 2 ^ 63) (sym f) (let h = total-in in omega arith)) ∙ f
+
+      pub sum-fits : SFits w64 (Cell xy +ℤ Cell z)
+      sum-fits = rw (xy-is, part-is (w .z) z (w-in .z-in) ez) (fits (pos (natAbs (w .x) * natAbs (w .x) + natAbs (w .y) * natAbs (w .y) + natAbs (w .z) * natAbs (w .z))) total-in)
+
+      pub sum-is : (s : ℤ) → s ≡ Cell xy +ℤ Cell z → Cell s ≡ squared-separation u v
+      unfolding squared-separation
+      sum-is s f =
+          let g : s ≡ pos (natAbs (w .x) * natAbs (w .x) + natAbs (w .y) * natAbs (w .y) + natAbs (w .z) * natAbs (w .z)) = f ∙ ap₂ _+ℤ_ xy-is (part-is (w .z) z (w-in .z-in) ez) in
+          cell s (subst (λ (t : ℤ). natAbs t < 2 ^ 63) (sym g) total-in) ∙ g ∙ sym squared-is ∙ ap squared ew
+
+-- ---- figures
+
+pub place-in : (c : Coordinates) → radius-usable (c .radius) ≡ true → Components 6400000000000 (place c)
+place-in c h = smaller (natAbs (c .radius)) 6400000000000 (place c) (radius-size (c .radius) h) (place-size c)
+
+pub radius-in : (r : ℤ) → radius-usable r ≡ true → natAbs r < 2 ^ 63
+radius-in r h = let s = radius-size r h in omega arith
+
+-- What is learnt of planet and Earth on the way to the figures.
+module _ (k : ℕ) (planet earth : Coordinates) (ok : places-usable planet earth ≡ true) (e g : Vector) (d : ℕ) (pe : e ≡ place earth) (pg : g ≡ geocentric (place planet) (place earth)) (pd : d ≡ distance planet earth) where
+  far : Usable planet earth
+  far = usable-is planet earth ok
+
+  pub earth-asks : Components (2 ^ 61) e
+  earth-asks = subst (Components (2 ^ 61)) (sym pe) (smaller 6400000000000 (2 ^ 61) (place earth) (omega arith) (place-in earth (far .earth-radius)))
+
+  pub seen-asks : (d ≡ length g) × (0 < d) × Components (2 ^ 45) g
+  unfolding distance
+  seen-asks =
+      (pd ∙ ap length (sym pg), (let f = far .seen-far in omega arith), subst (Components (2 ^ 45)) (sym pg) (smaller (6400000000000 + 6400000000000) (2 ^ 45) _ (omega arith) (geocentric-size 6400000000000 (place planet) (place earth) (place-in planet (far .planet-radius)) (place-in earth (far .earth-radius)))))
+
+  module _ (s : Vector) (ps : s ≡ sun e) where
+    s-is : s ≡ sun (place earth)
+    s-is = ps ∙ ap sun pe
+
+    pub sun-asks : Components (2 ^ 45) s
+    sun-asks = subst (Components (2 ^ 45)) (sym s-is) (sun-size (2 ^ 45) (place earth) (smaller 6400000000000 (2 ^ 45) (place earth) (omega arith) (place-in earth (far .earth-radius))))
+
+    pub unit-asks : (l : ℕ) → l ≡ length s → (l ≡ length s) × (0 < l) × Components (2 ^ 45) s
+    unit-asks l h = (h, (let f = sun-far earth (far .earth-radius) in let m : l ≡ length (sun (place earth)) = h ∙ ap length s-is in omega arith), sun-asks)
+
+    module _ (u v : Vector) (pu : u ≡ unit s) (pv : v ≡ unit g) where
+      u-is : u ≡ unit (sun (place earth))
+      u-is = pu ∙ ap unit s-is
+
+      v-is : v ≡ unit (geocentric (place planet) (place earth))
+      v-is = pv ∙ ap unit pg
+
+      apart-is : squared-separation u v ≡ squared-separation (unit (sun (place earth))) (unit (geocentric (place planet) (place earth)))
+      apart-is = ap₂ squared-separation u-is v-is
+
+      apart-in : natAbs (squared-separation u v) < 2 ^ 63
+      apart-in = let h = separation-size planet earth ok in subst (λ (t : ℤ). natAbs t < 2 ^ 63) (sym apart-is) (omega arith)
+
+      pub separation-asks : Components U u × Components U v × (natAbs (squared-separation u v) < 2 ^ 63)
+      unfolding distance
+      separation-asks = (
+        subst (Components U) (sym u-is) (unit-size _ (let f = sun-far earth (far .earth-radius) in omega arith)),
+        subst (Components U) (sym v-is) (unit-size _ (let f = far .seen-far in omega arith)),
+        apart-in,
+      )
+
+      pub figures-are : (q t : ℤ) → q ≡ squared-separation u v → t ≡ threshold k
+          → _≡_ {A = Figures} (record { separation = Cell q; threshold = Cell t; distance = d; planet = Cell (planet .radius); earth = Cell (earth .radius) }) (figures k planet earth)
+      unfolding figures
+      figures-are q t pq pt =
+          let a : Cell q ≡ squared-separation (unit (sun (place earth))) (unit (geocentric (place planet) (place earth))) = cell q (subst (λ (z : ℤ). natAbs z < 2 ^ 63) (sym pq) apart-in) ∙ pq ∙ apart-is in
+          let b : Cell t ≡ threshold k = cell t (let h = threshold-size k in subst (λ (z : ℤ). natAbs z < 2 ^ 63) (sym pt) (omega arith)) ∙ pt in
+          rw (a, b, pd, cell (planet .radius) (radius-in (planet .radius) (far .planet-radius)), cell (earth .radius) (radius-in (earth .radius) (far .earth-radius)))
+
+-- ---- decide
+
+pub tested : (r : ℤ) (b : Bool) → Cell r ≡ r → b ≡ radius-usable (Cell r) → b ≡ true → radius-usable r ≡ true
+tested r b e f h = ap radius-usable (sym e) ∙ sym f ∙ h
+
+pub planet-refused : (k : ℕ) (planet earth : Coordinates) (b : Bool) → Cell (planet .radius) ≡ planet .radius → b ≡ radius-usable (Cell (planet .radius)) → b ≡ false → Unusable ≡ decide k planet earth
+unfolding decide places-usable usable
+planet-refused k planet earth b e f h = let g : radius-usable (planet .radius) ≡ false = ap radius-usable (sym e) ∙ sym f ∙ h in rw g
+
+pub earth-refused : (k : ℕ) (planet earth : Coordinates) (b : Bool) → radius-usable (planet .radius) ≡ true → Cell (earth .radius) ≡ earth .radius → b ≡ radius-usable (Cell (earth .radius)) → b ≡ false → Unusable ≡ decide k planet earth
+unfolding decide places-usable usable
+earth-refused k planet earth b p e f h = let g : radius-usable (earth .radius) ≡ false = ap radius-usable (sym e) ∙ sym f ∙ h in rw (p, g)
+
+-- Both R are usable; the places e and p, the vector g, its length d.
+module _ (k : ℕ) (planet earth : Coordinates) (hp : radius-usable (planet .radius) ≡ true) (he : radius-usable (earth .radius) ≡ true) (e p g : Vector) (d : ℕ) (pe : e ≡ place earth) (pp : p ≡ place planet) where
+  pub places-ask : Components (2 ^ 61) p × Components (2 ^ 61) e
+  places-ask = (
+    subst (Components (2 ^ 61)) (sym pp) (smaller 6400000000000 (2 ^ 61) (place planet) (omega arith) (place-in planet hp)),
+    subst (Components (2 ^ 61)) (sym pe) (smaller 6400000000000 (2 ^ 61) (place earth) (omega arith) (place-in earth he)),
+  )
+
+  module _ (pg : g ≡ geocentric p e) where
+    pub seen-is : g ≡ geocentric (place planet) (place earth)
+    seen-is = pg ∙ ap₂ geocentric pp pe
+
+    pub length-asks : Components (2 ^ 45) g
+    length-asks =
+        subst (Components (2 ^ 45)) (sym seen-is)
+        (smaller (6400000000000 + 6400000000000) (2 ^ 45) _ (omega arith) (geocentric-size 6400000000000 (place planet) (place earth) (place-in planet hp) (place-in earth he)))
+
+    module _ (pd : d ≡ length g) where
+      pub distance-is : d ≡ distance planet earth
+      unfolding distance
+      distance-is = pd ∙ ap length seen-is
+
+      pub radii-ask : (radius-usable (Cell (planet .radius)) ≡ true) × (radius-usable (Cell (earth .radius)) ≡ true)
+      radii-ask = (ap radius-usable (cell (planet .radius) (radius-in (planet .radius) hp)) ∙ hp, ap radius-usable (cell (earth .radius) (radius-in (earth .radius) he)) ∙ he)
+
+      module _ (b : Bool) (f : b ≡ usable (Cell (planet .radius)) (Cell (earth .radius)) d) where
+        pub usable-told : b ≡ places-usable planet earth
+        unfolding places-usable
+        usable-told = f ∙ rw (cell (planet .radius) (radius-in (planet .radius) hp), cell (earth .radius) (radius-in (earth .radius) he), distance-is)
+
+        pub distance-refused : b ≡ false → Unusable ≡ decide k planet earth
+        unfolding decide
+        distance-refused h = let z : places-usable planet earth ≡ false = sym usable-told ∙ h in rw z
+
+-- The answer from the figures of usable places.
+module _ (k : ℕ) (planet earth : Coordinates) (ok : places-usable planet earth ≡ true) (f : Figures) (pf : f ≡ figures k planet earth) (b : Bool)
+    (h : leZ (Cell (f .separation)) (Cell (f .threshold)) ≡ b) (ps : Cell (f .separation) ≡ f .separation) (pt : Cell (f .threshold) ≡ f .threshold) where
+  listed-is : listed k planet earth ≡ b
+  unfolding listed figures
+  listed-is = ap (λ (x : Figures). leZ (x .separation) (x .threshold)) (sym pf) ∙ sym (ap₂ leZ ps pt) ∙ h
+
+  pub listed-told : b ≡ true → Listed f ≡ decide k planet earth
+  unfolding decide
+  listed-told e = let z : listed k planet earth ≡ true = listed-is ∙ e in rw (ok, z, pf)
+
+  pub clear-told : b ≡ false → Clear f ≡ decide k planet earth
+  unfolding decide
+  clear-told e = let z : listed k planet earth ≡ false = listed-is ∙ e in rw (ok, z, pf)

@@ -1,0 +1,41 @@
+-- What the functions of a window answer, from the bits of their numbers. Assumes nothing.
+use mathlib.Core.Path.{_≡_, refl, sym, ap, ap₂, _∙_, subst}
+use mathlib.Core.Bool.{Bool, cond}
+use mathlib.Core.List.{List}
+use Prim.Native.Nat.{ℕ, _+_, _*_, _^_, _≤_, _<_}
+use native.Mathlib.Omega.{arith}
+use borrow.Author.Tests.{le-leb, lt-leb}
+use lib.IntN.{ℤ, pos, natAbs, _+ℤ_}
+use lib.ListN.{length}
+use lib.Seq.{sets}
+use mir.Syntax.{w64}
+use mir.Val.{SFits}
+use Rattle.integers.proofs.Order.{natAbs-+, fits}
+use Rattle.units.specs.Units.{t-limit}
+use Rattle.units.specs.declared.Refusal.the-variants.{NoRoom}
+use Rattle.vectors.proofs.Cells.{Cell, cell}
+use Rattle.sunlist.specs.declared.ListAnswer.the-variants.{Runs, NoList}
+use Rattle.sunlist.specs.SunList.{numbers, answered, written}
+
+-- ---- minute
+module _ (t : ℤ) (j : ℕ) (w : ℤ) (ht : natAbs t ≤ t-limit) (hj : j < 1440) (e : w ≡ pos (60000 * j)) where
+  later : Cell t +ℤ Cell w ≡ t +ℤ pos (60000 * j)
+  later = ap₂ _+ℤ_ (cell t (omega arith)) (cell w (subst (λ (z : ℤ). natAbs z < 2 ^ 63) (sym e) (omega arith)) ∙ e)
+
+  small : natAbs (t +ℤ pos (60000 * j)) < 2 ^ 63
+  small = let s = natAbs-+ t (pos (60000 * j)) in omega arith
+
+  pub minute-fits : SFits w64 (Cell t +ℤ Cell w)
+  minute-fits = subst (SFits w64) (sym later) (fits (t +ℤ pos (60000 * j)) small)
+
+  pub minute-is : (r : ℤ) → r ≡ Cell t +ℤ Cell w → Cell r ≡ t +ℤ pos (60000 * j)
+  minute-is r f = let p = f ∙ later in cell r (subst (λ (z : ℤ). natAbs z < 2 ^ 63) (sym p) small) ∙ p
+
+-- ---- write_runs
+pub no-room : (xs out : List ℕ) (n : ℕ) → n ≡ length xs → length out < n → (NoList (NoRoom n) ≡ answered (length out) (numbers xs)) × (out ≡ written out (numbers xs))
+unfolding answered written
+no-room xs out n e h = let l : length out < length xs = omega arith in rw (lt-leb (length xs) (length out) l, e) (refl, refl)
+
+pub all-written : (xs out now : List ℕ) (n : ℕ) → n ≡ length xs → n ≤ length out → now ≡ sets out 0 xs → (Runs n ≡ answered (length out) (numbers xs)) × (now ≡ written out (numbers xs))
+unfolding answered written
+all-written xs out now n e h f = let l : length xs ≤ length out = omega arith in rw (le-leb (length xs) (length out) l, e) (refl, f)

@@ -1,0 +1,55 @@
+// The window of a list: its limits, the flags of its minutes, and the numbers written from them.
+ghost use mathlib.Core.Path.{_≡_};
+ghost use Prim.Native.Nat.{_*_, _≤_, _<_};
+ghost use lib.IntN.{pos, natAbs, _+ℤ_};
+ghost use lib.ListN.{length};
+ghost use Rattle.units.specs.Units.{t-limit, in-limit};
+ghost use Rattle.runs.specs.Runs.{run-numbers};
+ghost use Rattle.sunlist.specs.SunList.{minute as minute-of, flag-of, numbers, answered, written};
+use crate::Decision;
+use crate::ListAnswer;
+use arith::signed::abs;
+use arith::signed::add;
+use arith::signed::wide;
+use units::Instant;
+use units::Refusal;
+
+// Whether an instant is within its limit.
+pub fn in_time(t: Instant) -> bool
+    ensures { λ r. ⌜ r ≡ in-limit (t .ms) ⌝ }
+{
+    abs(t.ms) <= 63115200000000
+}
+
+// Minute j of a window that begins at t0.
+pub fn minute(t0: Instant, j: u64) -> Instant
+    requires { ⌜ (natAbs (t0 .ms) ≤ t-limit) × (j < 1440) ⌝ }
+    ensures { λ r. ⌜ r ≡ minute-of t0 j ⌝ }
+{
+    let ms = add(t0.ms, wide(60000 * j));
+    Instant { ms }
+}
+
+// The flag of a decision: 1 listed, 0 clear, 2 not usable.
+pub fn flag(d: Decision) -> u8
+    ensures { λ r. ⌜ r ≡ flag-of d ⌝ }
+{
+    match d {
+        Decision::Listed(_) => 1,
+        Decision::Clear(_) => 0,
+        Decision::Unusable => 2,
+    }
+}
+
+// Writes the runs of a window's flags, where they fit.
+pub fn write_runs(window: &[u8], out: &mut [u64]) -> ListAnswer
+    requires { ⌜ length (now window) ≤ 1440 ⌝ }
+    ensures { λ r. ⌜ (r ≡ answered (length (now (out .entry))) (numbers (run-numbers (now (window .entry))))) × (now (out .exit) ≡ written (now (out .entry)) (numbers (run-numbers (now (window .entry))))) ⌝ }
+{
+    let n = runs::count(window);
+    if out.len() < n {
+        return ListAnswer::NoList(Refusal::NoRoom(n));
+    }
+    runs::write(window, out);
+    ListAnswer::Runs(n as u64)
+}
