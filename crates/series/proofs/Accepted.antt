@@ -15,9 +15,10 @@ use Rattle.packed.specs.declared.Term.{Term}
 use Rattle.packed.specs.declared.Sums.{Sums}
 use Rattle.packed.specs.Limits.{no-sums, opened, added, factor, weight, count-fits, block-limit, series-limit, a-fits, b-fits, c-fits, total-fits, coarse-fits, total-limit, coarse-base, coarse-limit, powers, block-count}
 use Rattle.packed.specs.Numbers.{Read, got, bad, next, number, unfolded}
-use Rattle.packed.specs.Series.{judged, read-a, read-b, read-c, read-term, read-terms, read-block, summed, after-block, read-blocks, read-series, ended, parse, accepted}
+use Rattle.packed.specs.Series.{judged, read-a, read-b, read-c, read-term, read-terms, read-block, summed, after-block, read-blocks, read-series, ended, parse, accepted, term-count}
 use Rattle.series.specs.Sums.{longitude-blocks, latitude-blocks, radius-blocks}
-use Rattle.series.proofs.Weights.{block-weight, coarseness, block-total, In-limits, All-in, Block-in, Blocks-in}
+use Rattle.series.specs.Tables.{block-total, In-limits, All-in, Block-in, Blocks-in}
+use Rattle.series.proofs.Weights.{block-weight, coarseness}
 
 -- ---- a reading that came to an end came through its parts
 
@@ -169,6 +170,12 @@ block-read k s at bytes xs to rest e =
 pub record Blocks-read (n : ℕ) (s : Sums) (bs : List (List Term)) : Type 0 where
   pub many : length bs ≡ n
   pub inside : Blocks-in bs
+  pub terms-in : s .terms ≤ series-limit → s .terms + term-count bs ≤ series-limit
+
+-- a block adds its terms
+after-terms : (k : ℕ) (s : Sums) (b : List Term) → after-block k s b .terms ≡ s .terms + length b
+unfolding after-block opened
+after-terms k s b = summed-terms (factor k) (opened k (length b) s) b
 
 -- the parts of a reading of blocks
 first-block : (n k : ℕ) (s : Sums) (at : ℕ) (bytes : List ℕ) (bs : List (List Term)) (to : ℕ) (rest : List ℕ) → read-blocks (suc n) k s at bytes ≡ got bs to rest
@@ -180,17 +187,21 @@ blocks-read : (n k : ℕ) (s : Sums) (at : ℕ) (bytes : List ℕ) (bs : List (L
 blocks-read zero k s at bytes bs to rest e =
     let e′ : got [] at bytes ≡ got bs to rest = unfold read-blocks in e in
     let v : [] ≡ bs = cc in
-    subst (λ cs. Blocks-read 0 s cs) v (record { many = refl; inside = unfold Blocks-in in tt })
+    subst (λ cs. Blocks-read 0 s cs) v (unfold Blocks-in term-count in record { many = refl; inside = tt; terms-in = λ l. omega arith })
 blocks-read (suc n) k s at bytes bs to rest e =
     let p = first-block n k s at bytes bs to rest e in
     let q = came (read-blocks n (k + 1) (after-block k s (p .value)) (p .to) (p .left)) _ bs to rest (p .then) in
     let h = block-read k s at bytes (p .value) (p .to) (p .left) (p .first) in
     let r = blocks-read n (k + 1) (after-block k s (p .value)) (p .to) (p .left) (q .value) (q .to) (q .left) (q .first) in
     let v : p .value ∷ q .value ≡ bs = cc in
-    subst (λ cs. Blocks-read (suc n) s cs) v (joined (h .inside) r)
+    subst (λ cs. Blocks-read (suc n) s cs) v (joined n k s (p .value) (q .value) h r)
   where
-    joined : {n : ℕ} {s s′ : Sums} {b : List Term} {bs : List (List Term)} → Block-in b → Blocks-read n s′ bs → Blocks-read (suc n) s (b ∷ bs)
-    joined h r = record { many = ap suc (r .many); inside = unfold Blocks-in in (h, r .inside) }
+    joined : (n k : ℕ) (s : Sums) (b : List Term) (bs : List (List Term)) → Block-read k s b → Blocks-read n (after-block k s b) bs → Blocks-read (suc n) s (b ∷ bs)
+    joined n k s b bs h r = unfold Blocks-in term-count in record {
+      many = ap suc (r .many);
+      inside = (h .inside, r .inside);
+      terms-in = λ (l : s .terms ≤ series-limit). let e = after-terms k s b in let m : after-block k s b .terms ≤ series-limit = (let t = h .terms-in in omega arith) in let g = r .terms-in m in omega arith;
+    }
 
 -- past power 0 the coarseness of a coordinate goes on
 factor-is : (k i : ℕ) → k % 6 ≡ i → factor k ≡ tau-limit ^ i
@@ -306,6 +317,7 @@ split (suc m) n (suc N) k s at bytes bs to rest h e =
 pub record Accepted (bs : List (List Term)) : Type 0 where
   pub many : length bs ≡ block-count
   pub inside : Blocks-in bs
+  pub terms-in : term-count bs ≤ series-limit
   pub longitude : coarse-base + coarseness 0 (longitude-blocks bs) ≤ coarse-limit
   pub latitude : coarse-base + coarseness 0 (latitude-blocks bs) ≤ coarse-limit
   pub radius : coarse-base + coarseness 0 (radius-blocks bs) ≤ coarse-limit
@@ -342,6 +354,7 @@ accepted-is bytes bs e =
     record {
       many = r .many;
       inside = r .inside;
+      terms-in = let l = r .terms-in (omega arith) in omega arith;
       longitude = coordinate-coarse 0 no-sums 0 bytes (take 6 bs) (x .mid) (x .left) (omega arith) (x .front);
       latitude = coordinate-coarse 6 (x .sums) (x .mid) (x .left) (take 6 (drop 6 bs)) (y .mid) (y .left) (omega arith) (y .front);
       radius = subst (λ l. coarse-base + coarseness 0 (take 6 l) ≤ coarse-limit) (drop-drop 6 6 bs) (coordinate-coarse 12 (y .sums) (y .mid) (y .left) (take 6 (drop 6 (drop 6 bs))) (z .mid) (z .left) (omega arith) (z .front));

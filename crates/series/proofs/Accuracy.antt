@@ -26,7 +26,8 @@ use Rattle.packed.specs.Limits.{constant, weight, coarse-share}
 use Rattle.series.specs.Sums.{block-sum, running-sum}
 use Rattle.series.specs.Exact.{tau, exact-term, exact-block, exact-sum}
 use Rattle.series.proofs.Close.{Close, close-zero, close-+, close-term, close-constant, close-step, power-lower, power-bound}
-use Rattle.series.proofs.Weights.{block-weight, coarseness, roundings, In-limits, All-in, Blocks-in}
+use Rattle.series.specs.Tables.{In-limits, All-in, Blocks-in}
+use Rattle.series.proofs.Weights.{block-weight, coarseness, roundings}
 
 abbrev u : ℤ
 u = pos U

@@ -16,7 +16,8 @@ use Rattle.packed.specs.Limits.{coarse-base, coarse-limit}
 use Rattle.series.specs.Sums.{running-sum}
 use Rattle.series.specs.Exact.{tau, exact-sum}
 use Rattle.series.proofs.Close.{Close}
-use Rattle.series.proofs.Weights.{coarseness, roundings, Blocks-in}
+use Rattle.series.specs.Tables.{Blocks-in}
+use Rattle.series.proofs.Weights.{coarseness, roundings}
 use Rattle.series.proofs.Accuracy.{sum-close}
 
 pub in-take : (n : ℕ) (bs : List (List Term)) → Blocks-in bs → Blocks-in (take n bs)

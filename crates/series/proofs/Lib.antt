@@ -7,3 +7,7 @@ pub mod Accepted
 pub mod Distance
 pub mod Answered
 pub mod Promise
+mod Summing
+pub mod Blocks
+pub mod Filled
+mod Stepping

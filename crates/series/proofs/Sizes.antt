@@ -17,7 +17,7 @@ use Rattle.packed.specs.declared.Term.{Term}
 use Rattle.packed.specs.Limits.{total-limit}
 use Rattle.series.specs.Sums.{block-sum, running-sum}
 use Rattle.series.proofs.Accuracy.{running-step, running-one}
-use Rattle.series.proofs.Weights.{block-total, Block-in, Blocks-in}
+use Rattle.series.specs.Tables.{block-total, Block-in, Blocks-in}
 
 pub value-size : (a : ℤ) (b : ℕ) (c t : ℤ) → natAbs (term-value a b c t) ≤ natAbs a
 unfolding term-value term-cosine

@@ -1,4 +1,6 @@
 // L, B and R of a packed series at an instant: document 01, "Working cosine and sums".
+pub mod inner;
+
 use units::Coordinates;
 use units::Refusal;
 

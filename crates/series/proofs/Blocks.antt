@@ -1,0 +1,140 @@
+-- The blocks of a term table one by one, and the running sum over the six of a coordinate. Assumes nothing.
+use mathlib.Core.Path.{_≡_, refl, sym, ap, ap₂, _∙_, subst}
+use mathlib.Core.List.{List, [], _∷_}
+use Prim.Native.Nat.{ℕ, zero, suc, _+_, _-_, _*_, _^_, _≤_, _<_}
+use native.Mathlib.Omega.{arith}
+use native.Mathlib.Nat.{pow-le-pow-right}
+use lib.IntN.{ℤ, pos, natAbs, _+ℤ_, _*ℤ_, +ℤ-idr, zero-*ℤ}
+use lib.ListN.{length, getD, take, drop, length-take, length-drop}
+use lib.Seq.{drop-cons, getD-take, getD-drop}
+use Rattle.integers.specs.Division.{floor, rounded}
+use Rattle.units.specs.Units.{millennium, t-limit}
+use Rattle.packed.specs.declared.Term.{Term}
+use Rattle.packed.specs.Limits.{total-limit, series-limit, powers, block-count}
+use Rattle.packed.specs.Tables.{terms-at, blocks-at, table-blocks}
+use Rattle.series.specs.Sums.{block-sum, running-sum}
+use Rattle.series.specs.Tables.{block-total, Block-in, Blocks-in, start-of, Table}
+use Rattle.series.proofs.Accuracy.{running-step, running-one}
+use Rattle.series.proofs.Distance.{in-take, in-drop}
+use Rattle.series.proofs.Sizes.{block-size, carried-size, running-size}
+
+-- where block j starts, when the first starts at place k
+unfoldable pub start-from : ℕ → List ℕ → ℕ → ℕ
+start-from k ends zero = k
+start-from k ends (suc j) = getD ends j 0
+
+pub start-is : (ends : List ℕ) (j : ℕ) → start-from 0 ends j ≡ start-of ends j
+unfolding start-of start-from
+start-is ends zero = refl
+start-is ends (suc j) = refl
+
+-- past block 0: where the block before ends
+pub start-later : (ends : List ℕ) (j : ℕ) → (j ≡ 0 → ⊥) → getD ends (j - 1) 0 ≡ start-of ends j
+unfolding start-of
+start-later ends zero h = absurd (h refl)
+start-later ends (suc j) h = ap (λ (k : ℕ). getD ends k 0) (before j)
+  where
+    before : (j : ℕ) → suc j - 1 ≡ j
+    before j = omega arith
+
+module _ (la : List ℤ) (lb : List ℕ) (lc : List ℤ) where
+  block-at : (k : ℕ) (ends : List ℕ) (j : ℕ) → j < length ends → getD (blocks-at la lb lc k ends) j [] ≡ terms-at la lb lc (start-from k ends j) (getD ends j 0 - start-from k ends j)
+  unfolding blocks-at start-from
+  block-at k [] j h = absurd (omega arith)
+  block-at k (e ∷ ends) zero h = refl
+  block-at k (e ∷ ends) (suc zero) h = block-at e ends 0 (omega arith)
+  block-at k (e ∷ ends) (suc (suc j)) h = block-at e ends (suc j) (omega arith)
+
+  many-blocks : (k : ℕ) (ends : List ℕ) → length (blocks-at la lb lc k ends) ≡ length ends
+  unfolding blocks-at
+  many-blocks k [] = refl
+  many-blocks k (e ∷ ends) = ap suc (many-blocks e ends)
+
+  -- block j of the table is its terms from where it starts to where it ends
+  pub table-block : (ends : List ℕ) (j : ℕ) → j < length ends → terms-at la lb lc (start-of ends j) (getD ends j 0 - start-of ends j) ≡ getD (table-blocks la lb lc ends) j []
+  unfolding table-blocks
+  table-block ends j h = sym (block-at 0 ends j h ∙ ap (λ (s : ℕ). terms-at la lb lc s (getD ends j 0 - s)) (start-is ends j))
+
+  pub table-length : (ends : List ℕ) → length (table-blocks la lb lc ends) ≡ length ends
+  unfolding table-blocks
+  table-length ends = many-blocks 0 ends
+
+pub block-in : (bs : List (List Term)) (j : ℕ) → j < length bs → Blocks-in bs → Block-in (getD bs j [])
+unfolding Blocks-in
+block-in [] j h b = absurd (omega arith)
+block-in (x ∷ bs) zero h b = b .0
+block-in (x ∷ bs) (suc j) h b = block-in bs j (omega arith) (b .1)
+
+-- ---- the running sum
+
+-- a step, at the highest power too: there 0 is carried
+carried-none : (t : ℤ) → rounded (pos 0 *ℤ t) millennium ≡ pos 0
+unfolding rounded floor
+carried-none t = ap (λ (z : ℤ). rounded z millennium) (zero-*ℤ t)
+
+running-none : (t : ℤ) → running-sum t [] ≡ pos 0
+unfolding running-sum
+running-none t = refl
+
+pub running-cons : (t : ℤ) (b : List Term) (bs : List (List Term)) → running-sum t (b ∷ bs) ≡ block-sum t b +ℤ rounded (running-sum t bs *ℤ t) millennium
+running-cons t b [] = running-one t b ∙ sym (ap (λ (z : ℤ). block-sum t b +ℤ z) (ap (λ (v : ℤ). rounded (v *ℤ t) millennium) (running-none t) ∙ carried-none t) ∙ +ℤ-idr (block-sum t b))
+running-cons t b (c ∷ bs) = running-step t b c bs
+
+abbrev pub six : List (List Term) → ℕ → List (List Term)
+six bs first = take 6 (drop first bs)
+
+-- v is the running sum from power k on
+pub record Running (t : ℤ) (bs : List (List Term)) (first : ℕ) (v : ℤ) (k : ℕ) : Type 0 where
+  pub few : k ≤ 6
+  pub is : v ≡ running-sum t (drop k (six bs first))
+
+module _ (t : ℤ) (bs : List (List Term)) (first : ℕ) (enough : first + 6 ≤ length bs) where
+  six-long : length (six bs first) ≡ 6
+  six-long = simp (length-take, length-drop) (omega arith)
+
+  six-at : (k : ℕ) → k < 6 → getD (six bs first) k [] ≡ getD bs (first + k) []
+  six-at k h = rw (getD-take, getD-drop)
+
+  pub running-start : Running t bs first (pos 0) 6
+  running-start = record { few = omega arith; is = sym (ap (running-sum t) (all-dropped (six bs first) six-long) ∙ running-none t) }
+    where
+      all-dropped : (l : List (List Term)) → length l ≡ 6 → drop 6 l ≡ []
+      all-dropped l e = ap (λ (n : ℕ). drop n l) (sym e) ∙ drop-all l
+        where
+          drop-all : (l : List (List Term)) → drop (length l) l ≡ []
+          drop-all [] = refl
+          drop-all (x ∷ l) = drop-all l
+
+  pub running-more : (v w : ℤ) (k : ℕ) → Running t bs first v (suc k) → w ≡ block-sum t (getD bs (first + k) []) +ℤ rounded (v *ℤ t) millennium → Running t bs first w k
+  running-more v w k r e = record {
+    few = let h = r .few in omega arith;
+    is =
+        e ∙ ap₂ (λ (x : List Term) (z : ℤ). block-sum t x +ℤ rounded (z *ℤ t) millennium) (sym (six-at k (let h = r .few in omega arith))) (r .is)
+        ∙ sym (ap (running-sum t) (drop-cons (six bs first) k [] (let h = r .few in let l = six-long in omega arith)) ∙ running-cons t (getD (six bs first) k []) (drop (suc k) (six bs first)));
+  }
+
+  pub running-whole : (v : ℤ) (k : ℕ) → Running t bs first v k → k ≤ 0 → v ≡ running-sum t (six bs first)
+  running-whole v k r h = r .is ∙ ap (λ (n : ℕ). running-sum t (drop n (six bs first))) (zero-is k h)
+    where
+      zero-is : (k : ℕ) → k ≤ 0 → k ≡ 0
+      zero-is k h = omega arith
+
+  -- before power 0 it is at most 31 totals
+  pub running-small : natAbs t ≤ t-limit → Blocks-in bs → (v : ℤ) (k : ℕ) → Running t bs first v (suc k) → natAbs v ≤ 31 * total-limit
+  running-small ht b v k r =
+      let l = running-size t ht (drop (suc k) (six bs first)) (in-drop (suc k) (six bs first) (in-take 6 (drop first bs) (in-drop first bs b))) in
+      let n : length (drop (suc k) (six bs first)) ≤ 5 = simp length-drop (let s = six-long in omega arith) in
+      subst (λ (z : ℤ). natAbs z ≤ 31 * total-limit) (sym (r .is)) (few-blocks (natAbs (running-sum t (drop (suc k) (six bs first)))) (length (drop (suc k) (six bs first))) n l)
+    where
+      few-blocks : (m n : ℕ) → n ≤ 5 → m + total-limit ≤ total-limit * 2 ^ n → m ≤ 31 * total-limit
+      few-blocks m n h l = let p : 2 ^ n ≤ 2 ^ 5 = pow-le-pow-right (omega arith) h in omega arith
+
+  -- the same with the number of the power that the loop holds
+  powered : (k : ℕ) → 0 < k → k ≡ suc (k - 1)
+  powered k h = omega arith
+
+  pub running-next : (v w : ℤ) (k : ℕ) → 0 < k → Running t bs first v k → w ≡ block-sum t (getD bs (first + (k - 1)) []) +ℤ rounded (v *ℤ t) millennium → Running t bs first w (k - 1)
+  running-next v w k h r e = running-more v w (k - 1) (subst (λ (n : ℕ). Running t bs first v n) (powered k h) r) e
+
+  pub running-within : natAbs t ≤ t-limit → Blocks-in bs → (v : ℤ) (k : ℕ) → 0 < k → Running t bs first v k → natAbs v ≤ 31 * total-limit
+  running-within ht b v k h r = running-small ht b v (k - 1) (subst (λ (n : ℕ). Running t bs first v n) (powered k h) r)
