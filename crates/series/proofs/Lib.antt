@@ -7,7 +7,9 @@ pub mod Accepted
 pub mod Distance
 pub mod Answered
 pub mod Promise
+pub mod Figures
 mod Summing
 pub mod Blocks
 pub mod Filled
+pub mod Answering
 mod Stepping

@@ -112,5 +112,6 @@ module _ (t : ℤ) (la : List ℤ) (lb : List ℕ) (lc : List ℤ) (from to : �
         where
           zero-left : (to i : ℕ) → to ≤ i → to - i ≡ 0
           zero-left to i h = omega arith
+
       no-more : (x : ℤ) → x +ℤ block-sum t (terms-at la lb lc i (to - i)) ≡ x
       no-more x = ap (λ (xs : List Term). x +ℤ block-sum t xs) none ∙ unfold block-sum in +ℤ-idr x

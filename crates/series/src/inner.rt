@@ -5,20 +5,36 @@ ghost use mathlib.Core.List.{[]};
 ghost use lib.IntN.{natAbs, _+ℤ_, _*ℤ_};
 ghost use lib.ListN.{length, getD, take, drop};
 ghost use Rattle.integers.specs.Division.{rounded};
-ghost use Rattle.units.specs.Units.{millennium, t-limit};
+ghost use Rattle.units.specs.Units.{millennium, t-limit, in-limit as within-limit};
 ghost use Rattle.cosine.specs.Prepared.{Ready};
 ghost use Rattle.packed.specs.Limits.{series-limit, total-limit, powers, block-count};
 ghost use Rattle.packed.specs.Tables.{Sized, terms-at, table-blocks};
 ghost use Rattle.series.specs.Sums.{block-sum, running-sum, coordinates as coordinates-of};
 ghost use Rattle.series.specs.Tables.{Block-in, start-of, Table};
 use arith::muldiv::mul_div_round;
+use arith::signed::abs;
 use arith::signed::add;
 use cosine::term::Prepared;
 use cosine::term::term_value;
 use units::Coordinates;
+use units::Instant;
+
+// Whether an instant is within its limit.
+pub fn in_limit(t: Instant) -> bool
+    ensures { λ r. ⌜ r ≡ within-limit (t .ms) ⌝ }
+{
+    abs(t.ms) <= 63115200000000
+}
 
 // The sum of the terms from place from up to place to.
-pub fn sum_of(p: Prepared, a: &[i64; 8192], b: &[u64; 8192], c: &[i64; 8192], from: usize, to: usize) -> i64
+pub fn sum_of(
+    p: Prepared,
+    a: &[i64; 8192],
+    b: &[u64; 8192],
+    c: &[i64; 8192],
+    from: usize,
+    to: usize,
+) -> i64
     requires { ⌜ Ready p × Sized (now a) (now b) (now c) × (from ≤ to) × (to ≤ series-limit) × Block-in (terms-at (now a) (now b) (now c) from (to - from)) ⌝ }
     ensures { λ r. ⌜ r ≡ block-sum (p .t) (terms-at (now (a .entry)) (now (b .entry)) (now (c .entry)) from (to - from)) ⌝ }
 {
@@ -71,7 +87,14 @@ fn with_block(
 }
 
 // V of the coordinate whose six blocks begin with block first.
-pub fn coordinate(p: Prepared, a: &[i64; 8192], b: &[u64; 8192], c: &[i64; 8192], ends: &[u64; 18], first: usize) -> i64
+pub fn coordinate(
+    p: Prepared,
+    a: &[i64; 8192],
+    b: &[u64; 8192],
+    c: &[i64; 8192],
+    ends: &[u64; 18],
+    first: usize,
+) -> i64
     requires { ⌜ Ready p × (natAbs (p .t) ≤ t-limit) × Table (now a) (now b) (now c) (now ends) × (first ≤ 12) ⌝ }
     ensures { λ r. ⌜ r ≡ running-sum (p .t) (take powers (drop first (table-blocks (now (a .entry)) (now (b .entry)) (now (c .entry)) (now (ends .entry))))) ⌝ }
 {
@@ -85,12 +108,22 @@ pub fn coordinate(p: Prepared, a: &[i64; 8192], b: &[u64; 8192], c: &[i64; 8192]
 }
 
 // L, B and R.
-pub fn coordinates(p: Prepared, a: &[i64; 8192], b: &[u64; 8192], c: &[i64; 8192], ends: &[u64; 18]) -> Coordinates
+pub fn coordinates(
+    p: Prepared,
+    a: &[i64; 8192],
+    b: &[u64; 8192],
+    c: &[i64; 8192],
+    ends: &[u64; 18],
+) -> Coordinates
     requires { ⌜ Ready p × (natAbs (p .t) ≤ t-limit) × Table (now a) (now b) (now c) (now ends) ⌝ }
     ensures { λ r. ⌜ r ≡ coordinates-of (p .t) (table-blocks (now (a .entry)) (now (b .entry)) (now (c .entry)) (now (ends .entry))) ⌝ }
 {
     let longitude = coordinate(p, a, b, c, ends, 0);
     let latitude = coordinate(p, a, b, c, ends, 6);
     let radius = coordinate(p, a, b, c, ends, 12);
-    Coordinates { longitude, latitude, radius }
+    Coordinates {
+        longitude,
+        latitude,
+        radius,
+    }
 }
