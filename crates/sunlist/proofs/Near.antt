@@ -18,7 +18,6 @@ use Rattle.packed.specs.Series.{parse, accepted}
 use Rattle.series.specs.declared.CoordinatesAnswer.{CoordinatesAnswer}
 use Rattle.series.specs.declared.CoordinatesAnswer.the-variants.{At, NoCoordinates}
 use Rattle.series.specs.Sums.{running-sum, coordinates, longitude-blocks, latitude-blocks, radius-blocks, of-parsed, coordinates-answer}
-use Rattle.series.proofs.Weights.{Blocks-in}
 use Rattle.series.proofs.Accepted.{Accepted, accepted-is}
 use Rattle.series.proofs.Distance.{in-take, in-drop}
 use Rattle.series.proofs.Promise.{P2, Near-exact}
@@ -41,13 +40,13 @@ near-exact bytes blocks t e h =
     at-blocks : coordinates-answer bytes t ≡ At (coordinates (t .ms) blocks)
     at-blocks = ap (λ (b : Bool). cond b (of-parsed t (parse bytes)) (NoCoordinates (PastLimit t))) (le-leb (natAbs (t .ms)) t-limit h) ∙ ap (of-parsed t) e
 
--- Six blocks of a series keep |V| below the limit.
-six : (t : ℤ) → natAbs t ≤ t-limit → (bs : List (List Term)) → Blocks-in bs → 6 ≤ length bs → natAbs (running-sum t (take powers bs)) ≤ angle-limit
-six t ht bs h l =
-    let r = running-size t ht (take 6 bs) (in-take 6 bs h) in
-    let n : length (take 6 bs) ≡ 6 = length-take-le 6 bs l in
-    let s = subst (λ (k : ℕ). natAbs (running-sum t (take 6 bs)) + total-limit ≤ total-limit * tau-limit ^ k) n r in
-    limit (natAbs (running-sum t (take 6 bs))) s
+-- Six blocks of an accepted series keep |V| below the limit.
+six : (t : ℤ) → natAbs t ≤ t-limit → (bs : List (List Term)) → Accepted bs → (m : ℕ) → m ≤ 12 → natAbs (running-sum t (take powers (drop m bs))) ≤ angle-limit
+six t ht bs a m l =
+    let r = running-size t ht (take 6 (drop m bs)) (in-take 6 (drop m bs) (in-drop m bs (a .inside))) in
+    let n : length (take 6 (drop m bs)) ≡ 6 = length-take-le 6 (drop m bs) (let k = a .many in omega (arith, length-drop m bs)) in
+    let s = subst (λ (k : ℕ). natAbs (running-sum t (take 6 (drop m bs))) + total-limit ≤ total-limit * tau-limit ^ k) n r in
+    limit (natAbs (running-sum t (take 6 (drop m bs)))) s
   where
     limit : (v : ℕ) → v + total-limit ≤ total-limit * tau-limit ^ 6 → v ≤ angle-limit
     limit v h = omega arith
@@ -60,10 +59,9 @@ unfolding coordinates exact-coordinates longitude-blocks latitude-blocks
 near bytes blocks t e h =
     let n = near-exact bytes blocks t e h in
     let a = accepted-is bytes blocks e in
-    let m = a .many in
     record {
-      longitude-limit = six (t .ms) h blocks (a .inside) (omega arith);
-      latitude-limit = six (t .ms) h (drop 6 blocks) (in-drop 6 blocks (a .inside)) (omega (arith, length-drop 6 blocks));
+      longitude-limit = six (t .ms) h blocks a 0 (omega arith);
+      latitude-limit = six (t .ms) h blocks a 6 (omega arith);
       longitude = apart-wider _ _ _ _ wider (n .longitude);
       latitude = apart-wider _ _ _ _ wider (n .latitude);
       radius = apart-wider _ _ _ _ wider (n .radius);
