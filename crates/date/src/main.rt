@@ -1,0 +1,53 @@
+// Reads lines of standard input, each a date as three numbers, and prints the day number, `refused 1`, or what is wrong with the line.
+use dates::answer_last;
+use dates::answer_piece;
+use dates::reader::Line;
+use dates::reader::start;
+
+// The line that is being read, and whether there may be more input.
+struct State {
+    line: Line,
+    more: bool,
+}
+
+// Reads once and prints the replies to the lines that ended.
+fn step(line: Line) -> State {
+    let mut piece = [0u8; 512];
+    let mut out = [0u8; 20480];
+    let got = libc::read(0, &mut piece);
+    if got <= 0 {
+        return State { line, more: false };
+    }
+    let n = io::count(got, &piece);
+    let turn = answer_piece(line, &piece[..n], &mut out);
+    let at = turn.at;
+    let next = turn.line;
+    let printed = io::write_all(1, &out[..at]);
+    State {
+        line: next,
+        more: printed,
+    }
+}
+
+// A proved loop has to end, and nothing says that the input does: the turns are counted down from a number that no input uses up.
+fn run() -> Line {
+    let mut state = State {
+        line: start(),
+        more: true,
+    };
+    let mut turns = u64::MAX;
+    while turns > 0 && state.more {
+        let line = state.line;
+        state = step(line);
+        turns -= 1;
+    }
+    let last = state.line;
+    last
+}
+
+fn main() {
+    let last = run();
+    let mut out = [0u8; 40];
+    let n = answer_last(last, &mut out);
+    io::write_all(1, &out[..n]);
+}

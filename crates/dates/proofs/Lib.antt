@@ -1,0 +1,3 @@
+-- Laws of the lines and of the replies.
+pub mod Texts
+pub mod Pieces
