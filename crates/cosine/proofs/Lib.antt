@@ -17,3 +17,4 @@ pub mod Value
 pub mod Natural
 pub mod Residues
 pub mod Places
+pub mod Plain
