@@ -1,4 +1,4 @@
--- L2 and L9: the working cosine of any angle against the reference cosine of any fraction. Assumes nothing.
+-- The working parts of any angle against the nested series of any fraction near it. Assumes nothing.
 use mathlib.Core.Path.{_≡_, refl, sym, ap, ap₂, _∙_, subst}
 use mathlib.Core.List.{List, [], _∷_}
 use Prim.Native.Nat.{ℕ, zero, suc, _*_, _+_, _%_, _≤_, _<_}
@@ -29,7 +29,7 @@ pub record Turn (Q step G : ℕ) : Type 0 where
   pub gap-most : pos Q *ℤ pos Y ≼ pos 2 *ℤ pos A *ℤ (pos step *ℤ pos U) +ℤ pos G
   pub gap-least : pos 2 *ℤ pos A *ℤ (pos step *ℤ pos U) ≼ pos Q *ℤ pos Y +ℤ pos G
 
--- ---- L2: a whole turn does not count
+-- ---- a whole number of quarters comes out of the reduction
 pub q-shift : (Q : ℕ) → 0 < Q → (k m : ℤ) → q-of Q (pos Q *ℤ k +ℤ m) ≡ k +ℤ q-of Q m
 unfolding q-of
 q-shift Q h k m = rounded-add k m Q h
@@ -88,7 +88,7 @@ w-near R step h =
       lo = cert! ρ 0 (1000000000000000000 · (gap< (rounded-high R step h) ⊞ nonneg 1)) (search polys depth 60 fits 100000) (search polys depth 60 fits 100000) (search polys depth 60 fits 100000) tt;
     }
 
--- ---- L9
+-- ---- the errors of all steps together
 -- with g = Y·s·N and f/g a bound of the angles' difference, over 1000·U·g·B: 1.003/U + 0.61/U + 1.22·(f/g + G/(Y·s)) + 1/B
 abbrev pub whole : ℤ → ℤ → ℤ
 whole s N = pos 1000 *ℤ pos U *ℤ (pos Y *ℤ s *ℤ N) *ℤ pos B

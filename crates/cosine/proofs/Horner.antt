@@ -1,4 +1,4 @@
--- The nested series h(ds, Z/D) as a fraction: h([]) = 1, h(d ∷ ds) = 1 − (Z/D)·h(ds)/d. Its range (L3) and its Lipschitz bound (L5). Assumes nothing.
+-- The nested series h(ds, Z/D) as a fraction: h([]) = 1, h(d ∷ ds) = 1 − (Z/D)·h(ds)/d. Its range and its Lipschitz bound. Assumes nothing.
 use mathlib.Core.Path.{_≡_, refl, sym, subst₂, subst₃}
 use mathlib.Core.List.{List, [], _∷_}
 use Prim.Native.Nat.{ℕ, zero, suc, _*_, _+_, _/_, _%_, _≤_, _<_}
@@ -29,7 +29,7 @@ Good (d ∷ ds) = (0 < d) × Good ds
 pub ≼-nat : (m n : ℕ) → m ≤ n → pos m ≼ pos n
 ≼-nat m n h = record { le = le→leb m n h }
 
--- ---- L3
+-- ---- the range
 
 pub record Range (D Z : ℤ) (ds : List ℕ) : Type 0 where
   pub above : pos 0 ≺ low D ds
@@ -55,7 +55,7 @@ range D Z (d ∷ ds) g hD h k =
     let hd : pos 1 ≼ pos d = ≼-nat 1 d (g .0) in
     record { above = above-step (pos d) D (low D ds) hd hD (r .above); least = least-step (pos d) D Z (low D ds) (up D Z ds) hd (≺-≼ hD) (≺-≼ (r .above)) k (r .least) (r .most); most = most-step (pos d *ℤ D *ℤ low D ds) Z (up D Z ds) h (r .least) }
 
--- ---- L5. In millionths: lam [] = 0, lam (d ∷ ds) is above (1 + 0.617·lam ds) / d
+-- ---- the Lipschitz bound. In millionths: lam [] = 0, lam (d ∷ ds) is above (1 + 0.617·lam ds) / d
 unfoldable pub lam : List ℕ → ℕ
 lam [] = 0
 lam (d ∷ ds) = suc ((1000000000 + 617 * lam ds) / (1000 * d))

@@ -1,4 +1,4 @@
--- Q1: the working cosine and sine of a longitude L in parts, against the reference's of an angle within 2·10^5 parts of it: at most 2460/U. Assumes nothing.
+-- The working cosine and sine of a longitude L in parts, against the reference's of an angle within 2·10^5 parts of it: at most 2460/U. Assumes nothing.
 use mathlib.Core.Path.{_≡_, refl}
 use mathlib.Core.List.{List, [], _∷_}
 use Prim.Native.Nat.{ℕ, _*_, _+_, _^_, _≤_, _<_}
@@ -45,7 +45,7 @@ angles {L} {n} {N} h =
     }
 
 errors : (N : ℤ) → pos 0 ≼ N → all-errors (pos 10000 *ℤ pos U) N (pos G) (pos 20000000 *ℤ pos Y *ℤ N +ℤ pos 4010705 *ℤ pos G *ℤ N) ≼ pos 1000 *ℤ pos 2460 *ℤ (pos Y *ℤ (pos 10000 *ℤ pos U) *ℤ N) *ℤ pos B
-errors N h = cert! (N ∷ []) 0 (14757532386334715424795760000000000000000000000000000000000000000000 · h) (search polys depth 60 fits 100000) (search polys depth 60 fits 100000) (search polys depth 60 fits 100000) tt
+errors N h = cert! (N ∷ []) 0 (14757532386414635424795760000000000000000000000000000000000000000000000 · h) (search polys depth 60 fits 100000) (search polys depth 60 fits 100000) (search polys depth 60 fits 100000) tt
 
 pub Q1-cosine : (L n : ℤ) (N : ℕ) → Near-longitude L n N → Within 2460 (cosine (pos angle-per-part *ℤ L)) (reference-cosine n N)
 unfolding cosine

@@ -1,4 +1,4 @@
--- C(x) and S(x) for a fraction x = n/N, and by the quarter. Their Lipschitz bound, K = 61/50 (L5). Assumes nothing.
+-- C(x) and S(x) for a fraction x = n/N, and by the quarter. Their Lipschitz bound, 61/50. Assumes nothing.
 use mathlib.Core.Path.{_≡_, refl}
 use mathlib.Core.List.{List, [], _∷_, _++_}
 use Prim.Native.Nat.{ℕ, zero, suc, _*_, _+_, _≤_, _<_}
@@ -147,7 +147,7 @@ near-C n N m K f g x y hf h =
     near-coarse (pos 3927 *ℤ pos (lam all-evens)) (pos 61) (pos 2500000000) (pos 50) g f (record { lt = tt }) (record { le = tt }) hf
     (range′ all-evens good-evens (angle-small x) .above) (range′ all-evens good-evens (angle-small y) .above) lam-evens (near-h all-evens good-evens n N m K f g x y hf h)
 
--- L5: the Lipschitz bound, at any quarter
+-- the Lipschitz bound, at any quarter
 pub near-f : (k : ℕ) (n N m K f g : ℤ) → Angle n N → Angle m K → pos 0 ≼ f → Near g f n N m K → Near (pos 50 *ℤ g) (pos 61 *ℤ f) (f-up k n N) (f-low k N) (f-up k m K) (f-low k K)
 unfolding f-up f-low cosine-by low-by-quarter
 near-f zero n N m K f g x y hf h = near-C n N m K f g x y hf h

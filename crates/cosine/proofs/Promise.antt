@@ -7,7 +7,8 @@ use lib.IntN.{ℤ, pos, natAbs, _+ℤ_, _-ℤ_, _*ℤ_, negℤ, +ℤ-idr, zero-*
 use Rattle.integers.specs.Order.{_≼_, _≺_}
 use Rattle.integers.proofs.Pairs.{nonneg}
 use Rattle.integers.proofs.Auto.{ring!, cert!, cert<!, polys, gap, gap<, gap≡, _⊞_, _⊛_, _·_, sqr}
-use Rattle.integers.proofs.Order.{≺-≼, natAbs-low, natAbs-high}
+use Rattle.integers.proofs.Order.{natAbs-low, natAbs-high}
+use Rattle.integers.proofs.Bounds.{Bd, bd-*}
 use Rattle.integers.specs.Division.{rounded, modulo, floor}
 use Rattle.integers.proofs.Division.{rounded-low, rounded-high}
 use Rattle.integers.specs.Fractions.{Fraction, negᶠ}
@@ -20,22 +21,20 @@ use Rattle.cosine.proofs.Any.{Close-angles}
 use Rattle.cosine.proofs.Turns.{cosine-mod}
 use Rattle.cosine.proofs.Within.{within-any, the-turn, G}
 
-pub product-most : (c t a b : ℤ) → c ≼ a → negℤ a ≼ c → t ≼ b → negℤ b ≼ t → c *ℤ t ≼ a *ℤ b
-product-most c t a b h k l m = cert! (c ∷ t ∷ a ∷ b ∷ []) 1 (gap h ⊛ gap m ⊞ gap k ⊛ gap l) (search polys depth 60 fits 100000) (search polys depth 60 fits 100000) (search polys depth 60 fits 100000) tt
+-- |ct| is at most its limits' product, so that |100ct/T|, rounded, is at most 2·10^19
+product : {b : ℕ} {c t : ℤ} → Allowed b c t → Bd (pos c-limit *ℤ pos t-limit) (c *ℤ t)
+product {b} {c} {t} h =
+    bd-* (pos c-limit) (pos t-limit) c t
+    (record { low = natAbs-low c c-limit (omega (arith, h .c-in)); high = natAbs-high c c-limit (omega (arith, h .c-in)) })
+    (record { low = natAbs-low t t-limit (h .t-in); high = natAbs-high t t-limit (h .t-in) })
 
-pub product-least : (c t a b : ℤ) → c ≼ a → negℤ a ≼ c → t ≼ b → negℤ b ≼ t → negℤ (a *ℤ b) ≼ c *ℤ t
-product-least c t a b h k l m = cert! (c ∷ t ∷ a ∷ b ∷ []) 1 (gap h ⊛ gap l ⊞ gap k ⊛ gap m) (search polys depth 60 fits 100000) (search polys depth 60 fits 100000) (search polys depth 60 fits 100000) tt
-
--- |100ct/T|, rounded, is at most 2·10^19
 drift-most : {b : ℕ} {c t : ℤ} → Allowed b c t → rounded (pos angle-per-part *ℤ c *ℤ t) T ≼ pos 20000000000000000000
 drift-most {b} {c} {t} h =
-    let p = product-most c t (pos (c-limit)) (pos (t-limit)) (natAbs-high c (c-limit) (omega (arith, h .c-in))) (natAbs-low c (c-limit) (omega (arith, h .c-in))) (natAbs-high t (t-limit) (h .t-in)) (natAbs-low t (t-limit) (h .t-in)) in
-    rounded-most (pos angle-per-part *ℤ c *ℤ t) (pos 20000000000000000000) T (omega arith) (cert! (c ∷ t ∷ []) 0 (100 · gap p) (search polys depth 60 fits 100000) (search polys depth 60 fits 100000) (search polys depth 60 fits 100000) tt)
+    rounded-most (pos angle-per-part *ℤ c *ℤ t) (pos 20000000000000000000) T (omega arith) (cert! (c ∷ t ∷ []) 0 (100 · gap (product h .high)) (search polys depth 60 fits 100000) (search polys depth 60 fits 100000) (search polys depth 60 fits 100000) tt)
 
 drift-least : {b : ℕ} {c t : ℤ} → Allowed b c t → negℤ (pos 20000000000000000000) ≼ rounded (pos angle-per-part *ℤ c *ℤ t) T
 drift-least {b} {c} {t} h =
-    let p = product-least c t (pos (c-limit)) (pos (t-limit)) (natAbs-high c (c-limit) (omega (arith, h .c-in))) (natAbs-low c (c-limit) (omega (arith, h .c-in))) (natAbs-high t (t-limit) (h .t-in)) (natAbs-low t (t-limit) (h .t-in)) in
-    rounded-least (pos angle-per-part *ℤ c *ℤ t) (negℤ (pos 20000000000000000000)) T (omega arith) (cert! (c ∷ t ∷ []) 0 (100 · gap p) (search polys depth 60 fits 100000) (search polys depth 60 fits 100000) (search polys depth 60 fits 100000) tt)
+    rounded-least (pos angle-per-part *ℤ c *ℤ t) (negℤ (pos 20000000000000000000)) T (omega arith) (cert! (c ∷ t ∷ []) 0 (100 · gap (product h .low)) (search polys depth 60 fits 100000) (search polys depth 60 fits 100000) (search polys depth 60 fits 100000) tt)
 
 -- the angle before it is reduced
 abbrev angle : ℕ → ℤ → ℤ → ℤ
@@ -46,7 +45,7 @@ unfolding q-of
 angles {b} {c} {t} h =
     let d = rounded (pos angle-per-part *ℤ c *ℤ t) T in
     let ρ = pos b ∷ c ∷ t ∷ d ∷ [] in
-    let few : pos b ≼ pos (b-limit) = natAbs-high (pos b) (b-limit) (omega (arith, h .b-in)) in
+    let few : pos b ≼ pos b-limit = natAbs-high (pos b) b-limit (omega (arith, h .b-in)) in
     record {
       N-pos = omega arith;
       m-pos = record { le = tt };

@@ -1,4 +1,4 @@
--- L3: the reference cosine and sine lie from −1 to 1, the working ones from −U to U, and the working even part is at least 0.69·U. Assumes nothing.
+-- The reference cosine and sine lie from −1 to 1, the working ones from −U to U, and the working even part is at least 0.69·U. Assumes nothing.
 use mathlib.Core.Path.{_≡_, refl, sym, ap, ap₂, _∙_, subst, subst₂}
 use mathlib.Core.List.{List, [], _∷_}
 use Prim.Native.Nat.{ℕ, zero, suc, _*_, _+_, _%_, _^_, _≤_, _<_}

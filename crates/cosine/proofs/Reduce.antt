@@ -1,4 +1,4 @@
--- L6 and L7: two reductions of nearly the same angle. Assumes nothing.
+-- Two reductions of nearly the same angle, to the same quarter or to two that lie side by side. Assumes nothing.
 use mathlib.Core.Path.{_≡_, refl, sym, ap, _∙_, subst}
 use mathlib.Core.Logic.{_⊎_, inl, inr}
 use mathlib.Core.List.{List, [], _∷_, _++_}
@@ -23,8 +23,8 @@ use Rattle.cosine.proofs.Part.{Angle, C-up, C-low, S-up, S-low, f-up, f
 abbrev pub Y : ℕ
 Y = 8000000000000000000000000000000
 
--- ---- L6: at the boundary the two quarters differ by at most 10^-20
-pub boundary : (k : ℕ) → k < 4 → Near (pos (10 ^ 20)) (pos 1) (f-up k (pos A) (pos Y)) (f-low k (pos Y)) (f-up ((k + 1) % 4) (negℤ (pos A)) (pos Y)) (f-low ((k + 1) % 4) (pos Y))
+-- ---- at the boundary the two quarters differ by at most 10^-23
+pub boundary : (k : ℕ) → k < 4 → Near (pos (10 ^ 23)) (pos 1) (f-up k (pos A) (pos Y)) (f-low k (pos Y)) (f-up ((k + 1) % 4) (negℤ (pos A)) (pos Y)) (f-low ((k + 1) % 4) (pos Y))
 unfolding f-up f-low cosine-by low-by-quarter C-up C-low S-up S-low low up
 boundary zero h = record { hi = record { le = tt }; lo = record { le = tt } }
 boundary (suc zero) h = record { hi = record { le = tt }; lo = record { le = tt } }
@@ -38,7 +38,7 @@ boundary-angle = record { positive = record { lt = tt }; most = record { le = tt
 boundary-angle⁻ : Angle (negℤ (pos A)) (pos Y)
 boundary-angle⁻ = record { positive = record { lt = tt }; most = record { le = tt }; least = record { le = tt } }
 
--- ---- the steps of L7, over g = Y·s·N
+-- ---- the distance of each angle from the boundary, over g = Y·s·N
 here-near : (s N R R′ f : ℤ) → pos 0 ≼ s → pos 0 ≼ N → R *ℤ (pos Y *ℤ N) -ℤ pos 2 *ℤ s *ℤ R′ ≼ f → pos 2 *ℤ s *ℤ R′ -ℤ R *ℤ (pos Y *ℤ N) ≼ f → Near (pos Y *ℤ s *ℤ N) f R s R′ (pos F *ℤ N)
 here-near s N R R′ f hs hN h k =
     let ρ = s ∷ N ∷ R ∷ R′ ∷ f ∷ [] in
@@ -88,9 +88,9 @@ down-far s N R′ hs hN h =
       lo = cert! ρ 0 (64000000000000000000000000000000000000000000000000000000000000 · (hs ⊛ hN ⊛ gap h)) (search polys depth 60 fits 100000) (search polys depth 60 fits 100000) (search polys depth 60 fits 100000) tt;
     }
 
--- ---- the three cases of L7
+-- ---- the three cases: the same quarter, the next, the one before
 abbrev pub B : ℕ
-B = 100000000000000000000
+B = 100000000000000000000000
 
 -- the bound, over 50·g·B with g = Y·s·N
 abbrev pub bound : ℤ → ℤ → ℤ → ℤ → ℤ
@@ -105,7 +105,7 @@ same-quarter : (k : ℕ) (s N R R′ G f : ℤ) → pos 0 ≺ s → pos 0 ≺ N 
 same-quarter k s N R R′ G f hs hN hG hf a a′ h h′ =
     near-as (over s N) (bound s N G f) (f-low-pos k s hs) (f-low-pos k (pos F *ℤ N) (a′ .positive))
     (ring! (s ∷ N ∷ []) (search polys depth 60 fits 100000) (search polys depth 60 fits 100000) tt)
-    (cert! (s ∷ N ∷ G ∷ f ∷ []) 0 (6100000000000000000000 · (hG ⊛ ≺-≼ hN) ⊞ 400000000000000000000000000000000 · (≺-≼ hs ⊛ ≺-≼ hN)) (search polys depth 60 fits 100000) (search polys depth 60 fits 100000) (search polys depth 60 fits 100000) tt)
+    (cert! (s ∷ N ∷ G ∷ f ∷ []) 0 (6100000000000000000000000 · (hG ⊛ ≺-≼ hN) ⊞ 400000000000000000000000000000000 · (≺-≼ hs ⊛ ≺-≼ hN)) (search polys depth 60 fits 100000) (search polys depth 60 fits 100000) (search polys depth 60 fits 100000) tt)
     (near-times (pos B) (nonneg B) (near-f k R s R′ (pos F *ℤ N) f (pos Y *ℤ s *ℤ N) a a′ hf (here-near s N R R′ f (≺-≼ hs) (≺-≼ hN) h h′)))
 
 -- through the boundary x/Y, from the quarter k to the quarter k′
@@ -124,14 +124,14 @@ across k k′ s N R R′ x x′ f f₁ f₂ G hs hN h₁ h₂ a a′ b b′ n₁
     let two : Near (pos 50 *ℤ g *ℤ pos B) (pos 50 *ℤ g *ℤ pos 1) (f-up k x (pos Y)) (f-low k (pos Y)) (f-up k′ x′ (pos Y)) (f-low k′ (pos Y)) = near-times (pos 50 *ℤ g) (nonneg 50 ⊛ (nonneg Y ⊛ ≺-≼ hs ⊛ ≺-≼ hN)) m in
     let three : Near (pos B *ℤ (pos 50 *ℤ g)) (pos B *ℤ (pos 61 *ℤ f₂)) (f-up k′ x′ (pos Y)) (f-low k′ (pos Y)) (f-up k′ R′ (pos F *ℤ N)) (f-low k′ (pos F *ℤ N)) = near-times (pos B) (nonneg B) (near-f k′ x′ (pos Y) R′ (pos F *ℤ N) f₂ g b′ a′ h₂ n₂) in
     near-weaken (bound s N G f) p p′
-    (cert! (s ∷ N ∷ f ∷ f₁ ∷ f₂ ∷ G ∷ []) 0 (6100000000000000000000 · gap l) (search polys depth 60 fits 100000) (search polys depth 60 fits 100000) (search polys depth 60 fits 100000) tt)
+    (cert! (s ∷ N ∷ f ∷ f₁ ∷ f₂ ∷ G ∷ []) 0 (6100000000000000000000000 · gap l) (search polys depth 60 fits 100000) (search polys depth 60 fits 100000) (search polys depth 60 fits 100000) tt)
     (near-trans p p₂ p′ (near-trans p p₁ p₂ (subst (λ t. Near t (pos B *ℤ (pos 61 *ℤ f₁)) (f-up k R s) (f-low k s) (f-up k x (pos Y)) (f-low k (pos Y))) (same-over s N) one) two)
     (subst (λ t. Near t (pos B *ℤ (pos 61 *ℤ f₂)) (f-up k′ x′ (pos Y)) (f-low k′ (pos Y)) (f-up k′ R′ (pos F *ℤ N)) (f-low k′ (pos F *ℤ N))) (same-over s N) three))
   where
     same-over : (s N : ℤ) → pos B *ℤ (pos 50 *ℤ (pos Y *ℤ s *ℤ N)) ≡ over s N
     same-over s N = ring! (s ∷ N ∷ []) (search polys depth 60 fits 100000) (search polys depth 60 fits 100000) tt
 
--- ---- L7
+-- ---- all of them
 pub data Beside (q q′ : ℤ) : Type 0 where
   same-one : q′ ≡ q → Beside q q′
   next : q′ ≡ q +ℤ pos 1 → Beside q q′

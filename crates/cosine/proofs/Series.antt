@@ -1,4 +1,4 @@
--- L4: the plain series is the nested one. Assumes nothing.
+-- The plain series is the nested one. Assumes nothing.
 use mathlib.Core.Path.{_≡_, refl, sym, ap, _∙_}
 use mathlib.Core.List.{List, [], _∷_, _++_}
 use Prim.Native.Nat.{ℕ, zero, suc, _*_, _+_, _-_, _/_}

@@ -1,4 +1,4 @@
--- Whole turns do not change the cosine and the sine (L2). Assumes nothing.
+-- Whole turns do not change the cosine and the sine. Assumes nothing.
 use mathlib.Core.Path.{_≡_, refl, sym, ap, ap₂, _∙_, subst, subst₂}
 use mathlib.Core.List.{List, [], _∷_}
 use Prim.Native.Nat.{ℕ, zero, suc, _*_, _+_, _%_, _≤_, _<_}

@@ -1,4 +1,4 @@
--- L9 for any turn: how far the working cosine and sine of a whole angle are from the reference's of a fraction near it. Assumes nothing.
+-- How far the working cosine and sine of a whole angle are from the reference's of a fraction near it, for any turn. Assumes nothing.
 use mathlib.Core.Path.{_≡_, refl, sym, ap, ap₂, _∙_, subst, subst₂}
 use mathlib.Core.List.{List, [], _∷_}
 use Prim.Native.Nat.{ℕ, zero, suc, _*_, _+_, _%_, _≤_, _<_}
@@ -20,11 +20,11 @@ use Rattle.cosine.proofs.Nested.{cosine-is, sine-is, reference-is, refe
 
 within-law : (k g E x u l : ℤ) → pos 0 ≺ g → pos 0 ≺ l → E ≼ pos 1000 *ℤ k *ℤ g *ℤ pos B → pos 1000 *ℤ pos U *ℤ g *ℤ pos B *ℤ (x *ℤ l -ℤ u *ℤ pos U) ≼ E *ℤ (pos U *ℤ l) → x *ℤ l -ℤ pos U *ℤ u ≼ k *ℤ l
 within-law k g E x u l hg hl h e =
-    cert*! (k ∷ g ∷ E ∷ x ∷ u ∷ l ∷ []) (pos 100000000000000000000000000000000 *ℤ g) (product-pos (pos 100000000000000000000000000000000) g (record { lt = tt }) hg) (gap e ⊞ 1000000000 · (≺-≼ hl ⊛ gap h)) (search polys depth 60 fits 100000) (search polys depth 60 fits 100000) (search polys depth 60 fits 100000) (search polys depth 60 fits 100000) tt
+    cert*! (k ∷ g ∷ E ∷ x ∷ u ∷ l ∷ []) (pos 100000000000000000000000000000000000 *ℤ g) (product-pos (pos 100000000000000000000000000000000000) g (record { lt = tt }) hg) (gap e ⊞ 1000000000 · (≺-≼ hl ⊛ gap h)) (search polys depth 60 fits 100000) (search polys depth 60 fits 100000) (search polys depth 60 fits 100000) (search polys depth 60 fits 100000) tt
 
 within-law⁻ : (k g E x u l : ℤ) → pos 0 ≺ g → pos 0 ≺ l → E ≼ pos 1000 *ℤ k *ℤ g *ℤ pos B → pos 1000 *ℤ pos U *ℤ g *ℤ pos B *ℤ (u *ℤ pos U -ℤ x *ℤ l) ≼ E *ℤ (pos U *ℤ l) → negℤ (k *ℤ l) ≼ x *ℤ l -ℤ pos U *ℤ u
 within-law⁻ k g E x u l hg hl h e =
-    cert*! (k ∷ g ∷ E ∷ x ∷ u ∷ l ∷ []) (pos 100000000000000000000000000000000 *ℤ g) (product-pos (pos 100000000000000000000000000000000) g (record { lt = tt }) hg) (gap e ⊞ 1000000000 · (≺-≼ hl ⊛ gap h)) (search polys depth 60 fits 100000) (search polys depth 60 fits 100000) (search polys depth 60 fits 100000) (search polys depth 60 fits 100000) tt
+    cert*! (k ∷ g ∷ E ∷ x ∷ u ∷ l ∷ []) (pos 100000000000000000000000000000000000 *ℤ g) (product-pos (pos 100000000000000000000000000000000000) g (record { lt = tt }) hg) (gap e ⊞ 1000000000 · (≺-≼ hl ⊛ gap h)) (search polys depth 60 fits 100000) (search polys depth 60 fits 100000) (search polys depth 60 fits 100000) (search polys depth 60 fits 100000) tt
 
 -- at the shift j of the quarters: 0 for the cosine, 3 for the sine
 within-shift : {Q step G : ℕ} → Turn Q step G → (j X n : ℤ) (N : ℕ) (m e : ℤ) → Close-angles Q step G X n N m e → (k : ℕ)
@@ -43,7 +43,7 @@ within-shift {Q} {step} {G} t j X n N m e c k h =
     let a = near-any t j X n N m e c in
     record { positive = hl; most = within-law (pos k) g E x u l hg hl h (a .hi); least = within-law⁻ (pos k) g E x u l hg hl h (a .lo) }
 
--- L9 for any turn: the working cosine of X and the reference cosine of n/N
+-- the working cosine of X and the reference cosine of n/N
 pub within-any : {Q step G : ℕ} → Turn Q step G → (X n : ℤ) (N : ℕ) (m e : ℤ) → Close-angles Q step G X n N m e → (k : ℕ)
     → all-errors (pos step *ℤ pos U) (pos N) (pos G) (e +ℤ m *ℤ pos G *ℤ pos N) ≼ pos 1000 *ℤ pos k *ℤ (pos Y *ℤ (pos step *ℤ pos U) *ℤ pos N) *ℤ pos B
     → Within k (working-cosine Q step X) (reference-cosine n N)

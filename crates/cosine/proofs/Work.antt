@@ -1,4 +1,4 @@
--- L1 and L8: the working polynomials against the nested series at w/U. Assumes nothing.
+-- The working polynomials against the nested series at w/U. Assumes nothing.
 use mathlib.Core.Path.{_≡_, refl}
 use mathlib.Core.List.{List, [], _∷_, _++_}
 use Prim.Native.Nat.{ℕ, zero, suc, _*_, _+_, _/_, _%_, _≤_, _<_}
@@ -18,7 +18,7 @@ use Rattle.cosine.proofs.Horner.{low, up, lam, lip, Good, Range, range�
 use Rattle.integers.proofs.Near.{Near, near-sym, near-neg, near-trans, near-coarse, near-weaken, near-times}
 use Rattle.cosine.proofs.Part.{Angle, angle-small, C-up, C-low, S-up, S-low, f-up, f-low, good-evens, good-odds}
 
--- ---- L1: a bound by a whole number survives rounding
+-- ---- a bound by a whole number survives rounding
 
 pub ≺-nat : (n : ℕ) → 0 < n → pos 0 ≺ pos n
 ≺-nat n h = suc-<ℤ (pos 0) (pos n) (≼-nat 1 n h)
@@ -61,7 +61,7 @@ y-range w a = record {
   most = rounded-most (w *ℤ w) (pos U) U (omega arith) (cert! (w ∷ []) 999 (gap (angle-small a .small)) (search polys depth 60 fits 100000) (search polys depth 60 fits 100000) (search polys depth 60 fits 100000) tt);
 }
 
--- ---- L8. |p/U − u/l| is at most e millionths of 1/U
+-- ---- |p/U − u/l| is at most e millionths of 1/U
 
 pub record Close (e p u l : ℤ) : Type 0 where
   pub hi : pos 1000000 *ℤ (p *ℤ l -ℤ pos U *ℤ u) ≼ e *ℤ l
@@ -172,7 +172,7 @@ near-odd w a =
 unfoldable pub working : ℕ → ℤ → ℤ
 working k w = cosine-by negℤ k (even-part w) (odd-part w)
 
--- L8: the working cosine or sine of the quarter k and of w is within 1.003/U of f(k, w/U)
+-- the working cosine or sine of the quarter k and of w is within 1.003/U of f(k, w/U)
 pub near-working : (k : ℕ) (w : ℤ) → Angle w (pos U) → Near (pos 1000 *ℤ pos U) (pos 1003) (working k w) (pos U) (f-up k w (pos U)) (f-low k (pos U))
 unfolding working f-up f-low cosine-by low-by-quarter
 near-working zero w a = near-even w a
