@@ -10,7 +10,7 @@ use Rattle.cosine.specs.Terms.{term-angle, term-cosine, term-value}
 use Rattle.packed.specs.declared.Term.{Term}
 use Rattle.series.specs.Sums.{block-sum, running-sum, longitude-blocks, latitude-blocks, radius-blocks, coordinates}
 
-constant-rate : List (List Term)
+unfoldable pub constant-rate : List (List Term)
 constant-rate = [] ∷ (record { a = pos 300000000000; b = 0; c = pos 0 } ∷ []) ∷ [] ∷ [] ∷ [] ∷ [] ∷ [] ∷ [] ∷ [] ∷ [] ∷ [] ∷ [] ∷ [] ∷ [] ∷ [] ∷ [] ∷ [] ∷ [] ∷ []
 
 pub figures : coordinates (negℤ (pos 15778800000000)) constant-rate ≡ record { longitude = negℤ (pos 150000000000); latitude = pos 0; radius = pos 0 }
