@@ -6,7 +6,7 @@ use mathlib.Core.List.{List, _++_, map}
 use Prim.Native.Nat.{ℕ, _+_}
 use lib.Dec.{leb}
 use lib.IntN.{ℤ}
-use lib.ListN.{length, set, take}
+use lib.ListN.{length, set, take, drop}
 use lib.Seq.{sets}
 use Rattle.packed.specs.declared.Term.{Term}
 use Rattle.packed.specs.declared.Sums.{Sums}
@@ -20,6 +20,10 @@ use Rattle.packed.specs.declared.inner.Walk.{Walk}
 use Rattle.packed.specs.declared.inner.Walk.the-variants.{Moved, Stopped}
 use Rattle.packed.specs.Tables.{Sized}
 use Rattle.packed.specs.Numbers.{Read, got, bad, encode, folded, unfolded}
+
+-- What a reader reads at an offset of bytes.
+abbrev pub at-offset : {A : Type 0} → (ℕ → List ℕ → Read A) → ℕ → List ℕ → Read A
+at-offset reader at bytes = reader at (drop at bytes)
 
 -- A number, or one made of what was read.
 unfoldable pub shown : {A : Type 0} → (A → ℕ) → Read A → Number
@@ -66,6 +70,11 @@ c-of t = t .c
 unfoldable pub stored : {X : Type 0} → (Term → X) → ℕ → Read Term → List X → List X
 stored number k (got t at rest) l = set l k (number t)
 stored number k (bad r) l = l
+
+pub record Stored (k : ℕ) (r : Read Term) (la₀ : List ℤ) (lb₀ : List ℕ) (lc₀ la : List ℤ) (lb : List ℕ) (lc : List ℤ) : Type 0 where
+  pub stored-a : la ≡ stored a-of k r la₀
+  pub stored-b : lb ≡ stored b-of k r lb₀
+  pub stored-c : lc ≡ stored c-of k r lc₀
 
 -- After the terms that were read a list of a table holds their numbers from place k, and before k what it held. After a
 -- refusal nothing is said of it.

@@ -8,14 +8,14 @@ use crate::numbers::unfold_number;
 use units::Refusal;
 ghost use mathlib.Core.Path.{_≡_};
 ghost use lib.IntN.{natAbs};
-ghost use lib.ListN.{length, drop};
+ghost use lib.ListN.{length};
 ghost use Prim.Native.Nat.{_+_, _-_, _<_, _≤_};
 ghost use Rattle.units.specs.Units.{a-limit};
 ghost use Rattle.packed.specs.Limits.{total-limit, coarse-limit, series-limit, block-count, factor, weight, added, opened};
 ghost use Rattle.packed.specs.Numbers.{folded, unfolded};
 ghost use Rattle.packed.specs.Series.{read-a, read-b, read-c, read-term, read-terms, summed, read-block, after-block, parse, checked};
 ghost use Rattle.packed.specs.Tables.{Sized, unpacked};
-ghost use Rattle.packed.specs.Answers.{shown, plain, shown-term, term-of, walked, stored, Filled, a-of, b-of, c-of};
+ghost use Rattle.packed.specs.Answers.{shown, plain, shown-term, term-of, walked, Stored, Filled, at-offset};
 
 // A term as it is packed, a and c folded, and the offset past it; or a refusal.
 pub enum TermRead {
@@ -32,7 +32,7 @@ pub enum Walk {
 // The number a at an offset: 4 past its limit, 5 past the block's total.
 fn read_a(bytes: &[u8], at: usize, sums: Sums) -> Number
     requires { ⌜ sums .total ≤ total-limit ⌝ }
-    ensures { λ r. ⌜ r ≡ shown folded (read-a sums at (drop at (now (bytes .entry)))) ⌝ }
+    ensures { λ r. ⌜ r ≡ shown folded (at-offset (read-a sums) at (now (bytes .entry))) ⌝ }
 {
     let total = sums.total;
     let n = number_at(bytes, at);
@@ -53,7 +53,7 @@ fn read_a(bytes: &[u8], at: usize, sums: Sums) -> Number
 
 // The number b at an offset.
 fn read_b(bytes: &[u8], at: usize) -> Number
-    ensures { λ r. ⌜ r ≡ shown plain (read-b at (drop at (now (bytes .entry)))) ⌝ }
+    ensures { λ r. ⌜ r ≡ shown plain (at-offset read-b at (now (bytes .entry))) ⌝ }
 {
     let n = number_at(bytes, at);
     match n {
@@ -85,7 +85,7 @@ fn term_weight(f: u64, a: u64, b: u64, c: u64) -> u64
 // The number c at an offset, after a and b: 4 past its limit, 6 where the term makes the coordinate too coarse.
 fn read_c(bytes: &[u8], at: usize, f: u64, sums: Sums, a: u64, b: u64) -> Number
     requires { ⌜ (f ≤ 32) × (natAbs (unfolded a) < a-limit) × (sums .coarse ≤ coarse-limit) ⌝ }
-    ensures { λ r. ⌜ r ≡ shown folded (read-c f sums (unfolded a) b at (drop at (now (bytes .entry)))) ⌝ }
+    ensures { λ r. ⌜ r ≡ shown folded (at-offset (read-c f sums (unfolded a) b) at (now (bytes .entry))) ⌝ }
 {
     let coarse = sums.coarse;
     let n = number_at(bytes, at);
@@ -106,7 +106,7 @@ fn read_c(bytes: &[u8], at: usize, f: u64, sums: Sums, a: u64, b: u64) -> Number
 // The term at an offset, in a block with this factor, after these sums.
 fn read_term_at(bytes: &[u8], at: usize, f: u64, sums: Sums) -> TermRead
     requires { ⌜ (f ≤ 32) × (sums .total ≤ total-limit) × (sums .coarse ≤ coarse-limit) ⌝ }
-    ensures { λ r. ⌜ r ≡ shown-term (read-term f sums at (drop at (now (bytes .entry)))) ⌝ }
+    ensures { λ r. ⌜ r ≡ shown-term (at-offset (read-term f sums) at (now (bytes .entry))) ⌝ }
 {
     let ra = read_a(bytes, at, sums);
     match ra {
@@ -151,7 +151,7 @@ fn take_term(
     c: &mut [i64; 8192],
 ) -> Walk
     requires { ⌜ (f ≤ 32) × (sums .total ≤ total-limit) × (sums .coarse ≤ coarse-limit) × (k < series-limit) ⌝ }
-    ensures { λ r. ⌜ (r ≡ walked (added f sums) (read-term f sums at (drop at (now (bytes .entry))))) × (now (a .exit) ≡ stored a-of k (read-term f sums at (drop at (now (bytes .entry)))) (now (a .entry))) × (now (b .exit) ≡ stored b-of k (read-term f sums at (drop at (now (bytes .entry)))) (now (b .entry))) × (now (c .exit) ≡ stored c-of k (read-term f sums at (drop at (now (bytes .entry)))) (now (c .entry))) ⌝ }
+    ensures { λ r. ⌜ (r ≡ walked (added f sums) (at-offset (read-term f sums) at (now (bytes .entry)))) × Stored k (at-offset (read-term f sums) at (now (bytes .entry))) (now (a .entry)) (now (b .entry)) (now (c .entry)) (now (a .exit)) (now (b .exit)) (now (c .exit)) ⌝ }
 {
     let t = read_term_at(bytes, at, f, sums);
     match t {
@@ -177,7 +177,7 @@ fn take_terms(
     c: &mut [i64; 8192],
 ) -> Walk
     requires { ⌜ (f ≤ 32) × (sums .total ≤ total-limit) × (sums .coarse ≤ coarse-limit) × (from ≤ sums .terms) × (sums .terms ≤ series-limit) × Sized (now a) (now b) (now c) ⌝ }
-    ensures { λ r. ⌜ (r ≡ walked (summed f sums) (read-terms (sums .terms - from) f sums at (drop at (now (bytes .entry))))) × Filled from (read-terms (sums .terms - from) f sums at (drop at (now (bytes .entry)))) (now (a .entry)) (now (b .entry)) (now (c .entry)) (now (a .exit)) (now (b .exit)) (now (c .exit)) ⌝ }
+    ensures { λ r. ⌜ (r ≡ walked (summed f sums) (at-offset (read-terms (sums .terms - from) f sums) at (now (bytes .entry)))) × Filled from (at-offset (read-terms (sums .terms - from) f sums) at (now (bytes .entry))) (now (a .entry)) (now (b .entry)) (now (c .entry)) (now (a .exit)) (now (b .exit)) (now (c .exit)) ⌝ }
 {
     let end = sums.terms as usize;
     let mut s = sums;
@@ -239,7 +239,7 @@ fn take_block(
     c: &mut [i64; 8192],
 ) -> Walk
     requires { ⌜ (sums .terms ≤ series-limit) × (sums .coarse ≤ coarse-limit) × Sized (now a) (now b) (now c) ⌝ }
-    ensures { λ r. ⌜ (r ≡ walked (after-block k sums) (read-block k sums at (drop at (now (bytes .entry))))) × Filled (sums .terms) (read-block k sums at (drop at (now (bytes .entry)))) (now (a .entry)) (now (b .entry)) (now (c .entry)) (now (a .exit)) (now (b .exit)) (now (c .exit)) ⌝ }
+    ensures { λ r. ⌜ (r ≡ walked (after-block k sums) (at-offset (read-block k sums) at (now (bytes .entry)))) × Filled (sums .terms) (at-offset (read-block k sums) at (now (bytes .entry))) (now (a .entry)) (now (b .entry)) (now (c .entry)) (now (a .exit)) (now (b .exit)) (now (c .exit)) ⌝ }
 {
     let terms = sums.terms;
     let n = number_at(bytes, at);

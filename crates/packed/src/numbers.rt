@@ -2,11 +2,11 @@
 use units::Refusal;
 ghost use mathlib.Core.Path.{_≡_};
 ghost use lib.IntN.{natAbs};
-ghost use lib.ListN.{length, drop};
+ghost use lib.ListN.{length};
 ghost use lib.Seq.{sets};
 ghost use Prim.Native.Nat.{_+_, _<_, _≤_, _^_};
-ghost use Rattle.packed.specs.Numbers.{closed, groups-from, number, encode, folded, unfolded};
-ghost use Rattle.packed.specs.Answers.{shown, plain, put-answer, put-out};
+ghost use Rattle.packed.specs.Numbers.{groups-from, number, encode, unfolded};
+ghost use Rattle.packed.specs.Answers.{at-offset, shown, plain, put-answer, put-out};
 
 // What stands at an offset: the value and the offset past its last byte, or a refusal.
 pub enum Number {
@@ -23,7 +23,7 @@ fn wide(x: u8) -> u64
 // A number of more than one group, whose first one has the value low; its second is at from.
 fn long_number(s: &[u8], from: usize, low: u64) -> Number
     requires { ⌜ low < 128 ⌝ }
-    ensures { λ r. ⌜ r ≡ shown plain (groups-from 1 low from (drop from (now (s .entry)))) ⌝ }
+    ensures { λ r. ⌜ r ≡ shown plain (at-offset (groups-from 1 low) from (now (s .entry))) ⌝ }
 {
     let mut i = from;
     let mut k: u64 = 1;
@@ -50,7 +50,7 @@ fn long_number(s: &[u8], from: usize, low: u64) -> Number
 
 // The packed number at an offset.
 pub fn number_at(s: &[u8], at: usize) -> Number
-    ensures { λ r. ⌜ r ≡ shown plain (number at (drop at (now (s .entry)))) ⌝ }
+    ensures { λ r. ⌜ r ≡ shown plain (at-offset number at (now (s .entry))) ⌝ }
 {
     if s.len() <= at {
         return Number::Bad(Refusal::EndedEarly(at));

@@ -56,14 +56,14 @@ add-term-requires c κs =
 returns : tie.Need-returns
 returns c =
     let e = was-wrong _ _ (sym (c .before .before .before .read-term-at .ensures) ∙ c .before .t .given .1) in
-    (show-stopped _ e, store-none a-of _ _ _ _ e, store-none b-of _ _ _ _ e, store-none c-of _ _ _ _ e)
+    (show-stopped _ e, record { stored-a = store-none a-of _ _ _ _ e; stored-b = store-none b-of _ _ _ _ e; stored-c = store-none c-of _ _ _ _ e })
 
 returns-2 : tie.Need-returns-2
 returns-2 c =
     let e = found (c .before .before .before) in
     let u = c .before .before .unfold-number in
     let v = c .before .unfold-number2 in
-    (show-moved _ e (c .add-term .ensures), store-signed a-of _ _ _ _ _ _ (u .result) (u .ok) (u .ensures) e, sym (store b-of _ _ _ _ _ _ e), store-signed c-of _ _ _ _ _ _ (v .result) (v .ok) (v .ensures) e)
+    (show-moved _ e (c .add-term .ensures), record { stored-a = store-signed a-of _ _ _ _ _ _ (u .result) (u .ok) (u .ensures) e; stored-b = sym (store b-of _ _ _ _ _ _ e); stored-c = store-signed c-of _ _ _ _ _ _ (v .result) (v .ok) (v .ensures) e })
 
 pub take-term-spec : {M : Type 1} → statement M
 take-term-spec =

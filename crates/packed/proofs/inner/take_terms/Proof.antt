@@ -33,7 +33,7 @@ returns c =
     let p = t .ensures in
     let h = c .before .before .before .before .before .before .before .loop-test .taken in
     let e = walked-stopped (added (a .f) (l .s)) _ _ (sym (p .0) ∙ c .before .w .given .1) in
-    (show-stopped (summed (a .f) (a .sums)) (taken-stop (a .bytes .now) (a .at) (a .f) (a .from) (a .sums .terms) (a .sums) (a .a .now) (a .b .now) (a .c .now) (l .a) (l .b) (l .c) (l .s) (l .i) (l .k) (l .inv) _ h e), filled-stop (a .bytes .now) (a .at) (a .f) (a .from) (a .sums .terms) (a .sums) (a .a .now) (a .b .now) (a .c .now) (l .a) (l .b) (l .c) (l .s) (l .i) (l .k) (l .inv) _ (t .last .1 .1 .1 .1 .1 .0) (t .last .1 .1 .1 .1 .1 .1 .0) (t .last .1 .1 .1 .1 .1 .1 .1 .0) h e (p .1) (p .2) (p .3))
+    (show-stopped (summed (a .f) (a .sums)) (taken-stop (a .bytes .now) (a .at) (a .f) (a .from) (a .sums .terms) (a .sums) (a .a .now) (a .b .now) (a .c .now) (l .a) (l .b) (l .c) (l .s) (l .i) (l .k) (l .inv) _ h e), filled-stop (a .bytes .now) (a .at) (a .f) (a .from) (a .sums .terms) (a .sums) (a .a .now) (a .b .now) (a .c .now) (l .a) (l .b) (l .c) (l .s) (l .i) (l .k) (l .inv) _ (t .last .1 .1 .1 .1 .1 .0) (t .last .1 .1 .1 .1 .1 .1 .0) (t .last .1 .1 .1 .1 .1 .1 .1 .0) h e (p .1 .stored-a) (p .1 .stored-b) (p .1 .stored-c))
 
 enum-known-w-2 : tie.Need-enum-known-w-2 Inv-loop μ-loop
 enum-known-w-2 c = search needs
@@ -54,7 +54,7 @@ loop-again c =
     let t = c .before .before .before .take-term in
     let p = t .ensures in
     let w = walked-moved (added (a .f) (l .s)) _ _ _ (term-after (a .bytes .now) (a .f) (l .s) (l .i)) (sym (p .0) ∙ c .before .w2 .given .1) in
-    taken-more (a .bytes .now) (a .at) (a .f) (a .from) (a .sums .terms) (a .sums) (a .a .now) (a .b .now) (a .c .now) (l .a) (l .b) (l .c) (l .s) (l .i) (l .k) (l .inv) _ _ (t .last .1 .1 .1 .1 .1 .0) (t .last .1 .1 .1 .1 .1 .1 .0) (t .last .1 .1 .1 .1 .1 .1 .1 .0) (c .before .before .before .before .before .before .before .loop-test .taken) (c .before .before .before .before .before .before .before .before .before .before .pre .4) w (p .1) (p .2) (p .3)
+    taken-more (a .bytes .now) (a .at) (a .f) (a .from) (a .sums .terms) (a .sums) (a .a .now) (a .b .now) (a .c .now) (l .a) (l .b) (l .c) (l .s) (l .i) (l .k) (l .inv) _ _ (t .last .1 .1 .1 .1 .1 .0) (t .last .1 .1 .1 .1 .1 .1 .0) (t .last .1 .1 .1 .1 .1 .1 .1 .0) (c .before .before .before .before .before .before .before .loop-test .taken) (c .before .before .before .before .before .before .before .before .before .before .pre .4) w (p .1 .stored-a) (p .1 .stored-b) (p .1 .stored-c)
 
 returns-2 : tie.Need-returns-2 Inv-loop μ-loop
 returns-2 c =
