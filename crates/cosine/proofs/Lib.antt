@@ -18,3 +18,4 @@ pub mod Natural
 pub mod Residues
 pub mod Places
 pub mod Plain
+pub mod Slope

@@ -68,7 +68,7 @@ lam-evens : pos 3927 *ℤ pos (lam all-evens) *ℤ pos 50 ≼ pos 61 *ℤ pos 25
 unfolding lam
 lam-evens = record { le = tt }
 
-lam-odds : pos 3927 *ℤ pos (lam all-odds) *ℤ pos 10000 ≼ pos 2702 *ℤ pos 2500000000
+pub lam-odds : pos 3927 *ℤ pos (lam all-odds) *ℤ pos 10000 ≼ pos 2702 *ℤ pos 2500000000
 unfolding lam
 lam-odds = record { le = tt }
 
