@@ -1,7 +1,7 @@
 -- Bytes that are read as terms, blocks and a series are their packed form, and the packed form of a series within the limits is
 -- read as that series. Assumes nothing.
 use mathlib.Core.Path.{_≡_, refl, sym, ap, _∙_}
-use mathlib.Core.List.{List, _∷_, _++_, append-assoc}
+use mathlib.Core.List.{List, [], _∷_, _++_, append-assoc}
 use Prim.Native.Nat.{ℕ, zero, suc, _+_, _^_, _<_}
 use native.Mathlib.Omega.{arith}
 use lib.IntN.{ℤ, natAbs}
@@ -12,7 +12,7 @@ use Rattle.packed.specs.declared.Sums.{Sums}
 use Rattle.packed.specs.Numbers.{Read, got, next, number, encode, folded}
 use Rattle.packed.specs.Series.{read-term, read-terms, read-block, read-blocks, after-block, pack-term, pack-terms, pack-block, pack}
 use Rattle.packed.proofs.Folding.{folded-natAbs}
-use Rattle.packed.proofs.Shortest.{AllBytes, number-encoded, number-encodes}
+use Rattle.packed.proofs.Shortest.{AllBytes, bytes-append, encode-bytes, number-encoded, number-encodes}
 use Rattle.packed.proofs.Accepting.{GoodTerm, term-accepted, term-made, next-got}
 use Rattle.packed.proofs.Blocks.{TermsAt, no-terms, a-term, block-accepted, block-got}
 use Rattle.packed.proofs.Limits.{GoodTerms, good-none, good-term}
@@ -28,6 +28,18 @@ both {p} {q} {rest = rest} f g = record { form = f .form ∙ rw (g .form) (sym (
 
 number-begins : (at : ℕ) {v to : ℕ} {x rest : List ℕ} → AllBytes x → number at x ≡ got v to rest → Begins (encode v) x rest
 number-begins at {v} {to} {x} {rest} a e = let n = number-encodes at v to rest x a e in record { form = n .form; left = n .left }
+
+-- A packed series is bytes.
+terms-bytes : (ts : List Term) → AllBytes (pack-terms ts)
+unfolding pack-terms pack-term
+terms-bytes [] = tt
+terms-bytes (t ∷ ts) =
+    bytes-append (pack-term t) (pack-terms ts) (bytes-append (encode (folded (t .a)) ++ encode (t .b)) (encode (folded (t .c))) (bytes-append (encode (folded (t .a))) (encode (t .b)) (encode-bytes (folded (t .a))) (encode-bytes (t .b))) (encode-bytes (folded (t .c)))) (terms-bytes ts)
+
+pub pack-bytes : (blocks : List (List Term)) → AllBytes (pack blocks)
+unfolding pack pack-block
+pack-bytes [] = tt
+pack-bytes (ts ∷ blocks) = bytes-append (pack-block ts) (pack blocks) (bytes-append (encode (length ts)) (pack-terms ts) (encode-bytes (length ts)) (terms-bytes ts)) (pack-bytes blocks)
 
 -- What was read is the packed form.
 term-begins : (f : ℕ) (s : Sums) (at : ℕ) (x : List ℕ) (t : Term) (to : ℕ) (rest : List ℕ) → AllBytes x → read-term f s at x ≡ got t to rest → Begins (pack-term t) x rest

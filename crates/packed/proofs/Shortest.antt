@@ -6,7 +6,7 @@ use native.Mathlib.Nat.{pow-succ', mul-assoc, add-mul}
 use native.Mathlib.Decide.{decLe, ℕ-discrete}
 use native.Mathlib.Omega.{arith}
 use borrow.Author.Tests.{lt-ltb, le-ltb, lt-leb, le-leb, eq-eqb, ne-eqb}
-use lib.ListN.{length}
+use lib.ListN.{length, getD}
 use Rattle.units.specs.declared.Refusal.the-variants.{OverLimit, NotShortest}
 use Rattle.packed.specs.Numbers.{got, bad, closed, groups-from, number, groups, encode}
 use Rattle.packed.proofs.Decode.{power-next}
@@ -64,6 +64,29 @@ number-encoded v at rest h =
 abbrev pub AllBytes : List ℕ → Type 0
 AllBytes [] = Unit {0}
 AllBytes (b ∷ s) = (b < 256) × AllBytes s
+
+-- A list of which each element is a byte; and two lists of bytes.
+pub all-bytes : (s : List ℕ) → ((i : ℕ) → i < length s → getD s i 0 < 256) → AllBytes s
+all-bytes [] h = tt
+all-bytes (b ∷ s) h = (h 0 (omega arith), all-bytes s (λ (i : ℕ) (l : i < length s). h (suc i) (omega arith)))
+
+pub bytes-append : (s t : List ℕ) → AllBytes s → AllBytes t → AllBytes (s ++ t)
+bytes-append [] t a b = b
+bytes-append (x ∷ s) t a b = (a .0, bytes-append s t (a .1) b)
+
+-- A packed number is bytes.
+groups-bytes : (n v : ℕ) → AllBytes (groups n v)
+unfolding groups
+groups-bytes zero v = tt
+groups-bytes (suc n) v = go (decLe 128 v) (groups-bytes n (v / 128))
+  where
+    go : Dec (128 ≤ v) → AllBytes (groups n (v / 128)) → AllBytes (groups (suc n) v)
+    go (yes h) a = rw (le-ltb v 128 h) (omega arith, a)
+    go (no h) a = let l : v < 128 = omega (arith, h) in rw (lt-ltb v 128 l) (omega arith, tt)
+
+pub encode-bytes : (v : ℕ) → AllBytes (encode v)
+unfolding encode
+encode-bytes v = groups-bytes 10 v
 
 -- s is the groups of x and then rest, and x makes v of acc.
 record Form (f k acc at v to : ℕ) (rest s : List ℕ) : Type 0 where
