@@ -1,0 +1,36 @@
+-- `put_block` meets its contract. Assumes nothing.
+use Rattle.printer.proofs.Writing.{left-is, left-more, left-over, left-room}
+use Rattle.printer.proofs.Tables.{block-pieces}
+use Prim.Native.Nat.{_-_}
+use borrow.Author.Needs.{needs}
+use Rattle.printer.proofs.blocks.put_block.Statement.{statement}
+use Rattle.printer.proofs.blocks.put_block.Tie as tie
+
+sub-put-whole : tie.Need-sub-put-whole
+sub-put-whole c = search needs
+
+put-whole-requires : tie.Need-put-whole-requires
+put-whole-requires c κs = let s = c .before .before in left-room (left-is (block-pieces (s .args .a .now) (s .args .b .now) (s .args .c .now) (s .args .from) (s .args .end - s .args .from)) (s .args .at) (s .args .out .now)) (s .pre .3)
+
+put-byte-requires : tie.Need-put-byte-requires
+put-byte-requires c κs = let s = c .before .before .before .before .before .before in left-room (left-more (left-is (block-pieces (s .args .a .now) (s .args .b .now) (s .args .c .now) (s .args .from) (s .args .end - s .args .from)) (s .args .at) (s .args .out .now)) (c .before .before .before .put-whole .ensures)) (s .pre .3)
+
+put-lines-requires : tie.Need-put-lines-requires
+put-lines-requires c κs = let s = c .before .before .before .before .before .before .before .before .before .before in (s .pre .0, s .pre .1, s .pre .2, left-room (left-more (left-more (left-is (block-pieces (s .args .a .now) (s .args .b .now) (s .args .c .now) (s .args .from) (s .args .end - s .args .from)) (s .args .at) (s .args .out .now)) (c .before .before .before .before .before .before .before .put-whole .ensures)) (c .before .before .before .put-byte .ensures)) (s .pre .3))
+
+same-length : tie.Need-same-length
+same-length c = search needs
+
+returns : tie.Need-returns
+returns c = let s = c .before .before .before .before .before .before .before .before .before .before .before .before .before in left-over (left-more (left-more (left-more (left-is (block-pieces (s .args .a .now) (s .args .b .now) (s .args .c .now) (s .args .from) (s .args .end - s .args .from)) (s .args .at) (s .args .out .now)) (c .before .before .before .before .before .before .before .before .before .before .put-whole .ensures)) (c .before .before .before .before .before .before .put-byte .ensures)) (c .before .before .put-lines .ensures))
+
+pub put-block-spec : {M : Type 1} → statement M
+put-block-spec =
+    tie.close
+    (tie.spec
+    sub-put-whole
+    put-whole-requires
+    put-byte-requires
+    put-lines-requires
+    same-length
+    returns)

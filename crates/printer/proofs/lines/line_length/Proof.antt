@@ -1,0 +1,60 @@
+-- `line_length` meets its contract. Assumes nothing.
+use mathlib.Core.Path.{_≡_, ap, _∙_}
+use native.Mathlib.Omega.{arith}
+use lib.IntN.{natAbs}
+use Rattle.integers.specs.Signs.{negative}
+use Rattle.arith.proofs.Signs.{back}
+use Rattle.printer.specs.Writing.{term}
+use Rattle.printer.proofs.Pieces.{line-length}
+use borrow.Author.Needs.{needs}
+use Rattle.printer.proofs.lines.line_length.Statement.{statement}
+use Rattle.printer.proofs.lines.line_length.Tie as tie
+
+is-neg-requires : tie.Need-is-neg-requires
+is-neg-requires c κs = search needs
+
+abs-requires : tie.Need-abs-requires
+abs-requires c κs = search needs
+
+is-neg-requires-2 : tie.Need-is-neg-requires-2
+is-neg-requires-2 c κs = search needs
+
+abs-requires-2 : tie.Need-abs-requires-2
+abs-requires-2 c κs = search needs
+
+decimal-length-requires : tie.Need-decimal-length-requires
+decimal-length-requires c κs = search needs
+
+decimal-length-requires-2 : tie.Need-decimal-length-requires-2
+decimal-length-requires-2 c κs = search needs
+
+decimal-length-requires-3 : tie.Need-decimal-length-requires-3
+decimal-length-requires-3 c κs = search needs
+
+add-result : tie.Need-add-result
+add-result c = search needs
+
+add-result-2 : tie.Need-add-result-2
+add-result-2 c = search needs
+
+add-result-3 : tie.Need-add-result-3
+add-result-3 c = search needs
+
+returns : tie.Need-returns
+returns c = let s = c .before .before .before .before .before .before .before in (line-length (term (s .args .a) (s .args .b) (s .args .c)) _ _ _ _ (rw (back (s .args .a) (s .fits .a)) at (c .before .before .before .before .before .before .is-neg .ensures)) (rw (back (s .args .a) (s .fits .a)) at (c .before .before .before .before .before .abs .ensures)) (rw (back (s .args .c) (s .fits .c)) at (c .before .before .before .before .is-neg2 .ensures)) (rw (back (s .args .c) (s .fits .c)) at (c .before .before .before .abs2 .ensures)) _ _ _ (c .before .before .decimal-length .ensures .0) (c .before .decimal-length2 .ensures .0) (c .decimal-length3 .ensures .0), omega (arith, c .before .before .decimal-length .ensures .1, c .before .decimal-length2 .ensures .1, c .decimal-length3 .ensures .1))
+
+pub line-length-spec : {M : Type 1} → statement M
+line-length-spec =
+    tie.close
+    (tie.spec
+    is-neg-requires
+    abs-requires
+    is-neg-requires-2
+    abs-requires-2
+    decimal-length-requires
+    decimal-length-requires-2
+    decimal-length-requires-3
+    add-result
+    add-result-2
+    add-result-3
+    returns)

@@ -1,0 +1,3 @@
+-- Document 01, "Series, as text and packed": the printer.
+pub mod Printer
+pub mod Writing

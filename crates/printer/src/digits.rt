@@ -1,0 +1,89 @@
+// Digits and decimals: their lengths, and writing them into a buffer with room.
+ghost use mathlib.Core.Path.{_≡_};
+ghost use mathlib.Core.List.{[], _∷_};
+ghost use lib.ListN.{length};
+ghost use Prim.Native.Nat.{_+_, _≤_};
+ghost use Rattle.text.specs.Grammar.{sign, digits, decimal};
+ghost use Rattle.printer.specs.Printer.{last-digits, further-digits, plain-decimal};
+ghost use Rattle.printer.specs.Writing.{Room, Wrote, whole-text};
+
+// How many digits a number has after its first.
+fn further_digits(v: u64) -> usize
+    ensures { λ r. ⌜ (r ≡ further-digits v) × (r ≤ 19) ⌝ }
+{
+    let mut x = v;
+    let mut n = 0;
+    while 10 <= x {
+        x = x / 10;
+        n = n + 1;
+    }
+    n
+}
+
+pub fn put_byte(byte: u8, out: &mut [u8], at: usize) -> usize
+    requires { ⌜ Room (byte ∷ []) at (now out) ⌝ }
+    ensures { λ r. ⌜ Wrote (byte ∷ []) at (now (out .entry)) r (now (out .exit)) ⌝ }
+{
+    out[at] = byte;
+    at + 1
+}
+
+// Writes the last n digits of a number, from the last to the first.
+fn put_digits(v: u64, n: usize, out: &mut [u8], at: usize) -> usize
+    requires { ⌜ at + n ≤ length (now out) ⌝ }
+    ensures { λ r. ⌜ Wrote (digits (last-digits n v)) at (now (out .entry)) r (now (out .exit)) ⌝ }
+{
+    let mut x = v;
+    let mut i = n;
+    while 0 < i {
+        i = i - 1;
+        out[at + i] = (48 + x % 10) as u8;
+        x = x / 10;
+    }
+    at + n
+}
+
+// A whole number with no needless leading zero.
+pub fn whole_length(v: u64) -> usize
+    ensures { λ r. ⌜ (r ≡ length (whole-text v)) × (r ≤ 20) ⌝ }
+{
+    further_digits(v) + 1
+}
+
+pub fn put_whole(v: u64, out: &mut [u8], at: usize) -> usize
+    requires { ⌜ Room (whole-text v) at (now out) ⌝ }
+    ensures { λ r. ⌜ Wrote (whole-text v) at (now (out .entry)) r (now (out .exit)) ⌝ }
+{
+    put_digits(v, whole_length(v), out, at)
+}
+
+fn put_sign(minus: bool, out: &mut [u8], at: usize) -> usize
+    requires { ⌜ Room (sign minus) at (now out) ⌝ }
+    ensures { λ r. ⌜ Wrote (sign minus) at (now (out .entry)) r (now (out .exit)) ⌝ }
+{
+    if minus {
+        return put_byte(45, out, at);
+    }
+    at
+}
+
+// A number of parts as a decimal, with a minus or none.
+pub fn decimal_length(minus: bool, v: u64) -> usize
+    ensures { λ r. ⌜ (r ≡ length (decimal (plain-decimal minus v))) × (r ≤ 33) ⌝ }
+{
+    let n = whole_length(v / 100000000000) + 12;
+    if minus {
+        return n + 1;
+    }
+    n
+}
+
+pub fn put_decimal(minus: bool, v: u64, out: &mut [u8], at: usize) -> usize
+    requires { ⌜ Room (decimal (plain-decimal minus v)) at (now out) ⌝ }
+    ensures { λ r. ⌜ Wrote (decimal (plain-decimal minus v)) at (now (out .entry)) r (now (out .exit)) ⌝ }
+{
+    let whole = put_sign(minus, out, at);
+    let point = put_whole(v / 100000000000, out, whole);
+    let part = put_byte(46, out, point);
+    put_digits(v, 11, out, part)
+}
