@@ -3,11 +3,11 @@
 use mathlib.Core.Path.{_≡_, refl, sym, ap, ap₂, _∙_, subst}
 use mathlib.Core.Bool.{Bool, true, false, cond}
 use mathlib.Core.List.{List, [], _∷_}
-use Prim.Native.Nat.{ℕ, zero, suc, _+_, _*_, _≤_, _<_}
+use Prim.Native.Nat.{ℕ, zero, suc, _+_, _*_, _^_, _≤_, _<_}
 use native.Mathlib.Omega.{arith}
 use native.Mathlib.Decide.{decLe}
 use borrow.Author.Tests.{le-leb}
-use lib.Dec.{T, lit<, le→leb}
+use lib.Dec.{T, leb, lit<, le→leb, leb→le}
 use lib.IntN.{ℤ, pos, _+ℤ_, _*ℤ_}
 use lib.Signed.{leZ, ≤ℤ-refl}
 use Rattle.integers.specs.Order.{_≼_, _≺_}
@@ -16,8 +16,9 @@ use Rattle.integers.proofs.Pairs.{nonneg, ≤ℤ-trans}
 use Rattle.integers.proofs.Auto.{cert!, polys, gap, _⊞_, _⊛_, _·_}
 use Rattle.units.specs.Units.{U, quarter, turn}
 use Rattle.cosine.specs.Cosine.{horner, y-of, even-part, odd-part, q-of, r-of, w-of, cosine-by, sine-by, working-cosine, working-sine, cosine, sine}
+use Rattle.cosine.proofs.Ranges.{cosine-range, sine-range}
 use Rattle.direction.specs.Angles.{units-angle}
-use Rattle.direction.specs.Direction.{quarter-steps, turn-steps, steps-angle, not-past, greatest}
+use Rattle.direction.specs.Direction.{quarter-steps, turn-steps, steps-angle, not-past, greatest, in-quarter}
 use Rattle.integers.proofs.Rounding.{rounded-mono, rounded-zero}
 use Rattle.direction.proofs.Quarter.{Opens, quarter-opens}
 
@@ -116,3 +117,63 @@ greatest-is p (suc n) k h e f = go (decLe n k) (λ l. greatest-is p n k l e (λ 
     go (no g) r =
         let l : k < n = omega arith in
         ap (λ b. cond b n (greatest p n)) (f n l (omega arith)) ∙ r l
+
+-- ---- what the code has at a step: the angle, the sine and the cosine as natural numbers
+pub step-below : (k a : ℕ) → k ≤ quarter-steps → pos a ≡ steps-angle (pos k) → a < 2 ^ 63
+step-below k a h e =
+    let l = leb→le a quarter (subst (λ t. t ≼ pos quarter) (sym e) (steps-most k h) .le) in
+    omega arith
+
+pub step-sine : (k a : ℕ) (z : ℤ) → k ≤ quarter-steps → pos a ≡ steps-angle (pos k) → z ≡ sine (pos a) → pos 0 ≼ z
+step-sine k a z h e f = subst (λ t. pos 0 ≼ t) (sym (f ∙ ap sine e)) (steps-sine k h)
+
+pub step-cosine : (k a : ℕ) (z : ℤ) → k ≤ quarter-steps → pos a ≡ steps-angle (pos k) → z ≡ cosine (pos a) → pos 0 ≼ z
+step-cosine k a z h e f = subst (λ t. pos 0 ≼ t) (sym (f ∙ ap cosine e)) (steps-cosine k h)
+
+pub sine-at-most : (s : ℕ) (a : ℤ) → pos s ≡ sine a → s ≤ U
+sine-at-most s a e = leb→le s U (subst (λ t. t ≼ pos U) (sym e) (sine-range a .most) .le)
+
+pub cosine-at-most : (c : ℕ) (a : ℤ) → pos c ≡ cosine a → c ≤ U
+cosine-at-most c a e = leb→le c U (subst (λ t. t ≼ pos U) (sym e) (cosine-range a .most) .le)
+
+pub not-past-is : (x y k a s c : ℕ) → pos a ≡ steps-angle (pos k) → pos s ≡ sine (pos a) → pos c ≡ cosine (pos a) → leb (x * s) (y * c) ≡ not-past (pos x) (pos y) k
+unfolding not-past
+not-past-is x y k a s c e f g = ap₂ (λ u v. leZ (pos x *ℤ u) (pos y *ℤ v)) (f ∙ ap sine e) (g ∙ ap cosine e)
+
+-- ---- one turn of the halving
+-- `least` is not past, and `most` is past or the end
+pub record Between (x y least most : ℕ) : Type 0 where
+  pub order : least < most
+  pub end : most ≤ quarter-steps
+  pub low-not-past : not-past (pos x) (pos y) least ≡ true
+  pub high-past : (j : ℕ) → most ≤ j → j < quarter-steps → not-past (pos x) (pos y) j ≡ false
+
+pub between-all : (x y : ℕ) → Between x y 0 quarter-steps
+between-all x y = record {
+  order = lit< tt;
+  end = omega arith;
+  low-not-past = start-not-past x y;
+  high-past = λ j a b. absurd (omega arith);
+}
+
+pub between-up : (x y least most middle : ℕ) → Between x y least most → least < middle → middle < most → not-past (pos x) (pos y) middle ≡ true → Between x y middle most
+between-up x y least most middle b l h e = record { order = h; end = b .end; low-not-past = e; high-past = b .high-past }
+
+pub between-down : (x y least most middle : ℕ) → Between x y least most → least < middle → middle < most → not-past (pos x) (pos y) middle ≡ false → Between x y least middle
+between-down x y least most middle b l h e = record {
+  order = l;
+  end = lower-end (b .end);
+  low-not-past = b .low-not-past;
+  high-past = λ j a g. past-on x y middle j a (omega arith) e;
+}
+  where
+    lower-end : most ≤ quarter-steps → middle ≤ quarter-steps
+    lower-end d = omega arith
+
+pub between-done : (x y least most : ℕ) → Between x y least most → most ≤ least + 1 → least ≡ in-quarter (pos x) (pos y)
+unfolding in-quarter
+between-done x y least most b h =
+    sym (greatest-is (not-past (pos x) (pos y)) quarter-steps least (below (b .order) (b .end)) (b .low-not-past) (λ j a g. b .high-past j (omega arith) g))
+  where
+    below : least < most → most ≤ quarter-steps → least < quarter-steps
+    below p q = omega arith

@@ -3,3 +3,5 @@ pub mod Rising
 pub mod Quarter
 pub mod Halving
 pub mod Turns
+pub mod Steps
+pub mod Latitudes

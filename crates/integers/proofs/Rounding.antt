@@ -1,17 +1,17 @@
--- The order of rounded quotients, their size, and a factor of both numbers. Assumes nothing.
-use mathlib.Core.Path.{_≡_, refl, sym, subst}
+-- The order of rounded quotients, and a factor of both numbers. Assumes nothing.
+use mathlib.Core.Path.{_≡_}
 use mathlib.Core.List.{List, [], _∷_}
 use mathlib.Core.Logic.{_⊎_, inl, inr}
 use Prim.Native.Nat.{ℕ, zero, suc, _*_, _+_, _≤_, _<_}
 use native.Mathlib.Omega.{arith}
 use native.Mathlib.Nat.{mul-pos}
 use lib.Dec.{le→leb}
-use lib.IntN.{ℤ, pos, natAbs, _+ℤ_, _-ℤ_, _*ℤ_, negℤ}
+use lib.IntN.{ℤ, pos, _+ℤ_, _-ℤ_, _*ℤ_}
 use Rattle.integers.specs.Order.{_≼_, _≺_}
 use Rattle.integers.specs.Division.{floor, rounded}
 use Rattle.integers.proofs.Pairs.{nonneg}
 use Rattle.integers.proofs.Auto.{ring!, cert!, cert<!, polys, gap, gap<, _⊞_, _⊛_, _·_}
-use Rattle.integers.proofs.Order.{≼-or-≺, natAbs-low, natAbs-high, natAbs-le}
+use Rattle.integers.proofs.Order.{≼-or-≺}
 use Rattle.integers.proofs.Division.{floor-is, rounded-low, rounded-high}
 
 -- ---- rounding keeps the order, also past a multiple of the divisor
@@ -38,22 +38,6 @@ rounded-zero d h =
   where
     above : (d : ℕ) → 0 < d → pos 1 ≼ pos d
     above d h = record { le = le→leb 1 d h }
-
--- ---- the size of a rounded quotient
-pub rounded-bound : (n : ℤ) (d k : ℕ) → 0 < d → natAbs n ≤ d * k → natAbs (rounded n d) ≤ k
-rounded-bound n d k h l = natAbs-le (rounded n d) k below above
-  where
-    below : negℤ (pos k) ≼ rounded n d
-    below =
-        let b = natAbs-low n (d * k) l in
-        let c = rounded-le (pos 0) n (pos k) d h (cert! (n ∷ pos d ∷ pos k ∷ []) 0 (gap b) (search polys depth 60 fits 100000) (search polys depth 60 fits 100000) (search polys depth 60 fits 100000) tt) in
-        cert! (rounded n d ∷ pos k ∷ []) 0 (gap (subst (λ t. t ≼ pos k +ℤ rounded n d) (rounded-zero d h) c)) (search polys depth 60 fits 100000) (search polys depth 60 fits 100000) (search polys depth 60 fits 100000) tt
-
-    above : rounded n d ≼ pos k
-    above =
-        let b = natAbs-high n (d * k) l in
-        let c = rounded-le n (pos 0) (pos k) d h (cert! (n ∷ pos d ∷ pos k ∷ []) 0 (gap b) (search polys depth 60 fits 100000) (search polys depth 60 fits 100000) (search polys depth 60 fits 100000) tt) in
-        cert! (rounded n d ∷ pos k ∷ []) 0 (gap (subst (λ t. rounded n d ≼ pos k +ℤ t) (rounded-zero d h) c)) (search polys depth 60 fits 100000) (search polys depth 60 fits 100000) (search polys depth 60 fits 100000) tt
 
 -- ---- a factor of both numbers does not count
 pub rounded-scale : (k : ℕ) (n : ℤ) (d : ℕ) → 0 < k → 0 < d → rounded (pos k *ℤ n) (k * d) ≡ rounded n d

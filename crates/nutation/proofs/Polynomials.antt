@@ -10,9 +10,10 @@ use mir.Val.{SFits}
 use Rattle.integers.specs.Division.{rounded}
 use Rattle.integers.proofs.Auto.{ring!, polys}
 use Rattle.integers.proofs.Order.{natAbs-*, natAbs-+, fits}
-use Rattle.integers.proofs.Rounding.{rounded-bound, rounded-scale, rounded-zero}
+use Rattle.integers.proofs.Rounding.{rounded-scale, rounded-zero}
+use Rattle.arith.proofs.Ranges.{rounded-within}
 use Rattle.nutation.specs.Nutation.{polynomial}
-use Rattle.nutation.specs.Sizes.{By, reach}
+use Rattle.nutation.specs.Inner.{By, reach}
 
 -- ---- one step
 pub room : (v n d w : ℕ) → 0 < d → n ≤ d * 20 → 20 * v < w → v * n < d * w
@@ -21,10 +22,10 @@ room v n d w h k l = omega (arith, mul-le-mul-left v k, mul-le-mul-left d l)
 pub step-bound : (c v n : ℤ) (d : ℕ) → By n d → natAbs (c +ℤ rounded (v *ℤ n) d) ≤ natAbs c + 20 * natAbs v
 step-bound c v n d b =
     let a = natAbs-+ c (rounded (v *ℤ n) d) in
-    let p = rounded-bound (v *ℤ n) d (20 * natAbs v) (b .positive) product in
+    let p = rounded-within (v *ℤ n) d (20 * natAbs v) (b .positive) product in
     omega arith
   where
-    product : natAbs (v *ℤ n) ≤ d * (20 * natAbs v)
+    product : natAbs (v *ℤ n) ≤ 20 * natAbs v * d
     product = omega (arith, natAbs-* v n, mul-le-mul-left (natAbs v) (b .ratio))
 
 pub step-fits : (c v n : ℤ) (d : ℕ) → By n d → natAbs c + 20 * natAbs v < 2 ^ 63 - 1 → SFits w64 (c +ℤ rounded (v *ℤ n) d)
@@ -54,9 +55,9 @@ highest n d h c =
     ∙ ap (λ t. c +ℤ t) (rounded-zero d h) ∙ ring! (c ∷ []) (search polys depth 60 fits 100000) (search polys depth 60 fits 100000) tt
 
 -- a highest coefficient of 0 changes nothing
-pub highest-zero : (n : ℤ) (d : ℕ) → 0 < d → (cs : List ℤ) (c : ℤ) → polynomial n d (c ∷ pos 0 ∷ []) ≡ polynomial n d (c ∷ [])
+pub highest-zero : (n : ℤ) (d : ℕ) → 0 < d → (c : ℤ) → polynomial n d (c ∷ pos 0 ∷ []) ≡ polynomial n d (c ∷ [])
 unfolding polynomial
-highest-zero n d h cs c = ap (λ t. c +ℤ rounded (t *ℤ n) d) (highest n d h (pos 0))
+highest-zero n d h c = ap (λ t. c +ℤ rounded (t *ℤ n) d) (highest n d h (pos 0))
 
 -- by 10n/10d, as by n/d
 pub polynomial-scale : (k : ℕ) → 0 < k → (n : ℤ) (d : ℕ) → 0 < d → (cs : List ℤ) → polynomial (pos k *ℤ n) (k * d) cs ≡ polynomial n d cs

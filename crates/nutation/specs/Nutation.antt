@@ -6,8 +6,8 @@ use Rattle.integers.specs.Division.{rounded}
 use Rattle.units.specs.Units.{U, millennium}
 use Rattle.cosine.specs.Cosine.{cosine, sine}
 use Rattle.direction.specs.Angles.{units-angle}
-use Rattle.nutation.specs.declared.Row.{Row}
-use Rattle.nutation.specs.Table.{neg, rows}
+use Rattle.nutation_table.specs.declared.Row.{Row}
+use Rattle.nutation_table.specs.Table.{psi, psi-rate, eps, eps-rate, times-d, times-m, times-m1, times-f, times-node, neg, rows}
 
 -- "Highest power first, each product by n/d rounded": the coefficients from the constant one up.
 unfoldable pub polynomial : ℤ → ℕ → List ℤ → ℤ
@@ -40,7 +40,7 @@ moon-node t = argument t (pos 45016039814400 ∷ neg 696289026560000 ∷ pos 747
 
 -- "A row's s is the sum of its multipliers times the arguments."
 unfoldable pub row-sum : ℤ → Row → ℤ
-row-sum t r = r .elongation *ℤ mean-elongation t +ℤ r .sun *ℤ sun-anomaly t +ℤ r .moon *ℤ moon-anomaly t +ℤ r .latitude *ℤ latitude-argument t +ℤ r .node *ℤ moon-node t
+row-sum t r = times-d r *ℤ mean-elongation t +ℤ times-m r *ℤ sun-anomaly t +ℤ times-m1 r *ℤ moon-anomaly t +ℤ times-f r *ℤ latitude-argument t +ℤ times-node r *ℤ moon-node t
 
 -- "The units in a turn": 10^-8 arcsecond for the arguments, 10^-5 for the sums.
 abbrev pub argument-turn : ℕ
@@ -58,10 +58,10 @@ coefficient t first rate = pos 10 *ℤ first +ℤ rounded (rate *ℤ (pos 10 *�
 
 -- "times sine or cosine over U, rounded".
 unfoldable pub longitude-term : ℤ → Row → ℤ
-longitude-term t r = rounded (coefficient t (r .psi) (r .psit) *ℤ sine (row-angle t r)) U
+longitude-term t r = rounded (coefficient t (psi r) (psi-rate r) *ℤ sine (row-angle t r)) U
 
 unfoldable pub obliquity-term : ℤ → Row → ℤ
-obliquity-term t r = rounded (coefficient t (r .eps) (r .epst) *ℤ cosine (row-angle t r)) U
+obliquity-term t r = rounded (coefficient t (eps r) (eps-rate r) *ℤ cosine (row-angle t r)) U
 
 -- The terms of the rows, added to a sum in their order.
 unfoldable pub add-up : (Row → ℤ) → ℤ → List Row → ℤ

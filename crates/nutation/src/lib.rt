@@ -1,12 +1,8 @@
 // Nutation and obliquity at an instant: document 01, "Places".
 pub mod polynomial;
 
-// A row of document 000's table: the figures of longitude and obliquity in 10^-4 arcsecond, their rates in 10^-5 a century, and the multipliers of D, M, M', F and the node.
-pub struct Row {
-    pub psi: i64,
-    pub psit: i64,
-    pub eps: i64,
-    pub epst: i64,
+// D, M, M', F and the longitude of the node, each less its whole turns, in 10^-8 arcsecond.
+pub struct Arguments {
     pub elongation: i64,
     pub sun: i64,
     pub moon: i64,

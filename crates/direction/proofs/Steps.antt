@@ -1,0 +1,23 @@
+-- The angle of a number of steps, worked on naturals. Assumes nothing.
+use mathlib.Core.Path.{_≡_, refl, sym, ap, _∙_}
+use mathlib.Core.Bool.{true, false}
+use Prim.Native.Nat.{ℕ, _+_, _*_, _/_, _≤_, _<_}
+use native.Mathlib.Omega.{arith}
+use lib.Dec.{lit<}
+use lib.IntN.{ℤ, pos, _*ℤ_}
+use Rattle.integers.specs.Division.{rounded}
+use Rattle.integers.specs.Signs.{sgn, near}
+use Rattle.integers.proofs.Division.{rounded-near, near-shift}
+use Rattle.units.specs.Units.{turn}
+use Rattle.direction.specs.Angles.{units-angle}
+use Rattle.direction.specs.Direction.{turn-steps, steps-angle}
+
+split : (k : ℕ) → k * turn ≡ k * 484813 * turn-steps + k * 88271796
+split k = omega arith
+
+near-steps : (k : ℕ) → near false (k * turn) turn-steps ≡ k * 484813 + near false (k * 88271796) turn-steps
+near-steps k = ap (λ (m : ℕ). near false m turn-steps) (split k) ∙ near-shift false (k * 484813) (k * 88271796) turn-steps (lit< tt)
+
+pub step-is : (k : ℕ) → pos (k * 484813 + (2 * (k * 88271796) + 129600000) / 259200000) ≡ steps-angle (pos k)
+unfolding steps-angle units-angle sgn near
+step-is k = sym (rounded-near false (k * turn) turn-steps (lit< tt) ∙ ap pos (near-steps k))

@@ -1,0 +1,3 @@
+-- Document 000's table of nutation.
+pub mod Table
+pub mod Small
