@@ -260,7 +260,7 @@ fn take_block(
 }
 
 // Reads a packed series into a term table: the numbers of its terms, and for each block the place where it ends. The answer
-// is the number of terms, or the refusal; the table then holds nothing that can be relied on.
+// is the number of terms, or the refusal; after a refusal the table holds nothing that can be relied on.
 pub fn unpack(
     bytes: &[u8],
     a: &mut [i64; 8192],
