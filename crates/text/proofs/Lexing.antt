@@ -135,7 +135,7 @@ natural-run base top S l m d ds n g h k =
     ∙ more-run base top S ds l (base + 1) m d 1 (g .digits) (omega arith) (omega (arith, g .few)) (g .digit) (omega (arith, g .few)) (g .leading)
 
 -- The eleven decimals.
-pub parts-run : (ds : List ℕ) (l : Line) (s m v n : ℕ) → AllDigits ds → 7 ≤ s → s + length ds ≡ 18 → v < 10 ^ n → n + length ds ≤ 17
+pub parts-run : (ds : List ℕ) (l : Line) (s m v n : ℕ) → AllDigits ds → 7 ≤ s → s + length ds ≡ 18 → v < 10 ^ n → n + length ds ≤ 18
     → (m ≡ 0) ⊎ (0 < numeral v ds) → lexes (put l s m v) (digits ds) ≡ put l 18 m (numeral v ds)
 unfolding lexes digits numeral AllDigits
 parts-run [] l s m v n a h k p q z = let e : s ≡ 18 = omega arith in rw e

@@ -10,5 +10,7 @@ pub mod Lines
 pub mod Verdicts
 pub mod Accepting
 pub mod Taking
+pub mod Prefixes
+pub mod Leaving
 pub mod Ending
 pub mod Theorems

@@ -96,7 +96,7 @@ not-after l byte n = go (lex l byte) (view l byte)
     go _ (kept i h k) = λ e. omega (arith, e)
     go _ (negated i h k) = λ e. omega (arith, e)
 
-bad-end : (l : Line) (xs : List ℕ) → l .spot ≡ 31 → lexes l xs .spot ≡ 31
+pub bad-end : (l : Line) (xs : List ℕ) → l .spot ≡ 31 → lexes l xs .spot ≡ 31
 unfolding lexes
 bad-end l [] e = e
 bad-end l (x ∷ xs) e = bad-end (lex l x) xs (go (lex l x) (view l x))
@@ -216,11 +216,11 @@ feed-line r out xs p g t =
     }
 
 -- The byte at the end of what a usize counts stops the reader.
-step-last : (r : Reader) (out : List ℕ) (x : ℕ) → r .status ≡ 0 → r .at ≡ last → step r out x ≡ stopped r 3
+pub step-last : (r : Reader) (out : List ℕ) (x : ℕ) → r .status ≡ 0 → r .at ≡ last → step r out x ≡ stopped r 3
 unfolding step uncounted
 step-last r out x s e = rw (eq-eqb (r .status) 0 s, eq-eqb (r .at) last e)
 
-byte-line : (r : Reader) (out : List ℕ) (x : ℕ) (xs : List ℕ) → Going r → (x ≡ 10 → ⊥) → (lex (r .line) x .spot ≡ 31 → ⊥)
+pub byte-line : (r : Reader) (out : List ℕ) (x : ℕ) (xs : List ℕ) → Going r → (x ≡ 10 → ⊥) → (lex (r .line) x .spot ≡ 31 → ⊥)
     → NextLine (inLine r (lex (r .line) x)) out xs → NextLine r out (x ∷ xs)
 unfolding lexes run
 byte-line r out x xs g h k n =

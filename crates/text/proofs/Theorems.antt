@@ -10,9 +10,14 @@ use Rattle.packed.specs.Limits.{no-sums}
 use Rattle.packed.specs.Series.{summed, pack-terms, pack}
 use Rattle.text.specs.declared.Reader.{Reader}
 use Rattle.text.specs.declared.Outcome.the-variants.{Accepted}
-use Rattle.text.specs.Reader.{begun, nextSpot, step, stepOut, Run, run, ended, told, whole}
+use Rattle.text.specs.Reader.{begun, nextSpot, step, stepOut, Run, run, stopped, ended, told, whole}
 use Rattle.text.specs.Grammar.{Block, linesBytes, termsIn, blocksBytes, blocksIn, GoodText, InLimits}
-use Rattle.text.proofs.Lines.{last, stays}
+use Rattle.text.proofs.Lexing.{lexes-append}
+use Rattle.text.proofs.Lines.{last, Going, stays}
+use Rattle.text.proofs.Prefixes.{BeginsTerm, term-begins, term-goes-on, BeginsCount, count-begins, count-goes-on, refused-by}
+use Rattle.text.proofs.Leaving.{Leaves, leaves}
+use Rattle.text.specs.declared.Line.{Line}
+use Rattle.text.specs.Lexer.{fresh, lex, lexes}
 use Rattle.text.proofs.Accepting.{rest-in}
 use Rattle.text.proofs.Ending.{accepted-by, nothing}
 use Rattle.text.proofs.Taking.{blocks-run}
@@ -89,3 +94,25 @@ accepted-text text out n e =
       room = omega arith;
       written = rw z at (r .wrote);
     }
+
+-- Any text, accepted or refused, leaves in the output the packed form of its whole lines before the refusal, or before its end, and nothing
+-- else; a refusal stands in the line after these.
+pub output : (text out : List ℕ) → Leaves 0 0 out text (run begun out text)
+output = leaves
+
+-- Refusal 3: in a line whose bytes so far are xs, a byte other than a line feed is refused exactly when no line of the grammar begins with
+-- these bytes and it.
+module _ (r : Reader) (out xs : List ℕ) (byte : ℕ) (going : Going r) (no-feed : byte ≡ 10 → ⊥) where
+  pub bad-term : r .line ≡ lexes (fresh 0) xs → (step r out byte ≡ stopped r 3 → BeginsTerm (xs ++ (byte ∷ [])) → ⊥) × ((BeginsTerm (xs ++ (byte ∷ [])) → ⊥) → step r out byte ≡ stopped r 3)
+  unfolding lexes
+  bad-term e =
+      let s : lex (r .line) byte .spot ≡ lexes (fresh 0) (xs ++ (byte ∷ [])) .spot = ap (λ (l : Line). lex l byte .spot) e ∙ ap (λ (l : Line). l .spot) (sym (lexes-append (fresh 0) xs (byte ∷ []))) in
+      refused-by r out byte going no-feed (BeginsTerm (xs ++ (byte ∷ [])))
+      (λ k. term-begins (xs ++ (byte ∷ [])) (λ q. k (s ∙ q))) (λ b q. term-goes-on (xs ++ (byte ∷ [])) b (sym s ∙ q))
+
+  pub bad-count : r .line ≡ lexes (fresh 20) xs → (step r out byte ≡ stopped r 3 → BeginsCount (xs ++ (byte ∷ [])) → ⊥) × ((BeginsCount (xs ++ (byte ∷ [])) → ⊥) → step r out byte ≡ stopped r 3)
+  unfolding lexes
+  bad-count e =
+      let s : lex (r .line) byte .spot ≡ lexes (fresh 20) (xs ++ (byte ∷ [])) .spot = ap (λ (l : Line). lex l byte .spot) e ∙ ap (λ (l : Line). l .spot) (sym (lexes-append (fresh 20) xs (byte ∷ []))) in
+      refused-by r out byte going no-feed (BeginsCount (xs ++ (byte ∷ [])))
+      (λ k. count-begins (xs ++ (byte ∷ [])) (λ q. k (s ∙ q))) (λ b q. count-goes-on (xs ++ (byte ∷ [])) b (sym s ∙ q))

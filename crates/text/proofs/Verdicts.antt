@@ -146,7 +146,7 @@ term-kind (x ∷ xs) l h = term-kind xs (lex l x) (go (lex l x) (view l x))
     go _ (kept i k j) = inl (omega arith)
     go _ (negated i k j) = inl (omega arith)
 
-early-never : {P : Type 0} (r : Reader) → wholeCount (r .line) ≡ false → wholeTerm (r .line) ≡ false → verdict r .refusal ≡ 0 → P
+pub early-never : {P : Type 0} (r : Reader) → wholeCount (r .line) ≡ false → wholeTerm (r .line) ≡ false → verdict r .refusal ≡ 0 → P
 early-never r p q g = let e = sym (verdict-early r p q) ∙ g in absurd (omega (arith, e))
 
 -- A line feed that is not refused ends a count after counts, and a term after terms.

@@ -11,7 +11,8 @@ use Rattle.integers.specs.Signs.{sgn}
 use Rattle.packed.specs.declared.Term.{Term}
 use Rattle.packed.specs.declared.Sums.{Sums}
 use Rattle.packed.specs.Limits.{block-count, no-sums, opened, added, factor, count-fits, a-fits, b-fits, c-fits, total-fits, coarse-fits}
-use Rattle.packed.specs.Series.{after-block}
+use Rattle.packed.specs.Numbers.{encode}
+use Rattle.packed.specs.Series.{after-block, pack-term}
 
 -- The bytes: line feed, space, minus, point, digits.
 abbrev pub feed : ℕ
@@ -105,6 +106,40 @@ pub record GoodTerm (l : TermLine) : Type 0 where
 -- The term of a line. (A b below zero is past its limit.)
 abbrev pub termIn : TermLine → Term
 termIn l = record { a = value (l .a); b = size (l .b); c = value (l .c) }
+
+-- Some lines of either kind, each with its line feed; their packed form.
+pub data AnyLine : Type 0 where
+  a-count : CountLine → AnyLine
+  a-term : TermLine → AnyLine
+
+unfoldable pub lineBytes : AnyLine → List ℕ
+lineBytes (a-count l) = countBytes l
+lineBytes (a-term l) = termBytes l
+
+unfoldable pub linePacked : AnyLine → List ℕ
+linePacked (a-count l) = encode (count l)
+linePacked (a-term l) = pack-term (termIn l)
+
+unfoldable pub GoodLine : AnyLine → Type 0
+GoodLine (a-count l) = GoodCount l
+GoodLine (a-term l) = GoodTerm l
+
+unfoldable pub anyBytes : List AnyLine → List ℕ
+anyBytes [] = []
+anyBytes (l ∷ ls) = lineBytes l ++ (feed ∷ anyBytes ls)
+
+unfoldable pub anyPacked : List AnyLine → List ℕ
+anyPacked [] = []
+anyPacked (l ∷ ls) = linePacked l ++ anyPacked ls
+
+unfoldable pub GoodLines : List AnyLine → Type 0
+GoodLines [] = Unit {0}
+GoodLines (l ∷ ls) = GoodLine l × GoodLines ls
+
+-- No byte is a line feed.
+unfoldable pub NoFeed : List ℕ → Type 0
+NoFeed [] = Unit {0}
+NoFeed (b ∷ bs) = (b ≡ feed → ⊥) × NoFeed bs
 
 -- A block: its count, then that many terms; and 18 of them.
 pub record Block : Type 0 where
