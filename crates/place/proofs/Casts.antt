@@ -1,0 +1,34 @@
+-- Whole numbers as doubles: the cast is exact below 2^53, and the divisors are whole numbers too. Assumes nothing.
+use mathlib.Core.Path.{_≡_, refl, sym, ap, _∙_, subst}
+use Prim.Native.Nat.{ℕ, _^_, _≤_, _<_}
+use native.Mathlib.Omega.{arith}
+use lib.Dec.{T, le→leb, lt→ltb}
+use lib.IntN.{ℤ, pos, negsuc, natAbs}
+use lib.Ieee.{Float, binary64, ofInt, ofBits, div, inFloat}
+use Rattle.vectors.proofs.Cells.{Cell, cell}
+use Rattle.place.specs.Mount.{degrees, astronomical-units}
+
+exact : (k : ℤ) → natAbs k ≤ 2 ^ 52 → T (inFloat binary64 k)
+unfolding inFloat
+exact (pos n) h = le→leb n (2 ^ 53) (omega arith)
+exact (negsuc n) h = lt→ltb n (2 ^ 53) (omega arith)
+
+pub cast-asks : (k : ℤ) → natAbs k ≤ 2 ^ 52 → T (inFloat binary64 (Cell k))
+cast-asks k h = subst (λ (z : ℤ). T (inFloat binary64 z)) (sym (cell k (omega arith))) (exact k h)
+
+-- 360000.0 and 1e11, by their bits.
+divisor-of-degrees : ofBits binary64 4689928365371555840 ≡ ofInt binary64 (pos 360000)
+unfolding ofBits ofInt
+divisor-of-degrees = refl
+
+pub degrees-are : (k : ℤ) → natAbs k ≤ 2 ^ 52 → div binary64 (ofInt binary64 (Cell k)) (ofBits binary64 4689928365371555840) ≡ degrees k
+unfolding degrees
+degrees-are k h = rw (cell k (omega arith), divisor-of-degrees)
+
+divisor-of-distances : ofBits binary64 4771362005757984768 ≡ ofInt binary64 (pos 100000000000)
+unfolding ofBits ofInt
+divisor-of-distances = refl
+
+pub astronomical-units-are : (k : ℤ) → natAbs k ≤ 2 ^ 52 → div binary64 (ofInt binary64 (Cell k)) (ofBits binary64 4771362005757984768) ≡ astronomical-units k
+unfolding astronomical-units
+astronomical-units-are k h = rw (cell k (omega arith), divisor-of-distances)

@@ -1,0 +1,5 @@
+-- Document 01, "Places": from two series and an instant to the apparent place, and to the mount's answer.
+pub mod Apparent
+pub mod Place
+pub mod Mount
+pub mod Sizes
