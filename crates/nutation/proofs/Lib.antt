@@ -1,2 +1,4 @@
 -- Laws of the definitions of specs/.
 pub mod Polynomials
+pub mod Terms
+pub mod Sums

@@ -2,8 +2,10 @@
 use mathlib.Core.Path.{_≡_}
 use mathlib.Core.List.{List, [], _∷_}
 use Prim.Native.Nat.{ℕ, _+_, _*_, _≤_, _<_, _^_}
-use lib.IntN.{ℤ, pos, natAbs}
+use lib.IntN.{ℤ, pos, natAbs, _+ℤ_, _*ℤ_}
 use Rattle.integers.specs.Division.{modulo}
+use Rattle.nutation_table.specs.declared.Row.{Row}
+use Rattle.nutation_table.specs.Table.{times-d, times-m, times-m1, times-f, times-node}
 use Rattle.nutation.specs.declared.Arguments.{Arguments}
 use Rattle.nutation.specs.Nutation.{mean-elongation, sun-anomaly, moon-anomaly, latitude-argument, moon-node, argument-turn}
 
@@ -30,3 +32,7 @@ pub record At (t : ℤ) (a : Arguments) : Type 0 where
   pub moon-at : a .moon ≡ less-turns (moon-anomaly t)
   pub latitude-at : a .latitude ≡ less-turns (latitude-argument t)
   pub node-at : a .node ≡ less-turns (moon-node t)
+
+-- A row's s, with arguments less their whole turns.
+unfoldable pub combined : Row → Arguments → ℤ
+combined r a = times-d r *ℤ a .elongation +ℤ times-m r *ℤ a .sun +ℤ times-m1 r *ℤ a .moon +ℤ times-f r *ℤ a .latitude +ℤ times-node r *ℤ a .node

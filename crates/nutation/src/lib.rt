@@ -1,5 +1,8 @@
 // Nutation and obliquity at an instant: document 01, "Places".
+pub mod inner;
+pub mod moon;
 pub mod polynomial;
+pub mod rows;
 
 // D, M, M', F and the longitude of the node, each less its whole turns, in 10^-8 arcsecond.
 pub struct Arguments {
@@ -8,4 +11,16 @@ pub struct Arguments {
     pub moon: i64,
     pub latitude: i64,
     pub node: i64,
+}
+
+// The nutation in longitude and in obliquity, in 10^-5 arcsecond.
+pub struct Nutation {
+    pub longitude: i64,
+    pub obliquity: i64,
+}
+
+// The angle of the nutation in longitude and that of the true obliquity, in 10^-13 radian.
+pub struct Angles {
+    pub nutation: i64,
+    pub obliquity: i64,
 }

@@ -1,0 +1,33 @@
+// What the crate `place` calls: the nutation and the true obliquity as angles. For the crates above.
+ghost use mathlib.Core.Path.{_≡_};
+ghost use Prim.Native.Nat.{_≤_, _^_};
+ghost use lib.IntN.{natAbs};
+ghost use Rattle.units.specs.Units.{t-limit};
+ghost use Rattle.nutation.specs.Nutation.{mean-obliquity, nutation-angle, obliquity-angle};
+use crate::Angles;
+use crate::polynomial::polynomial;
+use crate::rows::nutation_at;
+use arith::signed::add;
+use direction::inner::units_angle;
+
+// The mean obliquity at t milliseconds, in 10^-5 arcsecond: its polynomial is in tau, so by t/T.
+pub fn mean_obliquity_at(t: i64) -> i64
+    requires { ⌜ natAbs t ≤ t-limit ⌝ }
+    ensures { λ r. ⌜ (r ≡ mean-obliquity t) × (natAbs r ≤ 2 ^ 34) ⌝ }
+{
+    polynomial(t, 31557600000000, 8438144800, -46815000, -5900, 181300, 0)
+}
+
+// The nutation in longitude and the true obliquity at t milliseconds, as angles in 10^-13 radian.
+pub fn angles_at(t: i64) -> Angles
+    requires { ⌜ natAbs t ≤ t-limit ⌝ }
+    ensures { λ r. ⌜ (r .nutation ≡ nutation-angle t) × (r .obliquity ≡ obliquity-angle t) ⌝ }
+{
+    let n = nutation_at(t);
+    let mean = mean_obliquity_at(t);
+    let obliquity = add(mean, n.obliquity);
+    Angles {
+        nutation: units_angle(n.longitude, 129600000000),
+        obliquity: units_angle(obliquity, 129600000000),
+    }
+}

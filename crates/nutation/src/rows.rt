@@ -1,0 +1,93 @@
+// A row's terms, and the sums over all rows. For this crate and those above.
+ghost use mathlib.Core.Path.{_≡_};
+ghost use Prim.Native.Nat.{_+_, _*_, _<_, _≤_, _^_};
+ghost use lib.IntN.{natAbs, _+ℤ_, _*ℤ_};
+ghost use Rattle.units.specs.Units.{t-limit};
+ghost use Rattle.cosine.specs.Cosine.{cosine, sine};
+ghost use Rattle.direction.specs.Angles.{units-angle};
+ghost use Rattle.nutation_table.specs.Small.{Small};
+ghost use Rattle.nutation.specs.Nutation.{argument-turn, coefficient, longitude-term, obliquity-term, longitude-nutation, obliquity-nutation};
+ghost use Rattle.nutation.specs.Inner.{At, combined};
+use crate::Arguments;
+use crate::Nutation;
+use crate::moon::arguments_at;
+use crate::polynomial::next;
+use arith::muldiv::scale;
+use arith::residue::residue;
+use arith::signed::add;
+use arith::signed::low;
+use arith::signed::mul;
+use arith::signed::wide;
+use cosine::inner::Trig;
+use cosine::inner::cosine_sine;
+use direction::inner::units_angle;
+use nutation_table::Row;
+use nutation_table::row_at;
+
+// s and the product of m and a.
+pub fn plus_product(s: i64, m: i64, a: i64) -> i64
+    requires { ⌜ (natAbs s ≤ 2 ^ 60) × (natAbs m ≤ 4) × (natAbs a ≤ 2 ^ 47) ⌝ }
+    ensures { λ r. ⌜ (r ≡ s +ℤ m *ℤ a) × (natAbs r ≤ natAbs s + 2 ^ 49) ⌝ }
+{
+    add(s, mul(m, a))
+}
+
+// The row's s, with the arguments less their whole turns.
+pub fn row_sum(t: i64, r: Row, a: Arguments) -> i64
+    requires { ⌜ Small r × At t a ⌝ }
+    ensures { λ s. ⌜ s ≡ combined r a ⌝ }
+{
+    let s1 = plus_product(0, r.4, a.elongation);
+    let s2 = plus_product(s1, r.5, a.sun);
+    let s3 = plus_product(s2, r.6, a.moon);
+    let s4 = plus_product(s3, r.7, a.latitude);
+    plus_product(s4, r.8, a.node)
+}
+
+// Cosine and sine of the angle of s.
+pub fn trig_of(s: i64) -> Trig
+    ensures { λ r. ⌜ (r .cos ≡ cosine (units-angle argument-turn s)) × (r .sin ≡ sine (units-angle argument-turn s)) ⌝ }
+{
+    let x = wide(residue(s, 129600000000000));
+    cosine_sine(low(units_angle(x, 129600000000000)))
+}
+
+// Ten times the first figure and the rounded rate part.
+pub fn coefficient_at(t: i64, first: i64, rate: i64) -> i64
+    requires { ⌜ (natAbs t ≤ t-limit) × (natAbs first ≤ 171996) × (natAbs rate ≤ 1742) ⌝ }
+    ensures { λ r. ⌜ (r ≡ coefficient t first rate) × (natAbs r ≤ 1754800) ⌝ }
+{
+    next(mul(10, first), rate, t, 3155760000000)
+}
+
+// The sums with a row's terms added.
+pub fn add_row(sum: Nutation, t: i64, r: Row, a: Arguments) -> Nutation
+    requires { ⌜ (natAbs t ≤ t-limit) × Small r × At t a × (natAbs (sum .longitude) ≤ 2 ^ 40) × (natAbs (sum .obliquity) ≤ 2 ^ 40) ⌝ }
+    ensures { λ n. ⌜ (n .longitude ≡ sum .longitude +ℤ longitude-term t r) × (n .obliquity ≡ sum .obliquity +ℤ obliquity-term t r) ⌝ }
+{
+    let w = trig_of(row_sum(t, r, a));
+    let psi = scale(coefficient_at(t, r.0, r.1), w.sin);
+    let eps = scale(coefficient_at(t, r.2, r.3), w.cos);
+    Nutation {
+        longitude: add(sum.longitude, psi),
+        obliquity: add(sum.obliquity, eps),
+    }
+}
+
+// The nutation at t milliseconds: the terms of the rows in their order.
+pub fn nutation_at(t: i64) -> Nutation
+    requires { ⌜ natAbs t ≤ t-limit ⌝ }
+    ensures { λ n. ⌜ (n .longitude ≡ longitude-nutation t) × (n .obliquity ≡ obliquity-nutation t) × (natAbs (n .longitude) ≤ 2 ^ 28) × (natAbs (n .obliquity) ≤ 2 ^ 28) ⌝ }
+{
+    let a = arguments_at(t);
+    let mut sum = Nutation {
+        longitude: 0,
+        obliquity: 0,
+    };
+    let mut i: usize = 0;
+    while i < 106 {
+        sum = add_row(sum, t, row_at(i), a);
+        i += 1;
+    }
+    sum
+}
