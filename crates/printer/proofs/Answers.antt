@@ -1,7 +1,7 @@
 -- What the printer answers, from what `unpack` and the loops over its table give. Assumes nothing.
-use mathlib.Core.Path.{_≡_, refl, sym, ap, _∙_, subst}
-use mathlib.Core.List.{List, [], _∷_}
-use Prim.Native.Nat.{ℕ, zero, suc, _+_, _≤_, _<_}
+use mathlib.Core.Path.{_≡_, refl, sym, ap, _∙_}
+use mathlib.Core.List.{List}
+use Prim.Native.Nat.{ℕ, _+_, _≤_, _<_}
 use native.Mathlib.Omega.{arith}
 use borrow.Author.Tests.{lt-leb, le-leb}
 use lib.IntN.{ℤ}
@@ -9,14 +9,12 @@ use lib.ListN.{length}
 use Rattle.units.specs.declared.Refusal.{Refusal}
 use Rattle.units.specs.declared.Refusal.the-variants.{NoRoom}
 use Rattle.packed.specs.declared.Term.{Term}
-use Rattle.packed.specs.declared.Sums.{Sums}
 use Rattle.packed.specs.declared.Checked.the-variants.{NoSeries}
-use Rattle.packed.specs.Limits.{coarse-limit, series-limit, block-count, no-sums}
-use Rattle.packed.specs.Numbers.{Read, got, bad, next}
-use Rattle.packed.specs.Series.{read-block, read-blocks, read-series, after-block, Parsed, accepted, refused, ended, parse, checked, term-count}
-use Rattle.packed.specs.Tables.{Sized, Holds, table-blocks, block-ends, unpacked}
-use Rattle.packed.proofs.Accepting.{Twice, next-got}
-use Rattle.packed.proofs.Blocks.{Within, AfterBlock, block-accepted, block-sums}
+use Rattle.packed.specs.Limits.{series-limit}
+use Rattle.packed.specs.Series.{Parsed, accepted, refused, parse, checked, term-count}
+use Rattle.packed.specs.Tables.{Holds, table-blocks, unpacked}
+use Rattle.packed.specs.Allowed.{Allowed}
+use Rattle.packed.proofs.Theorems.{accepted-allowed}
 use Rattle.printer.specs.declared.Printed.{Printed}
 use Rattle.printer.specs.declared.Printed.the-variants.{Length, NoText}
 use Rattle.printer.specs.Printer.{plain-text, text-fits, printed, printed-out}
@@ -32,35 +30,6 @@ module _ (blocks : List (List Term)) (out : List ℕ) (n : ℕ) (e : n ≡ lengt
   pub table-fits : (to : ℕ) (after : List ℕ) → n ≤ length out → Wrote (plain-text blocks) 0 out to after → (Length n ≡ printed (accepted blocks) out) × (after ≡ printed-out (accepted blocks) out)
   unfolding printed printed-out text-fits
   table-fits to after h w = let f = le-leb (length (plain-text blocks)) (length out) (rw e at h) in (rw (f, e), rw f (w .holds))
-
--- The terms of an accepted series are within their limit.
-blocks-few : (n k : ℕ) (s : Sums) (at : ℕ) (x : List ℕ) (blocks : List (List Term)) (to : ℕ) (rest : List ℕ) → read-blocks n k s at x ≡ got blocks to rest → s .coarse ≤ coarse-limit → s .terms ≤ series-limit → s .terms + term-count blocks ≤ series-limit
-unfolding read-blocks term-count
-blocks-few zero k s at x blocks to rest e h l =
-    let p : [] ≡ blocks = cc in
-    subst (λ (b : List (List Term)). s .terms + term-count b ≤ series-limit) p (omega arith)
-blocks-few (suc n) k s at x blocks to rest e h l =
-    let a = next-got (read-block k s at x) _ e in
-    let b = next-got (read-blocks n (k + 1) (after-block k s (a .x)) (a .at) (a .rest)) _ (a .second) in
-    let g = block-sums k s at x (a .x) (a .at) (a .rest) h (block-accepted k s at x (a .x) (a .at) (a .rest) (a .first)) in
-    let r = blocks-few n (k + 1) (after-block k s (a .x)) (a .at) (a .rest) (b .x) (b .at) (b .rest) (b .first) (g .within .coarse) (g .few) in
-    let p : a .x ∷ b .x ≡ blocks = cc in
-    subst (λ (b : List (List Term)). s .terms + term-count b ≤ series-limit) p (omega (arith, r, g .terms))
-
-pub accepted-few : (s : List ℕ) (blocks : List (List Term)) → parse s ≡ accepted blocks → term-count blocks ≤ series-limit
-unfolding parse read-series ended
-accepted-few s blocks e = go (read-blocks block-count 0 no-sums 0 s) refl e
-  where
-    go : (r : Read (List (List Term))) → read-blocks block-count 0 no-sums 0 s ≡ r → ended r ≡ accepted blocks → term-count blocks ≤ series-limit
-    go (got b at []) f e =
-        let p : b ≡ blocks = cc in
-        let r = blocks-few block-count 0 no-sums 0 s b at [] f (omega arith) (omega arith) in
-        rw p at (plus r)
-      where
-        plus : 0 + term-count b ≤ series-limit → term-count b ≤ series-limit
-        plus h = omega arith
-    go (got b at (x ∷ rest)) f e = let z : _≡_ {A = ℕ} 0 1 = cc in absurd (omega arith)
-    go (bad q) f e = let z : _≡_ {A = ℕ} 0 1 = cc in absurd (omega arith)
 
 -- A refused series.
 pub print-refused : (s out : List ℕ) (q : Refusal) → checked (parse s) ≡ NoSeries q → (NoText q ≡ printed (parse s) out) × (out ≡ printed-out (parse s) out)
@@ -82,7 +51,7 @@ opened s la lb lc ends n u = go (parse s) refl n u
   where
     go : (p : Parsed) → parse s ≡ p → ((q : Refusal) → checked p ≡ NoSeries q → ⊥) → unpacked p la lb lc ends → Opened s la lb lc ends
     go (accepted blocks) f n h =
-        record { is = f ∙ ap accepted (sym (h .table)); ordered = rw (h .places) (ends-ordered 0 blocks (plus (accepted-few s blocks f))) }
+        record { is = f ∙ ap accepted (sym (h .table)); ordered = rw (h .places) (ends-ordered 0 blocks (plus (accepted-allowed s blocks f .few))) }
       where
         plus : term-count blocks ≤ series-limit → 0 + term-count blocks ≤ series-limit
         plus h = omega arith

@@ -62,13 +62,17 @@ pub further-bound : (v : ℕ) → v < 10 ^ 20 → v < 10 ^ suc (further-digits v
 unfolding further-digits
 further-bound v h = further-enough 19 v h
 
+pub div-power : (n v : ℕ) → v / 10 / 10 ^ n ≡ v / 10 ^ suc n
+div-power n v = div-div-eq-div-mul v 10 (10 ^ n) ∙ ap (λ (k : ℕ). v / k) (sym (pow-succ' 10 n))
+
+pub first-small : (v n : ℕ) → v < 10 ^ suc n → v / 10 ^ n < 10
+first-small v n h = div-lt-iff-lt-mul {k = 10 ^ n} {x = v} {y = 10} (one-le-pow n 10 (omega arith)) .1 (rw (pow-succ' 10 n) at h)
+
 -- The first of the last digits.
 pub last-first : (n v : ℕ) → last-digits (suc n) v ≡ (v / 10 ^ n % 10) ∷ last-digits n v
 unfolding last-digits
 last-first zero v = let e : v / 1 ≡ v = omega arith in rw e
-last-first (suc n) v =
-    let e : v / 10 / 10 ^ n ≡ v / 10 ^ suc n = div-div-eq-div-mul v 10 (10 ^ n) ∙ ap (λ (k : ℕ). v / k) (sym (pow-succ' 10 n)) in
-    rw (← e) (ap (λ (l : List ℕ). l ++ (v % 10) ∷ []) (last-first n (v / 10)))
+last-first (suc n) v = rw (← div-power n v) (ap (λ (l : List ℕ). l ++ (v % 10) ∷ []) (last-first n (v / 10)))
 
 -- The digits of a whole number are all its last digits.
 pub whole-digits : (v : ℕ) → v < 10 ^ 20 → digits (last-digits (suc (further-digits v)) v) ≡ whole-text v
@@ -76,9 +80,7 @@ unfolding whole-text first-digit rest-digits
 whole-digits v h = ap digits (last-first (further-digits v) v ∙ ap (λ (d : ℕ). d ∷ last-digits (further-digits v) v) (small v (further-digits v) (further-bound v h)))
   where
     small : (v n : ℕ) → v < 10 ^ suc n → v / 10 ^ n % 10 ≡ v / 10 ^ n
-    small v n h =
-        let l : v / 10 ^ n < 10 = div-lt-iff-lt-mul {k = 10 ^ n} {x = v} {y = 10} (one-le-pow n 10 (omega arith)) .1 (rw (pow-succ' 10 n) at h) in
-        omega arith
+    small v n h = let l = first-small v n h in omega arith
 
 pub length-digits : (ds : List ℕ) → length (digits ds) ≡ length ds
 unfolding digits

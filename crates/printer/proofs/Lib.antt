@@ -4,3 +4,8 @@ pub mod Figures
 pub mod Pieces
 pub mod Tables
 pub mod Answers
+pub mod Numerals
+pub mod Reading
+pub mod Series
+pub mod Longest
+pub mod Theorems

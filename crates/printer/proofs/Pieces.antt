@@ -20,16 +20,19 @@ pub decimal-pieces : (minus : Bool) (v : ℕ) → decimal (plain-decimal minus v
 unfolding decimal plain-decimal whole-text joined
 decimal-pieces minus v = rw (append-nil (digits (last-digits 11 v)))
 
-pub decimal-length : (minus : Bool) (v n : ℕ) → n ≡ length (whole-text (v / 100000000000)) → n ≤ 20 → (n + 12 + length (sign minus) ≡ length (decimal (plain-decimal minus v))) × (n + 12 + length (sign minus) ≤ 33)
-unfolding total sign
-decimal-length minus v n e h = (omega (arith, size, length-digits (last-digits 11 v), length-last 11 v), omega (arith, sign-length minus))
-  where
-    size : length (decimal (plain-decimal minus v)) ≡ length (sign minus) + (length (whole-text (v / 100000000000)) + (1 + (length (digits (last-digits 11 v)) + 0)))
-    size = ap length (decimal-pieces minus v) ∙ length-joined (sign minus ∷ whole-text (v / 100000000000) ∷ (46 ∷ []) ∷ digits (last-digits 11 v) ∷ [])
+pub decimal-size : (minus : Bool) (v : ℕ) → length (decimal (plain-decimal minus v)) ≡ length (sign minus) + length (whole-text (v / 100000000000)) + 12
+unfolding total
+decimal-size minus v =
+    let p : List (List ℕ) = sign minus ∷ whole-text (v / 100000000000) ∷ (46 ∷ []) ∷ digits (last-digits 11 v) ∷ [] in
+    omega (arith, ap length (decimal-pieces minus v) ∙ length-joined p, length-digits (last-digits 11 v), length-last 11 v)
 
-    sign-length : (m : Bool) → length (sign m) ≤ 1
-    sign-length true = omega arith
-    sign-length false = omega arith
+pub sign-length : (m : Bool) → length (sign m) ≤ 1
+unfolding sign
+sign-length true = omega arith
+sign-length false = omega arith
+
+pub decimal-length : (minus : Bool) (v n : ℕ) → n ≡ length (whole-text (v / 100000000000)) → n ≤ 20 → (n + 12 + length (sign minus) ≡ length (decimal (plain-decimal minus v))) × (n + 12 + length (sign minus) ≤ 33)
+decimal-length minus v n e h = (omega (arith, decimal-size minus v), omega (arith, sign-length minus))
 
 -- A sign: a minus, or nothing.
 pub minus-length : (m : Bool) → m ≡ true → length (sign m) ≡ 1

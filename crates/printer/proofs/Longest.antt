@@ -1,0 +1,59 @@
+-- How long the text of a series within the limits can be: 53 bytes a term, 5 a count. Assumes nothing.
+use mathlib.Core.Path.{_≡_, refl, sym, ap, _∙_}
+use mathlib.Core.Bool.{Bool, true, false}
+use mathlib.Core.List.{List, [], _∷_, _++_}
+use Prim.Native.Nat.{ℕ, zero, suc, _+_, _*_, _/_, _^_, _≤_, _<_}
+use native.Mathlib.Omega.{arith}
+use lib.IntN.{ℤ, natAbs}
+use lib.ListN.{length, length-append}
+use Rattle.integers.specs.Signs.{negative}
+use Rattle.units.specs.Units.{parts}
+use Rattle.packed.specs.declared.Term.{Term}
+use Rattle.packed.specs.declared.Sums.{Sums}
+use Rattle.packed.specs.Series.{term-count}
+use Rattle.packed.proofs.Accepting.{GoodA, GoodC, GoodTerm}
+use Rattle.packed.proofs.Limits as limits
+use Rattle.packed.proofs.Judged as judged
+use Rattle.text.specs.Grammar.{sign, digits, countBytes, decimal}
+use Rattle.printer.specs.Printer.{last-digits, further-digits, plain-decimal, plain-count, plain-text}
+use Rattle.printer.specs.Writing.{whole-text, line-text, lines-text, block-text}
+use Rattle.printer.proofs.Writing.{total, length-joined}
+use Rattle.printer.proofs.Figures.{whole-length, length-digits, length-last}
+use Rattle.printer.proofs.Pieces.{decimal-size, sign-length, line-length}
+use Rattle.printer.proofs.Numerals.{further-few}
+use Rattle.printer.proofs.Tables.{lines-cons, lines-none, text-cons, text-none}
+
+whole-short : (n v : ℕ) → v < 10 ^ suc n → length (whole-text v) ≤ suc n
+whole-short n v h = omega (arith, whole-length v, further-few n v h)
+
+decimal-short : (minus : Bool) (n v : ℕ) → v / parts < 10 ^ suc n → length (decimal (plain-decimal minus v)) ≤ length (sign minus) + suc n + 12
+decimal-short minus n v h = omega (arith, decimal-size minus v, whole-short n (v / parts) h)
+
+line-short : (f : ℕ) (s : Sums) (t : Term) → GoodTerm f s t → length (line-text t) ≤ 53
+unfolding sign
+line-short f s t g =
+    let a = decimal-short (negative (t .a)) 4 (natAbs (t .a)) (omega (arith, g .good-a .small)) in
+    let b = decimal-short false 0 (t .b) (omega (arith, g .good-b)) in
+    let c = decimal-short (negative (t .c)) 5 (natAbs (t .c)) (omega (arith, g .good-c .small)) in
+    let sa = sign-length (negative (t .a)) in
+    let sc = sign-length (negative (t .c)) in
+    let l = line-length t _ _ _ _ refl refl refl refl _ _ _ refl refl refl in
+    omega arith
+
+lines-short : {f : ℕ} {s : Sums} {ts : List Term} → limits.GoodTerms f s ts → length (lines-text ts) ≤ 53 * length ts
+lines-short limits.good-none = rw lines-none (omega arith)
+lines-short {f} {s} {ts = t ∷ ts} (limits.good-term g h) =
+    rw (lines-cons t ts) (omega (arith, length-append (line-text t) (lines-text ts), line-short f s t g, lines-short h))
+
+block-short : (k : ℕ) (s : Sums) (ts : List Term) → judged.GoodBlock k s ts → length (block-text ts) ≤ 5 + 53 * length ts
+unfolding block-text countBytes plain-count
+block-short k s ts g =
+    let w = whole-short 3 (length ts) (omega (arith, g .few)) in
+    let e : countBytes (plain-count (length ts)) ≡ whole-text (length ts) = unfold whole-text in refl in
+    omega (arith, ap length e, length-append (countBytes (plain-count (length ts))) (10 ∷ lines-text ts), lines-short (g .terms))
+
+pub text-short : {k : ℕ} {s : Sums} {bs : List (List Term)} → judged.GoodBlocks k s bs → length (plain-text bs) ≤ 5 * length bs + 53 * term-count bs
+unfolding term-count
+text-short judged.none = rw text-none (omega arith)
+text-short {k} {s} {bs = ts ∷ bs} (judged.more g h) =
+    rw (text-cons ts bs) (omega (arith, length-append (block-text ts) (plain-text bs), block-short k s ts g, text-short h))
