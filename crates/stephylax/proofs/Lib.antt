@@ -1,0 +1,2 @@
+-- Laws of the flattened answers.
+mod Flat

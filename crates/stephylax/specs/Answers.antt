@@ -1,0 +1,89 @@
+-- Document 01's number and values of each answer, as the C interface has them: `refusal` is 0 or the refusal's number, `figure` what
+-- comes with a refusal; what an answer does not use is 0.
+use mathlib.Core.Bool.{cond}
+use Prim.Native.Nat.{ℕ}
+use lib.Dec.{ltb}
+use lib.IntN.{ℤ, pos, negsuc}
+use Rattle.units.specs.declared.Refusal.{Refusal}
+use Rattle.units.specs.Refusals.{number, figure}
+use Rattle.calendar.specs.declared.DayAnswer.{DayAnswer}
+use Rattle.calendar.specs.declared.DayAnswer.the-variants.{Day, NoDay}
+use Rattle.calendar.specs.declared.DateAnswer.{DateAnswer}
+use Rattle.calendar.specs.declared.DateAnswer.the-variants.{On, NoDate}
+use Rattle.calendar.specs.declared.InstantAnswer.{InstantAnswer}
+use Rattle.calendar.specs.declared.InstantAnswer.the-variants.{At, NoInstant}
+use Rattle.calendar.specs.declared.MomentAnswer.{MomentAnswer}
+use Rattle.calendar.specs.declared.MomentAnswer.the-variants.{Moment as OnAt, NoMoment}
+use Rattle.packed.specs.declared.Checked.{Checked}
+use Rattle.packed.specs.declared.Checked.the-variants.{Terms, NoSeries}
+use Rattle.text.specs.declared.Outcome.{Outcome}
+use Rattle.text.specs.declared.Outcome.the-variants.{More, Accepted, Refused}
+use Rattle.printer.specs.declared.Printed.{Printed}
+use Rattle.printer.specs.declared.Printed.the-variants.{Length, NoText}
+use Rattle.series.specs.declared.CoordinatesAnswer.{CoordinatesAnswer}
+use Rattle.series.specs.declared.CoordinatesAnswer.the-variants.{At as AtCoordinates, NoCoordinates}
+use Rattle.stephylax.specs.declared.answers.Flat.{Flat}
+use Rattle.stephylax.specs.declared.answers.One.{One}
+use Rattle.stephylax.specs.declared.answers.Moment.{Moment}
+use Rattle.stephylax.specs.declared.answers.Three.{Three}
+
+-- A number of up to 64 bits as a signed one; past its range, which no memory can count to, the greatest.
+unfoldable pub clip : ℕ → ℤ
+clip n = cond (ltb n 9223372036854775808) (pos n) (pos 9223372036854775807)
+
+unfoldable pub clipZ : ℤ → ℤ
+clipZ (pos n) = clip n
+clipZ (negsuc n) = negsuc n
+
+unfoldable pub flat : Refusal → Flat
+flat r = record { refusal = number r; figure = clipZ (figure r) }
+
+-- The three shapes of an answer, refused.
+unfoldable pub one-refused : Refusal → One
+one-refused r = record { refusal = flat r .refusal; figure = flat r .figure; value = pos 0 }
+
+unfoldable pub moment-refused : Refusal → Moment
+moment-refused r = record { refusal = flat r .refusal; figure = flat r .figure; year = pos 0; month = pos 0; day = pos 0; ms = pos 0 }
+
+unfoldable pub three-refused : Refusal → Three
+three-refused r = record { refusal = flat r .refusal; figure = flat r .figure; first = pos 0; second = pos 0; third = pos 0 }
+
+-- A count or a length.
+unfoldable pub one-counted : ℕ → One
+one-counted n = record { refusal = 0; figure = pos 0; value = clip n }
+
+-- stephylax_day, stephylax_date, stephylax_instant.
+unfoldable pub day-shown : DayAnswer → One
+day-shown (Day n) = record { refusal = 0; figure = pos 0; value = n }
+day-shown (NoDay r) = one-refused r
+
+unfoldable pub date-shown : DateAnswer → Moment
+date-shown (On d) = record { refusal = 0; figure = pos 0; year = d .year; month = d .month; day = d .day; ms = pos 0 }
+date-shown (NoDate r) = moment-refused r
+
+unfoldable pub instant-shown : InstantAnswer → One
+instant-shown (At t) = record { refusal = 0; figure = pos 0; value = t .ms }
+instant-shown (NoInstant r) = one-refused r
+
+unfoldable pub moment-shown : MomentAnswer → Moment
+moment-shown (OnAt d m) = record { refusal = 0; figure = pos 0; year = d .year; month = d .month; day = d .day; ms = m }
+moment-shown (NoMoment r) = moment-refused r
+
+-- stephylax_checked: the number of terms. stephylax_written: the length of the packed form, so far or in all, or of the text.
+unfoldable pub checked-shown : Checked → One
+checked-shown (Terms n) = one-counted n
+checked-shown (NoSeries r) = one-refused r
+
+unfoldable pub text-shown : Outcome → One
+text-shown (More n) = one-counted n
+text-shown (Accepted n) = one-counted n
+text-shown (Refused r) = one-refused r
+
+unfoldable pub printed-shown : Printed → One
+printed-shown (Length n) = one-counted n
+printed-shown (NoText r) = one-refused r
+
+-- stephylax_coordinates.
+unfoldable pub coordinates-shown : CoordinatesAnswer → Three
+coordinates-shown (AtCoordinates c) = record { refusal = 0; figure = pos 0; first = c .longitude; second = c .latitude; third = c .radius }
+coordinates-shown (NoCoordinates r) = three-refused r

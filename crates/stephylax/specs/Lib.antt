@@ -1,0 +1,2 @@
+-- The C interface: what each function answers.
+pub mod Answers

@@ -1,0 +1,110 @@
+// The C interface: one function for each public call, with its name and its layout of `include/stephylax.h`, which explains each. A slice
+// crosses as a pointer and a length. An answer is the library's, as numbers: specs/Answers.antt says which.
+ghost use mathlib.Core.Path.{_≡_};
+ghost use Rattle.calendar.specs.Calendar.{day-of-date, date-of-day, instant-of-date, date-of-instant};
+ghost use Rattle.packed.specs.Series.{parse, checked};
+ghost use Rattle.printer.specs.Printer.{printed, printed-out};
+ghost use Rattle.series.specs.Sums.{coordinates-answer};
+ghost use Rattle.text.specs.Reader.{begun, run, ended, told, whole};
+ghost use Rattle.stephylax.specs.Answers.{day-shown, date-shown, instant-shown, moment-shown, checked-shown, text-shown, printed-shown, coordinates-shown};
+
+mod answers;
+
+use crate::answers::Moment;
+use crate::answers::One;
+use crate::answers::Three;
+use crate::answers::of_checked;
+use crate::answers::of_coordinates;
+use crate::answers::of_date;
+use crate::answers::of_day;
+use crate::answers::of_instant;
+use crate::answers::of_moment;
+use crate::answers::of_printed;
+use crate::answers::of_text;
+use text::Reader;
+use units::Instant;
+
+#[no_mangle]
+pub extern "C" fn stephylax_day_of_date(year: i64, month: i64, day: i64) -> One
+    ensures { λ r. ⌜ r ≡ day-shown (day-of-date year month day) ⌝ }
+{
+    of_day(calendar::day_of_date(year, month, day))
+}
+
+#[no_mangle]
+pub extern "C" fn stephylax_date_of_day(number: i64) -> Moment
+    ensures { λ r. ⌜ r ≡ date-shown (date-of-day number) ⌝ }
+{
+    of_date(calendar::date_of_day(number))
+}
+
+#[no_mangle]
+pub extern "C" fn stephylax_instant_of_date(year: i64, month: i64, day: i64, ms: i64) -> One
+    ensures { λ r. ⌜ r ≡ instant-shown (instant-of-date year month day ms) ⌝ }
+{
+    of_instant(calendar::instant_of_date(year, month, day, ms))
+}
+
+#[no_mangle]
+pub extern "C" fn stephylax_date_of_instant(t: i64) -> Moment
+    ensures { λ r. ⌜ r ≡ moment-shown (date-of-instant (record { ms = t })) ⌝ }
+{
+    of_moment(calendar::date_of_instant(Instant { ms: t }))
+}
+
+// The whole text in one call, then its end.
+#[no_mangle]
+pub extern "C" fn stephylax_read_text(text: &[u8], packed: &mut [u8]) -> One
+    ensures { λ r. ⌜ (r ≡ text-shown (told (whole (now (text .entry)) (now (packed .entry)) .reader))) × (now (packed .exit) ≡ whole (now (text .entry)) (now (packed .entry)) .out) ⌝ }
+{
+    of_text(text::read(text, packed))
+}
+
+#[no_mangle]
+pub extern "C" fn stephylax_text_start() -> Reader
+    ensures { λ r. ⌜ r ≡ begun ⌝ }
+{
+    text::start()
+}
+
+#[no_mangle]
+pub extern "C" fn stephylax_text_piece(state: Reader, text: &[u8], packed: &mut [u8]) -> Reader
+    ensures { λ r. ⌜ (r ≡ run state (now (packed .entry)) (now (text .entry)) .reader) × (now (packed .exit) ≡ run state (now (packed .entry)) (now (text .entry)) .out) ⌝ }
+{
+    text::piece(state, text, packed)
+}
+
+#[no_mangle]
+pub extern "C" fn stephylax_text_end(state: Reader, packed: &mut [u8]) -> Reader
+    ensures { λ r. ⌜ (r ≡ ended state) × (now (packed .exit) ≡ now (packed .entry)) ⌝ }
+{
+    text::end(state, packed)
+}
+
+#[no_mangle]
+pub extern "C" fn stephylax_text_answer(state: Reader) -> One
+    ensures { λ r. ⌜ r ≡ text-shown (told state) ⌝ }
+{
+    of_text(text::answer(state))
+}
+
+#[no_mangle]
+pub extern "C" fn stephylax_check(packed: &[u8]) -> One
+    ensures { λ r. ⌜ r ≡ checked-shown (checked (parse (now (packed .entry)))) ⌝ }
+{
+    of_checked(packed::check(packed))
+}
+
+#[no_mangle]
+pub extern "C" fn stephylax_print(packed: &[u8], text: &mut [u8]) -> One
+    ensures { λ r. ⌜ (r ≡ printed-shown (printed (parse (now (packed .entry))) (now (text .entry)))) × (now (text .exit) ≡ printed-out (parse (now (packed .entry))) (now (text .entry))) ⌝ }
+{
+    of_printed(printer::print(packed, text))
+}
+
+#[no_mangle]
+pub extern "C" fn stephylax_coordinates_at(packed: &[u8], t: i64) -> Three
+    ensures { λ r. ⌜ r ≡ coordinates-shown (coordinates-answer (now (packed .entry)) (record { ms = t })) ⌝ }
+{
+    of_coordinates(series::coordinates_at(packed, Instant { ms: t }))
+}
