@@ -1,22 +1,20 @@
 -- An acceptance is only given at the end, after block 18, of a text that was taken. Assumes nothing.
 use mathlib.Core.Path.{_≡_, refl, sym, ap, _∙_}
-use mathlib.Core.Bool.{Bool, true, false, cond}
+use mathlib.Core.Bool.{false}
 use mathlib.Core.List.{List, [], _∷_}
 use Prim.Native.Nat.{ℕ}
 use native.Mathlib.Omega.{arith}
 use borrow.Author.Tests.{eqb-true}
-use lib.Dec.{ltb, eqb}
+use lib.Dec.{eqb}
 use lib.ListN.{length}
-use Rattle.packed.specs.declared.Sums.{Sums}
-use Rattle.packed.specs.declared.Term.{Term}
-use Rattle.packed.specs.Limits.{count-fits, total-fits, coarse-fits}
 use Rattle.text.specs.declared.Reader.{Reader}
 use Rattle.text.specs.declared.Outcome.the-variants.{Accepted, Refused}
 use Rattle.text.specs.Lexer.{lex, wholeCount, wholeTerm}
-use Rattle.text.specs.Judge.{Verdict, countRefusal, numbersFit, termRefusal, verdict}
-use Rattle.text.specs.Reader.{begun, fits, wrote, other, uncounted, step, stepOut, run, ended, refusal, told, whole}
+use Rattle.text.specs.Judge.{verdict}
+use Rattle.text.specs.Reader.{begun, other, uncounted, step, stepOut, run, ended, refusal, told, whole}
 use Rattle.text.specs.Grammar.{TermLine}
 use Rattle.text.proofs.Judging.{by-cases}
+use Rattle.text.proofs.Verdicts.{count-among, term-among, wrote-status}
 use Rattle.text.proofs.Lines.{Taken}
 
 pub nothing : (ls : List TermLine) → length ls ≡ 0 → ls ≡ []
@@ -24,38 +22,17 @@ nothing [] e = refl
 nothing (l ∷ ls) e = absurd (omega (arith, e))
 
 -- No refusal has the number 1.
-count-not-one : (k : ℕ) (s : Sums) (n : ℕ) → countRefusal k s n ≡ 1 → ⊥
-unfolding countRefusal
-count-not-one k s n = go (ltb k 18) (count-fits s n)
-  where
-    go : (t u : Bool) → _≡_ {A = ℕ} (cond t (cond u 0 4) 9) 1 → ⊥
-    go true true e = omega (arith, e)
-    go true false e = omega (arith, e)
-    go false u e = omega (arith, e)
-
-term-not-one : (f : ℕ) (s : Sums) (m : ℕ) (t : Term) → termRefusal f s m t ≡ 1 → ⊥
-unfolding termRefusal
-term-not-one f s m t = go (numbersFit m t) (total-fits s (t .a)) (coarse-fits f s (t .a) (t .b) (t .c))
-  where
-    go : (t u v : Bool) → _≡_ {A = ℕ} (cond t (cond u (cond v 0 6) 5) 4) 1 → ⊥
-    go true true true e = omega (arith, e)
-    go true true false e = omega (arith, e)
-    go true false v e = omega (arith, e)
-    go false u v e = omega (arith, e)
-
 verdict-not-one : (r : Reader) → verdict r .refusal ≡ 1 → ⊥
 unfolding verdict
 verdict-not-one r =
     by-cases (wholeCount (r .line))
-    (λ p. rw p (count-not-one _ _ _))
-    (λ p. by-cases (wholeTerm (r .line)) (λ q. rw (p, q) (term-not-one _ _ _ _)) (λ q. rw (p, q) (λ e. omega (arith, e))))
-
-wrote-not-one : (r : Reader) (out : List ℕ) (v : Verdict) → (v .refusal ≡ 1 → ⊥) → wrote r out v .status ≡ 1 → ⊥
-unfolding wrote
-wrote-not-one r out v h =
-    by-cases (eqb (v .refusal) 0)
-    (λ p. by-cases (fits (v .bytes) (r .written) out) (λ q. rw (p, q) (λ e. omega (arith, e))) (λ q. rw (p, q) (λ e. omega (arith, e))))
-    (λ p. rw p h)
+    (λ p. rw p (count-among Not (λ e. omega (arith, e)) (λ e. omega (arith, e)) (λ e. omega (arith, e)) _ _ _))
+    (λ p. by-cases (wholeTerm (r .line))
+    (λ q. rw (p, q) (term-among Not (λ e. omega (arith, e)) (λ e. omega (arith, e)) (λ e. omega (arith, e)) (λ e. omega (arith, e)) _ _ _ _))
+    (λ q. rw (p, q) (λ e. omega (arith, e))))
+  where
+    Not : ℕ → Type 0
+    Not n = n ≡ 1 → ⊥
 
 other-not-one : (r : Reader) (byte : ℕ) → other r byte .status ≡ 1 → ⊥
 unfolding other
@@ -67,7 +44,7 @@ step-not-one r out byte h =
     by-cases (eqb (r .status) 0)
     (λ p. by-cases (uncounted r) (λ q. rw (p, q) (λ e. omega (arith, e)))
     (λ q. by-cases (eqb (r .line .spot) 30) (λ u. rw (p, q, u) (λ e. omega (arith, e)))
-    (λ u. by-cases (eqb byte 10) (λ v. rw (p, q, u, v) (wrote-not-one r out (verdict r) (verdict-not-one r))) (λ v. rw (p, q, u, v) (other-not-one r byte)))))
+    (λ u. by-cases (eqb byte 10) (λ v. rw (p, q, u, v) (wrote-status 1 (λ e. omega (arith, e)) (λ e. omega (arith, e)) r out (verdict r) (verdict-not-one r))) (λ v. rw (p, q, u, v) (other-not-one r byte)))))
     (λ p. rw p h)
 
 run-not-one : (xs : List ℕ) (r : Reader) (out : List ℕ) → (r .status ≡ 1 → ⊥) → run r out xs .reader .status ≡ 1 → ⊥

@@ -62,7 +62,8 @@ unfolding opened
 opened-same k n s e = rw (ne-eqb (k % 6) 0 e)
 
 -- The numbers of a term.
-pub numbers-are : (l : Line) → numbersFit (l .minusb) (termOf l) ≡ cond (eqb (l .minusb) 0) (cond (ltb (l .a) 10000000000000000) (cond (ltb (l .b) 1000000000000) (ltb (l .value) 100000000000000000) false) false) false
+pub numbers-are : (l : Line) → numbersFit (l .minusb) (termOf l)
+    ≡ cond (eqb (l .minusb) 0) (cond (ltb (l .a) 10000000000000000) (cond (ltb (l .b) 1000000000000) (ltb (l .value) 100000000000000000) false) false) false
 unfolding numbersFit a-fits b-fits c-fits
 numbers-are l = rw (abs-signed (l .minusa) (l .a), abs-signed (l .minus) (l .value))
 
@@ -87,7 +88,9 @@ unfolding weight constant
 weight-none f a b c h k = rw (eq-eqb b 0 h, eq-eqb c 0 k)
 
 pub refusal-is : (f : ℕ) (s : Sums) (l : Line) → termRefusal f s (l .minusb) (termOf l)
-    ≡ cond (numbersFit (l .minusb) (termOf l)) (cond (leb (s .total + l .a) 10000000000000000) (cond (leb (s .coarse + weight f (pos (l .a)) (l .b) (pos (l .value))) 200000000000000) 0 6) 5) 4
+    ≡ cond (numbersFit (l .minusb) (termOf l))
+    (cond (leb (s .total + l .a) 10000000000000000) (cond (leb (s .coarse + weight f (pos (l .a)) (l .b) (pos (l .value))) 200000000000000) 0 6) 5)
+    4
 unfolding termRefusal total-fits coarse-fits
 refusal-is f s l = rw (weight-signed f l, abs-signed (l .minusa) (l .a))
 

@@ -44,7 +44,8 @@ record Halts (r : Reader) (out xs : List ℕ) : Type 0 where
   written : run r out xs .reader .written ≡ r .written
   place : (run r out xs .reader .status ≡ 0 → ⊥) → Place (r .at) xs (run r out xs .reader .place)
 
-halt-now : (r : Reader) (out : List ℕ) (x : ℕ) (xs : List ℕ) (n : ℕ) → (n ≡ 0 → ⊥) → step r out x ≡ stopped r n → stepOut r out x ≡ out → Halts r out (x ∷ xs)
+halt-now : (r : Reader) (out : List ℕ) (x : ℕ) (xs : List ℕ) (n : ℕ) → (n ≡ 0 → ⊥)
+    → step r out x ≡ stopped r n → stepOut r out x ≡ out → Halts r out (x ∷ xs)
 unfolding run NoFeed
 halt-now r out x xs n h e f =
     let q = ap (λ (o : List ℕ). run (step r out x) o xs) f ∙ ap (λ (s : Reader). run s out xs) e ∙ stays xs (stopped r n) out h in
@@ -121,7 +122,8 @@ event (x ∷ xs) r out s p =
     last-out : (r : Reader) (out : List ℕ) (x : ℕ) → r .status ≡ 0 → r .at ≡ last → stepOut r out x ≡ out
     last-out r out x s e = unfold stepOut uncounted in rw (eq-eqb (r .status) 0 s, eq-eqb (r .at) last e)
 
-    after-all : (r : Reader) (out : List ℕ) (x : ℕ) → r .status ≡ 0 → (r .at ≡ last → ⊥) → r .line .spot ≡ 30 → (step r out x ≡ stopped r 9) × (stepOut r out x ≡ out)
+    after-all : (r : Reader) (out : List ℕ) (x : ℕ) → r .status ≡ 0 → (r .at ≡ last → ⊥) → r .line .spot ≡ 30
+        → (step r out x ≡ stopped r 9) × (stepOut r out x ≡ out)
     after-all r out x s n e =
         unfold step stepOut uncounted in
         (rw (eq-eqb (r .status) 0 s, ne-eqb (r .at) last n, eq-eqb (r .line .spot) 30 e), rw (eq-eqb (r .status) 0 s, ne-eqb (r .at) last n, eq-eqb (r .line .spot) 30 e))
@@ -136,7 +138,8 @@ event (x ∷ xs) r out s p =
         by-cases (eqb x 10)
         (λ z. rw (eqb-true x 10 z) (feed-event r out xs p g))
         (λ z. by-cases (eqb (lex (r .line) x .spot) 31)
-        (λ y. inr (halt-now r out x xs 3 (λ q. omega (arith, q)) (step-bad r out x g (eqb-false x 10 z) (eqb-true (lex (r .line) x .spot) 31 y)) (other-out r out x g (eqb-false x 10 z))))
+        (λ y. inr (halt-now r out x xs 3 (λ q. omega (arith, q)) (step-bad r out x g (eqb-false x 10 z) (eqb-true (lex (r .line) x .spot) 31 y))
+        (other-out r out x g (eqb-false x 10 z))))
         (λ y. on e (eqb-false x 10 z) (eqb-false (lex (r .line) x .spot) 31 y)))
       where
         on : NextLine (inLine r (lex (r .line) x)) out xs ⊎ Halts (inLine r (lex (r .line) x)) out xs → (x ≡ 10 → ⊥) → (lex (r .line) x .spot ≡ 31 → ⊥)
@@ -203,7 +206,12 @@ module _ (r : Reader) (out xs : List ℕ) (n : NextLine r out xs) where
       let t = term-in (n .body) (lexes (fresh 0) (n .body)) (ends-term (n .before) (n .body) q (n .good)) refl in
       let s : n .before .line ≡ termLine (t .t) = q ∙ sym (t .line) in
       let v = verdict-term (n .before) (ap (λ (x : Line). wholeCount x) s) (ap (λ (x : Line). wholeTerm x) s) in
-      record { l = a-term (t .t); good = t .good; bytes = t .is; packed = ap (λ (x : Verdict). x .bytes) v ∙ ap (λ (x : Line). pack-term (termOf x)) s ∙ ap pack-term (term-is (t .t)) }
+      record {
+        l = a-term (t .t);
+        good = t .good;
+        bytes = t .is;
+        packed = ap (λ (x : Verdict). x .bytes) v ∙ ap (λ (x : Line). pack-term (termOf x)) s ∙ ap pack-term (term-is (t .t));
+      }
 
   line-count : r .line ≡ fresh 20 → LineOf r out xs n
   unfolding GoodLine lineBytes linePacked

@@ -191,7 +191,8 @@ decimal-run l d g =
     (numeral-bound (d .more) (d .first) 1 (g .whole .digits) (g .whole .digit)) (omega (arith, g .whole .few))
     (signed-size (d .minus) (numeral v (d .parts)) (g .zero))
   where
-    after-point : (l : Line) (s m v n : ℕ) (ds : List ℕ) → 1 ≤ s → s ≤ 6 → AllDigits ds → length ds ≡ 11 → v < 10 ^ n → n ≤ 6 → (m ≡ 0) ⊎ (0 < numeral v ds)
+    after-point : (l : Line) (s m v n : ℕ) (ds : List ℕ) → 1 ≤ s → s ≤ 6 → AllDigits ds → length ds ≡ 11 → v < 10 ^ n → n ≤ 6
+        → (m ≡ 0) ⊎ (0 < numeral v ds)
         → lexes (put l s m v) (46 ∷ digits ds) ≡ put l 18 m (numeral v ds)
     after-point l s m v n ds h k a e b c z =
         unfold lexes in

@@ -11,6 +11,7 @@ pub mod Verdicts
 pub mod Accepting
 pub mod Taking
 pub mod Prefixes
+pub mod Feeds
 pub mod Leaving
 pub mod Ending
 pub mod Theorems

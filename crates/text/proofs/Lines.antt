@@ -237,7 +237,8 @@ byte-line r out x xs g h k n =
       next = ap (λ (o : List ℕ). run (step r out x) o xs) (t .1) ∙ ap (λ (q : Reader). run q out xs) (t .0) ∙ n .next;
     }
 
-pub next-line : (xs : List ℕ) (r : Reader) (out : List ℕ) → r .status ≡ 0 → r .place ≡ 0 → (r .line .spot ≡ 30 → ⊥) → Taken (run r out xs) → NextLine r out xs
+pub next-line : (xs : List ℕ) (r : Reader) (out : List ℕ) → r .status ≡ 0 → r .place ≡ 0 → (r .line .spot ≡ 30 → ⊥)
+    → Taken (run r out xs) → NextLine r out xs
 unfolding run
 next-line [] r out s p i t = absurd (i (t .spot))
 next-line (x ∷ xs) r out s p i t =

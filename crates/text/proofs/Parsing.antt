@@ -70,7 +70,8 @@ module _ (l : Line) (s m v : ℕ) (b : ℕ) (bs : List ℕ) (F : Line) (w : whol
   parts-more n e rec _ (kept i h k) q = absurd (omega arith)
   parts-more n e rec _ (negated i h k) q = absurd (omega arith)
 
-parts : (n : ℕ) (xs : List ℕ) (l : Line) (s m v : ℕ) (F : Line) → wholeTerm F ≡ true → 7 ≤ s → s + suc n ≡ 18 → lexes (put l s m v) xs ≡ F → Parts l m v (suc n) xs F
+parts : (n : ℕ) (xs : List ℕ) (l : Line) (s m v : ℕ) (F : Line) → wholeTerm F ≡ true → 7 ≤ s → s + suc n ≡ 18 → lexes (put l s m v) xs ≡ F
+    → Parts l m v (suc n) xs F
 unfolding lexes
 parts n [] l s m v F w h k q = let t = term-of F w in let e = ap (λ (x : Line). x .spot) q in absurd (omega (arith, t .spot))
 parts zero (b ∷ bs) l s m v F w h k q = parts-last l s m v b bs F w h (omega arith) (lex (put l s m v) b) (view (put l s m v) b) q
@@ -285,7 +286,8 @@ pub record TermIn (xs : List ℕ) (F : Line) : Type 0 where
   pub is : xs ≡ termBytes t
   pub line : termLine t ≡ F
 
-strung : (s₁ s₂ s₃ : List ℕ) (a b c xs ys₁ zs₁ ys₂ zs₂ ys₃ : List ℕ) → xs ≡ s₁ ++ (a ++ ys₁) → ys₁ ≡ 32 ∷ zs₁ → zs₁ ≡ s₂ ++ (b ++ ys₂) → ys₂ ≡ 32 ∷ zs₂
+strung : (s₁ s₂ s₃ : List ℕ) (a b c xs ys₁ zs₁ ys₂ zs₂ ys₃ : List ℕ)
+    → xs ≡ s₁ ++ (a ++ ys₁) → ys₁ ≡ 32 ∷ zs₁ → zs₁ ≡ s₂ ++ (b ++ ys₂) → ys₂ ≡ 32 ∷ zs₂
     → zs₂ ≡ s₃ ++ (c ++ ys₃) → ys₃ ≡ [] → xs ≡ s₁ ++ (a ++ ((32 ∷ s₂) ++ (b ++ ((32 ∷ s₃) ++ c))))
 strung s₁ s₂ s₃ a b c xs ys₁ zs₁ ys₂ zs₂ ys₃ e₁ f₁ e₂ f₂ e₃ f₃ = rw (e₁, f₁, e₂, f₂, e₃, f₃, append-nil c)
 

@@ -136,7 +136,8 @@ finish l v =
     (λ q. parts-finish (17 - l .spot) l (l .spot) (l .minus) (l .value) (v .field) (leb-true 7 (l .spot) q) (omega (arith, leb-false 18 (l .spot) p))
     (v .value))
     (λ q. by-cases (leb 1 (l .spot))
-    (λ r. point-finish l (l .spot) (l .minus) (l .value) (v .field) (leb-true 1 (l .spot) r) (omega (arith, leb-false 7 (l .spot) q)) (six (l .spot) (l .value) (v .value) (omega (arith, leb-false 7 (l .spot) q))))
+    (λ r. point-finish l (l .spot) (l .minus) (l .value) (v .field) (leb-true 1 (l .spot) r) (omega (arith, leb-false 7 (l .spot) q))
+    (six (l .spot) (l .value) (v .value) (omega (arith, leb-false 7 (l .spot) q))))
     (λ r. let e : l .spot ≡ 0 = omega (arith, leb-false 1 (l .spot) r) in
     let z : l .value ≡ 0 = none-yet (l .spot) (l .value) e (v .value) in
     at-spot l 0 e (at-value l z (first-finish l (l .minus) (v .field))))))
@@ -223,7 +224,8 @@ count-goes-on xs b e =
     omega (arith, s, r, b .good .few)
 
 -- A byte is refused 3 exactly where it makes the line bad.
-pub refused-by : (r : Reader) (out : List ℕ) (byte : ℕ) → Going r → (byte ≡ 10 → ⊥) → (P : Type 0) → ((lex (r .line) byte .spot ≡ 31 → ⊥) → P) → (P → lex (r .line) byte .spot ≡ 31 → ⊥)
+pub refused-by : (r : Reader) (out : List ℕ) (byte : ℕ) → Going r → (byte ≡ 10 → ⊥) → (P : Type 0)
+    → ((lex (r .line) byte .spot ≡ 31 → ⊥) → P) → (P → lex (r .line) byte .spot ≡ 31 → ⊥)
     → (step r out byte ≡ stopped r 3 → P → ⊥) × ((P → ⊥) → step r out byte ≡ stopped r 3)
 refused-by r out byte g h P f k = (
   (λ e p. let s = ap (λ (q : Reader). q .status) (sym (step-in r out byte g h (k p) .0) ∙ e) in omega (arith, s)),

@@ -5,22 +5,21 @@ use mathlib.Core.List.{List, [], _∷_, _++_, append-assoc}
 use Prim.Native.Nat.{ℕ, suc, _+_, _-_, _≤_, _<_}
 use native.Mathlib.Nat.{add-zero}
 use native.Mathlib.Omega.{arith}
-use borrow.Author.Tests.{lt-ltb}
 use lib.ListN.{length, length-append}
 use lib.Seq.{sets, length-sets}
 use Rattle.packed.specs.declared.Sums.{Sums}
-use Rattle.packed.specs.Limits.{opened, added, factor}
+use Rattle.packed.specs.Limits.{opened, added, factor, count-fits}
 use Rattle.packed.specs.Numbers.{encode}
 use Rattle.packed.specs.Series.{summed, after-block, pack-term, pack-terms, pack-block, pack}
 use Rattle.text.specs.declared.Line.{Line}
 use Rattle.text.specs.declared.Reader.{Reader}
-use Rattle.text.specs.Lexer.{fresh, lexes, wholeCount}
+use Rattle.text.specs.Lexer.{fresh, lexes}
 use Rattle.text.specs.Reader.{Run, run}
 use Rattle.text.specs.Grammar.{CountLine, count, countBytes, GoodCount, TermLine, termBytes, GoodTerm, termIn, Block, linesBytes, blocksBytes, termsIn, blocksIn, AllGood, GoodBlocks, TermsInLimits, BlocksInLimits}
 use Rattle.text.proofs.Writing.{sets-append}
 use Rattle.text.proofs.Lexing.{put, termLine, count-run, term-run}
 use Rattle.text.proofs.Lines.{last, moved, Going, line-run, feed-run}
-use Rattle.text.proofs.Verdicts.{sp, st, count-verdict, term-verdict, count-zero, term-zero}
+use Rattle.text.proofs.Verdicts.{sp, st, count-verdict, term-verdict, count-zero, term-zero, is-whole}
 use Rattle.text.proofs.Accepting.{spot-term, spot-count, less, length-terms}
 
 -- A line and its line feed, from the beginning of the line.
@@ -51,7 +50,8 @@ term-line t at w k n s out ys g l c h =
     ∙ (rw (v .2, v .1))
 
 -- A count line.
-count-line : (c : CountLine) (at w k : ℕ) (s : Sums) (out ys : List ℕ) → GoodCount c → k < 18 → Rattle.packed.specs.Limits.count-fits s (count c) ≡ true → at + length (countBytes c) < last
+count-line : (c : CountLine) (at w k : ℕ) (s : Sums) (out ys : List ℕ) → GoodCount c → k < 18 → count-fits s (count c) ≡ true
+    → at + length (countBytes c) < last
     → w + length (encode (count c)) ≤ length out
     → run (sp 20 at w k 0 s) out (countBytes c ++ (10 ∷ ys))
     ≡ run (st (at + length (countBytes c) + 1) (w + length (encode (count c))) (k + 1) (count c) (opened k (count c) s)) (sets out w (encode (count c))) ys
@@ -59,16 +59,13 @@ count-line c at w k s out ys g b f l h =
     let m = length (countBytes c) in
     let L = put (fresh 20) (21 + length (c .more)) 0 (count c) in
     let r = moved (sp 20 at w k 0 s) L m in
-    let v = count-verdict 20 at w k m s (count c) L (whole (length (c .more)) (omega (arith, g .few))) refl in
+    let v = count-verdict 20 at w k m s (count c) L (is-whole c g) refl in
     let e = count-run c g in
     let i : 21 + length (c .more) ≡ 31 → ⊥ = λ q. omega (arith, q, g .few) in
     let j : 21 + length (c .more) ≡ 30 → ⊥ = λ q. omega (arith, q, g .few) in
     to-feed 20 at w k 0 s out (countBytes c) ys L e i j l
     ∙ feed-run r out ys (ready 20 at w k 0 s out (countBytes c) ys L e i j l) (v .0 ∙ count-zero k s (count c) b f) (rw (v .1) h)
     ∙ (rw (v .2, v .1))
-  where
-    whole : (n : ℕ) → n ≤ 3 → wholeCount (put (fresh 20) (21 + n) 0 (count c)) ≡ true
-    whole n h = unfold wholeCount in rw (lt-ltb 20 (21 + n) (omega arith), lt-ltb (21 + n) 25 (omega arith))
 
 -- The terms of a block.
 pub terms-run : (ls : List TermLine) (at w k : ℕ) (s : Sums) (out ys : List ℕ) → AllGood ls → TermsInLimits (factor (k - 1)) s ls → at + length (linesBytes ls) ≤ last
@@ -113,7 +110,8 @@ same-run : (s : Sums) (a a′ w w′ : ℕ) (o o′ : List ℕ) → a ≡ a′ �
 same-run s a a′ w w′ o o′ p q r = rw (p, q, r)
 
 -- Blocks to the eighteenth.
-pub blocks-run : (ks : List Block) (at w k : ℕ) (s : Sums) (out : List ℕ) → GoodBlocks ks → BlocksInLimits k s ks → k + length ks ≡ 18 → at + length (blocksBytes ks) ≤ last
+pub blocks-run : (ks : List Block) (at w k : ℕ) (s : Sums) (out : List ℕ) → GoodBlocks ks → BlocksInLimits k s ks → k + length ks ≡ 18
+    → at + length (blocksBytes ks) ≤ last
     → w + length (pack (blocksIn ks)) ≤ length out
     → run (st at w k 0 s) out (blocksBytes ks)
     ≡ record { reader = st (at + length (blocksBytes ks)) (w + length (pack (blocksIn ks))) 18 0 (after-blocks k s ks); out = sets out w (pack (blocksIn ks)) }
@@ -152,4 +150,5 @@ blocks-run (b ∷ bs) at w k s out g l e c h =
     ∙ ap (λ (i : Sums). run (st (at + m + 1 + u) (w + length x + length y) (k + 1) 0 i) (sets (sets out w x) (w + length x) y) (blocksBytes bs)) r
     ∙ blocks-run bs (at + m + 1 + u) (w + length x + length y) (k + 1) s₂ (sets (sets out w x) (w + length x) y)
     (g .3) (l .2) (omega arith) (omega (arith, p)) (omega (arith, q, h′, o₁, o₂))
-    ∙ same-run s₃ _ _ _ _ _ _ (i ∙ ap (λ (n : ℕ). at + n) (sym p)) (d ∙ ap (λ (n : ℕ). w + n) (sym (ap length pb ∙ q))) (sym j ∙ ap (λ (o : List ℕ). sets out w o) (sym pb))
+    ∙ same-run s₃ _ _ _ _ _ _ (i ∙ ap (λ (n : ℕ). at + n) (sym p))
+    (d ∙ ap (λ (n : ℕ). w + n) (sym (ap length pb ∙ q))) (sym j ∙ ap (λ (o : List ℕ). sets out w o) (sym pb))

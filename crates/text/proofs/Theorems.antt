@@ -15,6 +15,7 @@ use Rattle.text.specs.Grammar.{Block, linesBytes, termsIn, blocksBytes, 
 use Rattle.text.proofs.Lexing.{lexes-append}
 use Rattle.text.proofs.Lines.{last, Going, stays}
 use Rattle.text.proofs.Prefixes.{BeginsTerm, term-begins, term-goes-on, BeginsCount, count-begins, count-goes-on, refused-by}
+use Rattle.text.proofs.Feeds.{IsTerm, IsCount, feed-term, feed-count}
 use Rattle.text.proofs.Leaving.{Leaves, leaves}
 use Rattle.text.specs.declared.Line.{Line}
 use Rattle.text.specs.Lexer.{fresh, lex, lexes}
@@ -101,18 +102,30 @@ pub output : (text out : List ℕ) → Leaves 0 0 out text (run begun out text)
 output = leaves
 
 -- Refusal 3: in a line whose bytes so far are xs, a byte other than a line feed is refused exactly when no line of the grammar begins with
--- these bytes and it.
-module _ (r : Reader) (out xs : List ℕ) (byte : ℕ) (going : Going r) (no-feed : byte ≡ 10 → ⊥) where
-  pub bad-term : r .line ≡ lexes (fresh 0) xs → (step r out byte ≡ stopped r 3 → BeginsTerm (xs ++ (byte ∷ [])) → ⊥) × ((BeginsTerm (xs ++ (byte ∷ [])) → ⊥) → step r out byte ≡ stopped r 3)
-  unfolding lexes
-  bad-term e =
-      let s : lex (r .line) byte .spot ≡ lexes (fresh 0) (xs ++ (byte ∷ [])) .spot = ap (λ (l : Line). lex l byte .spot) e ∙ ap (λ (l : Line). l .spot) (sym (lexes-append (fresh 0) xs (byte ∷ []))) in
-      refused-by r out byte going no-feed (BeginsTerm (xs ++ (byte ∷ [])))
-      (λ k. term-begins (xs ++ (byte ∷ [])) (λ q. k (s ∙ q))) (λ b q. term-goes-on (xs ++ (byte ∷ [])) b (sym s ∙ q))
+-- these bytes and it; a line feed is, exactly when they are no whole line.
+abbrev pub Exactly : Type 0 → Type 0 → Type 0
+Exactly P Q = (P → Q → ⊥) × ((Q → ⊥) → P)
 
-  pub bad-count : r .line ≡ lexes (fresh 20) xs → (step r out byte ≡ stopped r 3 → BeginsCount (xs ++ (byte ∷ [])) → ⊥) × ((BeginsCount (xs ++ (byte ∷ [])) → ⊥) → step r out byte ≡ stopped r 3)
-  unfolding lexes
-  bad-count e =
-      let s : lex (r .line) byte .spot ≡ lexes (fresh 20) (xs ++ (byte ∷ [])) .spot = ap (λ (l : Line). lex l byte .spot) e ∙ ap (λ (l : Line). l .spot) (sym (lexes-append (fresh 20) xs (byte ∷ []))) in
-      refused-by r out byte going no-feed (BeginsCount (xs ++ (byte ∷ [])))
-      (λ k. count-begins (xs ++ (byte ∷ [])) (λ q. k (s ∙ q))) (λ b q. count-goes-on (xs ++ (byte ∷ [])) b (sym s ∙ q))
+module _ (r : Reader) (out xs : List ℕ) (going : Going r) where
+  module _ (byte : ℕ) (no-feed : byte ≡ 10 → ⊥) where
+    one-more : (l : Line) → r .line ≡ lexes l xs → lex (r .line) byte .spot ≡ lexes l (xs ++ (byte ∷ [])) .spot
+    unfolding lexes
+    one-more l e = ap (λ (x : Line). lex x byte .spot) e ∙ ap (λ (x : Line). x .spot) (sym (lexes-append l xs (byte ∷ [])))
+
+    pub bad-term : r .line ≡ lexes (fresh 0) xs → Exactly (step r out byte ≡ stopped r 3) (BeginsTerm (xs ++ (byte ∷ [])))
+    bad-term e =
+        let s = one-more (fresh 0) e in
+        refused-by r out byte going no-feed (BeginsTerm (xs ++ (byte ∷ [])))
+        (λ k. term-begins (xs ++ (byte ∷ [])) (λ q. k (s ∙ q))) (λ b q. term-goes-on (xs ++ (byte ∷ [])) b (sym s ∙ q))
+
+    pub bad-count : r .line ≡ lexes (fresh 20) xs → Exactly (step r out byte ≡ stopped r 3) (BeginsCount (xs ++ (byte ∷ [])))
+    bad-count e =
+        let s = one-more (fresh 20) e in
+        refused-by r out byte going no-feed (BeginsCount (xs ++ (byte ∷ [])))
+        (λ k. count-begins (xs ++ (byte ∷ [])) (λ q. k (s ∙ q))) (λ b q. count-goes-on (xs ++ (byte ∷ [])) b (sym s ∙ q))
+
+  pub bad-term-feed : r .line ≡ lexes (fresh 0) xs → Exactly (step r out 10 ≡ stopped r 3) (IsTerm xs)
+  bad-term-feed e = feed-term r out going xs e
+
+  pub bad-count-feed : r .line ≡ lexes (fresh 20) xs → Exactly (step r out 10 ≡ stopped r 3) (IsCount xs)
+  bad-count-feed e = feed-count r out going xs e

@@ -132,5 +132,16 @@ pub count-more : (s m v d : ℕ) → 21 ≤ s → takesDigit s m v d ≡ true �
 unfolding takesDigit wholeDigit
 count-more s m v d h t =
     let b = lt-leb 1000000000000000000 v (small s m v d t) in
-    let k = early s m v d t in
-    (k, ltb-true 0 v (rw (b, le-ltb s 6 (omega arith), le-ltb s 7 (omega arith), le-ltb s 17 (omega arith), le-ltb s 18 (omega arith), le-ltb s 20 (omega arith), lt-ltb s 24 k, ne-eqb s 20 (λ e. omega (arith, e))) at t))
+    let k = early s m v d t in (
+      k,
+      ltb-true 0 v (rw (
+        b,
+        le-ltb s 6 (omega arith),
+        le-ltb s 7 (omega arith),
+        le-ltb s 17 (omega arith),
+        le-ltb s 18 (omega arith),
+        le-ltb s 20 (omega arith),
+        lt-ltb s 24 k,
+        ne-eqb s 20 (λ e. omega (arith, e)),
+      ) at t),
+    )

@@ -1,6 +1,6 @@
 -- What the judgement of a line that follows the grammar says, and that a good judgement is of such a line. Assumes nothing.
 use mathlib.Core.Path.{_≡_, refl, sym, _∙_}
-use mathlib.Core.Bool.{Bool, true, false}
+use mathlib.Core.Bool.{Bool, true, false, cond}
 use mathlib.Core.List.{List, [], _∷_}
 use mathlib.Core.Logic.{_⊎_, inl, inr, ⊎-elim}
 use Prim.Native.Nat.{ℕ, _+_, _-_, _≤_, _<_}
@@ -10,19 +10,20 @@ use lib.Dec.{ltb, eqb}
 use lib.ListN.{length}
 use Rattle.integers.specs.Signs.{sgn}
 use Rattle.packed.specs.declared.Sums.{Sums}
+use Rattle.packed.specs.declared.Term.{Term}
 use Rattle.packed.specs.Limits.{opened, added, factor, count-fits, a-fits, b-fits, c-fits, total-fits, coarse-fits}
 use Rattle.packed.specs.Numbers.{encode}
 use Rattle.packed.specs.Series.{pack-term}
 use Rattle.text.specs.declared.Line.{Line}
 use Rattle.text.specs.declared.Reader.{Reader}
 use Rattle.text.specs.Lexer.{fresh, lex, lexes, wholeCount, wholeTerm}
-use Rattle.text.specs.Judge.{signed, termOf, countRefusal, numbersFit, termRefusal, verdict}
-use Rattle.text.specs.Reader.{nextSpot, nextLine}
-use Rattle.text.specs.Grammar.{size, value, TermLine, termIn, TermInLimits}
+use Rattle.text.specs.Judge.{Verdict, signed, termOf, countRefusal, numbersFit, termRefusal, verdict}
+use Rattle.text.specs.Reader.{nextSpot, nextLine, fits, wrote}
+use Rattle.text.specs.Grammar.{size, value, CountLine, count, GoodCount, TermLine, termIn, TermInLimits}
 use Rattle.text.proofs.Digits.{early}
 use Rattle.text.proofs.Judging.{by-cases}
 use Rattle.text.proofs.Stepping.{verdict-count, verdict-term, verdict-early}
-use Rattle.text.proofs.Lexing.{flag, termLine}
+use Rattle.text.proofs.Lexing.{put, flag, termLine}
 use Rattle.text.proofs.Unlexing.{Lexed, none, digit, pointed, spaced, kept, negated, view, never, term-of, count-of}
 use Rattle.text.proofs.Parsing.{no-digit}
 use Rattle.text.proofs.Lines.{moved}
@@ -163,3 +164,46 @@ ends-term r xs e g =
     (λ p. by-cases (wholeCount (lexes (fresh 0) xs))
     (λ q. let c = count-of _ q in ⊎-elim (λ h. absurd (omega (arith, c .low))) (λ h. absurd (omega (arith, c .high))) (term-kind xs (fresh 0) (inl (omega arith))))
     (λ q. early-never r (rw e q) (rw e p) g))
+
+pub not-count : (xs : List ℕ) → wholeCount (lexes (fresh 0) xs) ≡ false
+not-count xs =
+    by-cases (wholeCount (lexes (fresh 0) xs))
+    (λ q. let c = count-of _ q in ⊎-elim (λ h. absurd (omega (arith, c .low))) (λ h. absurd (omega (arith, c .high))) (term-kind xs (fresh 0) (inl (omega arith))))
+    (λ q. q)
+
+pub not-term : (xs : List ℕ) → wholeTerm (lexes (fresh 20) xs) ≡ false
+not-term xs =
+    by-cases (wholeTerm (lexes (fresh 20) xs))
+    (λ q. let t = term-of _ q in absurd (omega (arith, t .spot, count-kind xs (fresh 20) (omega arith))))
+    (λ q. q)
+
+pub is-whole : (c : CountLine) → GoodCount c → wholeCount (put (fresh 20) (21 + length (c .more)) 0 (count c)) ≡ true
+unfolding wholeCount
+is-whole c g = rw (lt-ltb 20 (21 + length (c .more)) (omega arith), lt-ltb (21 + length (c .more)) 25 (omega (arith, g .few)))
+
+-- The refusals that a count and a term can have, and the status after them.
+pub count-among : (P : ℕ → Type 0) → P 0 → P 4 → P 9 → (k : ℕ) (s : Sums) (n : ℕ) → P (countRefusal k s n)
+unfolding countRefusal
+count-among P zero four nine k s n = go (ltb k 18) (count-fits s n)
+  where
+    go : (t u : Bool) → P (cond t (cond u 0 4) 9)
+    go true true = zero
+    go true false = four
+    go false u = nine
+
+pub term-among : (P : ℕ → Type 0) → P 0 → P 4 → P 5 → P 6 → (f : ℕ) (s : Sums) (m : ℕ) (t : Term) → P (termRefusal f s m t)
+unfolding termRefusal
+term-among P zero four five six f s m t = go (numbersFit m t) (total-fits s (t .a)) (coarse-fits f s (t .a) (t .b) (t .c))
+  where
+    go : (t u v : Bool) → P (cond t (cond u (cond v 0 6) 5) 4)
+    go true true true = zero
+    go true true false = six
+    go true false v = five
+    go false u v = four
+
+pub wrote-status : (n : ℕ) → (0 ≡ n → ⊥) → (7 ≡ n → ⊥) → (r : Reader) (out : List ℕ) (v : Verdict) → (v .refusal ≡ n → ⊥) → wrote r out v .status ≡ n → ⊥
+unfolding wrote
+wrote-status n a b r out v h =
+    by-cases (eqb (v .refusal) 0)
+    (λ p. by-cases (fits (v .bytes) (r .written) out) (λ q. rw (p, q) a) (λ q. rw (p, q) b))
+    (λ p. rw p h)

@@ -32,13 +32,19 @@ loop-less : tie.Need-loop-less Inv-loop μ-loop
 loop-less c = omega arith
 
 loop-again : tie.Need-loop-again Inv-loop μ-loop
-loop-again c = let l = c .before .before .before .before .before .before .loop in let t = c .before .before .take-byte in let s = c .before .before .before .before .before .before .before .before .before .args .text .now in (t .kept .1 .1 .0 ∙ l .inv .0, sym (run-more _ _ _ _ s (l .i) _ refl (omega arith) (t .ensures .0) (t .ensures .1)) ∙ l .inv .1)
+loop-again c =
+    let l = c .before .before .before .before .before .before .loop in
+    let t = c .before .before .take-byte in
+    let s = c .before .before .before .before .before .before .before .before .before .args .text .now in
+    (t .kept .1 .1 .0 ∙ l .inv .0, sym (run-more _ _ _ _ s (l .i) _ refl (omega arith) (t .ensures .0) (t .ensures .1)) ∙ l .inv .1)
 
 same-length : tie.Need-same-length Inv-loop μ-loop
 same-length c = c .before .loop .inv .0
 
 returns : tie.Need-returns Inv-loop μ-loop
-returns c = let l = c .before .loop in let e = sym (run-end (l .reader) (l .out) _ (l .i) (omega arith)) ∙ l .inv .1 in (ap (λ (x : Run). x .reader) e, ap (λ (x : Run). x .out) e)
+returns c =
+    let l = c .before .loop in
+    let e = sym (run-end (l .reader) (l .out) _ (l .i) (omega arith)) ∙ l .inv .1 in (ap (λ (x : Run). x .reader) e, ap (λ (x : Run). x .out) e)
 
 pub piece-spec : {M : Type 1} → statement M
 piece-spec =

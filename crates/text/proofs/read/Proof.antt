@@ -22,7 +22,16 @@ same-length : tie.Need-same-length
 same-length c = search needs
 
 returns : tie.Need-returns
-returns c = let a = c .before .before .before .before .before .before .before .before .before .before .before .before .args in let t = a .text .now in let o = a .out .now in let b = c .before .before .before .before .before .before .before .before .before .start .ensures in let e = c .before .before .before .before .before .before .before .piece .ensures .0 ∙ ap (λ (r : Reader). run r o t .reader) b in (c .answer .ensures ∙ ap told (c .before .before .before .end .ensures .0 ∙ ap ended e), c .before .before .before .end .ensures .1 ∙ c .before .before .before .before .before .before .before .piece .ensures .1 ∙ ap (λ (r : Reader). run r o t .out) b)
+returns c =
+    let a = c .before .before .before .before .before .before .before .before .before .before .before .before .args in
+    let t = a .text .now in
+    let o = a .out .now in
+    let b = c .before .before .before .before .before .before .before .before .before .start .ensures in
+    let e = c .before .before .before .before .before .before .before .piece .ensures .0 ∙ ap (λ (r : Reader). run r o t .reader) b in (
+      c .answer .ensures ∙ ap told (c .before .before .before .end .ensures .0 ∙ ap ended e),
+      c .before .before .before .end .ensures .1 ∙ c .before .before .before .before .before .before .before .piece .ensures .1 ∙ ap
+          (λ (r : Reader). run r o t .out) b,
+    )
 
 pub read-spec : {M : Type 1} → statement M
 read-spec =

@@ -22,11 +22,15 @@ sub-if3 c = search needs
 
 returns-3 : tie.Need-returns-3
 unfolding countRefusal count-fits
-returns-3 c = let a = c .before .before .before .before .args in rw (lt-ltb (a .blocks) 18 (omega arith), le-leb (a .n) 4096 (omega arith), lt-leb (a .s .terms + a .n) 8192 (omega arith))
+returns-3 c =
+    let a = c .before .before .before .before .args in
+    rw (lt-ltb (a .blocks) 18 (omega arith), le-leb (a .n) 4096 (omega arith), lt-leb (a .s .terms + a .n) 8192 (omega arith))
 
 returns-4 : tie.Need-returns-4
 unfolding countRefusal count-fits
-returns-4 c = let a = c .before .before .before .before .args in rw (lt-ltb (a .blocks) 18 (omega arith), le-leb (a .n) 4096 (omega arith), le-leb (a .s .terms + a .n) 8192 (omega arith))
+returns-4 c =
+    let a = c .before .before .before .before .args in
+    rw (lt-ltb (a .blocks) 18 (omega arith), le-leb (a .n) 4096 (omega arith), le-leb (a .s .terms + a .n) 8192 (omega arith))
 
 pub count-refusal-spec : {M : Type 1} → statement M
 count-refusal-spec = tie.close (tie.spec returns returns-2 sub-if3 returns-3 returns-4)

@@ -9,13 +9,29 @@ returns : tie.Need-returns
 returns c = let a = c .before .before .args in rw (numbers-are (a .l), ne-eqb (a .l .minusb) 0 (λ e. omega (arith, e)))
 
 returns-2 : tie.Need-returns-2
-returns-2 c = let a = c .before .before .before .before .args in rw (numbers-are (a .l), eq-eqb (a .l .minusb) 0 (omega arith), le-ltb (a .l .a) 10000000000000000 (omega arith))
+returns-2 c =
+    let a = c .before .before .before .before .args in
+    rw (numbers-are (a .l), eq-eqb (a .l .minusb) 0 (omega arith), le-ltb (a .l .a) 10000000000000000 (omega arith))
 
 returns-3 : tie.Need-returns-3
-returns-3 c = let a = c .before .before .before .before .before .before .args in rw (numbers-are (a .l), eq-eqb (a .l .minusb) 0 (omega arith), lt-ltb (a .l .a) 10000000000000000 (omega arith), le-ltb (a .l .b) 1000000000000 (omega arith))
+returns-3 c =
+    let a = c .before .before .before .before .before .before .args in
+    rw (
+      numbers-are (a .l),
+      eq-eqb (a .l .minusb) 0 (omega arith),
+      lt-ltb (a .l .a) 10000000000000000 (omega arith),
+      le-ltb (a .l .b) 1000000000000 (omega arith),
+    )
 
 returns-4 : tie.Need-returns-4
-returns-4 c = let a = c .before .before .before .before .before .before .before .args in rw (numbers-are (a .l), eq-eqb (a .l .minusb) 0 (omega arith), lt-ltb (a .l .a) 10000000000000000 (omega arith), lt-ltb (a .l .b) 1000000000000 (omega arith))
+returns-4 c =
+    let a = c .before .before .before .before .before .before .before .args in
+    rw (
+      numbers-are (a .l),
+      eq-eqb (a .l .minusb) 0 (omega arith),
+      lt-ltb (a .l .a) 10000000000000000 (omega arith),
+      lt-ltb (a .l .b) 1000000000000 (omega arith),
+    )
 
 pub numbers-fit-spec : {M : Type 1} → statement M
 numbers-fit-spec = tie.close (tie.spec returns returns-2 returns-3 returns-4)

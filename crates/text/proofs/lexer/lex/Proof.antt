@@ -11,28 +11,47 @@ with-point-requires c κs = search needs
 
 returns : tie.Need-returns
 unfolding lex
-returns c = let a = c .before .before .before .args in rw (c .with-point .ensures, lt-ltb (a .byte) 48 (omega arith), eq-eqb (a .byte) 46 (omega arith))
+returns c =
+    let a = c .before .before .before .args in rw (c .with-point .ensures, lt-ltb (a .byte) 48 (omega arith), eq-eqb (a .byte) 46 (omega arith))
 
 with-space-requires : tie.Need-with-space-requires
 with-space-requires c κs = search needs
 
 returns-2 : tie.Need-returns-2
 unfolding lex
-returns-2 c = let a = c .before .before .before .before .args in rw (c .with-space .ensures, lt-ltb (a .byte) 48 (omega arith), ne-eqb (a .byte) 46 (λ e. omega (arith, e)), eq-eqb (a .byte) 32 (omega arith))
+returns-2 c =
+    let a = c .before .before .before .before .args in
+    rw (c .with-space .ensures, lt-ltb (a .byte) 48 (omega arith), ne-eqb (a .byte) 46 (λ e. omega (arith, e)), eq-eqb (a .byte) 32 (omega arith))
 
 with-minus-requires : tie.Need-with-minus-requires
 with-minus-requires c κs = search needs
 
 returns-3 : tie.Need-returns-3
 unfolding lex
-returns-3 c = let a = c .before .before .before .before .before .args in rw (c .with-minus .ensures, lt-ltb (a .byte) 48 (omega arith), ne-eqb (a .byte) 46 (λ e. omega (arith, e)), ne-eqb (a .byte) 32 (λ e. omega (arith, e)), eq-eqb (a .byte) 45 (omega arith))
+returns-3 c =
+    let a = c .before .before .before .before .before .args in
+    rw (
+      c .with-minus .ensures,
+      lt-ltb (a .byte) 48 (omega arith),
+      ne-eqb (a .byte) 46 (λ e. omega (arith, e)),
+      ne-eqb (a .byte) 32 (λ e. omega (arith, e)),
+      eq-eqb (a .byte) 45 (omega arith),
+    )
 
 fresh-line-requires : tie.Need-fresh-line-requires
 fresh-line-requires c κs = search needs
 
 returns-4 : tie.Need-returns-4
 unfolding lex
-returns-4 c = let a = c .before .before .before .before .before .args in rw (c .fresh-line .ensures, lt-ltb (a .byte) 48 (omega arith), ne-eqb (a .byte) 46 (λ e. omega (arith, e)), ne-eqb (a .byte) 32 (λ e. omega (arith, e)), ne-eqb (a .byte) 45 (λ e. omega (arith, e)))
+returns-4 c =
+    let a = c .before .before .before .before .before .args in
+    rw (
+      c .fresh-line .ensures,
+      lt-ltb (a .byte) 48 (omega arith),
+      ne-eqb (a .byte) 46 (λ e. omega (arith, e)),
+      ne-eqb (a .byte) 32 (λ e. omega (arith, e)),
+      ne-eqb (a .byte) 45 (λ e. omega (arith, e)),
+    )
 
 sub-with-digit : tie.Need-sub-with-digit
 sub-with-digit c = search needs
@@ -42,14 +61,16 @@ with-digit-requires c κs = search needs
 
 returns-5 : tie.Need-returns-5
 unfolding lex
-returns-5 c = let a = c .before .before .before .args in rw (c .with-digit .ensures, le-ltb (a .byte) 48 (omega arith), lt-ltb (a .byte) 58 (omega arith))
+returns-5 c =
+    let a = c .before .before .before .args in rw (c .with-digit .ensures, le-ltb (a .byte) 48 (omega arith), lt-ltb (a .byte) 58 (omega arith))
 
 fresh-line-requires-2 : tie.Need-fresh-line-requires-2
 fresh-line-requires-2 c κs = search needs
 
 returns-6 : tie.Need-returns-6
 unfolding lex
-returns-6 c = let a = c .before .before .before .args in rw (c .fresh-line2 .ensures, le-ltb (a .byte) 48 (omega arith), le-ltb (a .byte) 58 (omega arith))
+returns-6 c =
+    let a = c .before .before .before .args in rw (c .fresh-line2 .ensures, le-ltb (a .byte) 48 (omega arith), le-ltb (a .byte) 58 (omega arith))
 
 pub lex-spec : {M : Type 1} → statement M
 lex-spec =

@@ -15,15 +15,26 @@ whole-digit-requires c κs = search needs
 
 returns-2 : tie.Need-returns-2
 unfolding takesDigit
-returns-2 c = let a = c .before .before .before .args in rw (c .whole-digit .ensures, lt-leb 1000000000000000000 (a .value) (omega arith), lt-ltb (a .spot) 6 (omega arith))
+returns-2 c =
+    let a = c .before .before .before .args in
+    rw (c .whole-digit .ensures, lt-leb 1000000000000000000 (a .value) (omega arith), lt-ltb (a .spot) 6 (omega arith))
 
 returns-3 : tie.Need-returns-3
 unfolding takesDigit
-returns-3 c = let a = c .before .before .before .args in rw (lt-leb 1000000000000000000 (a .value) (omega arith), le-ltb (a .spot) 6 (omega arith), lt-ltb (a .spot) 7 (omega arith))
+returns-3 c =
+    let a = c .before .before .before .args in
+    rw (lt-leb 1000000000000000000 (a .value) (omega arith), le-ltb (a .spot) 6 (omega arith), lt-ltb (a .spot) 7 (omega arith))
 
 returns-4 : tie.Need-returns-4
 unfolding takesDigit
-returns-4 c = let a = c .before .before .before .before .args in rw (lt-leb 1000000000000000000 (a .value) (omega arith), le-ltb (a .spot) 6 (omega arith), le-ltb (a .spot) 7 (omega arith), lt-ltb (a .spot) 17 (omega arith))
+returns-4 c =
+    let a = c .before .before .before .before .args in
+    rw (
+      lt-leb 1000000000000000000 (a .value) (omega arith),
+      le-ltb (a .spot) 6 (omega arith),
+      le-ltb (a .spot) 7 (omega arith),
+      lt-ltb (a .spot) 17 (omega arith),
+    )
 
 add-whole-digit : tie.Need-add-whole-digit
 add-whole-digit c = search needs
@@ -33,22 +44,61 @@ whole-digit-requires-2 c κs = search needs
 
 returns-5 : tie.Need-returns-5
 unfolding takesDigit
-returns-5 c = let a = c .before .before .before .before .before .before .args in rw (c .whole-digit2 .ensures, lt-leb 1000000000000000000 (a .value) (omega arith), le-ltb (a .spot) 6 (omega arith), le-ltb (a .spot) 7 (omega arith), le-ltb (a .spot) 17 (omega arith), lt-ltb (a .spot) 18 (omega arith))
+returns-5 c =
+    let a = c .before .before .before .before .before .before .args in
+    rw (
+      c .whole-digit2 .ensures,
+      lt-leb 1000000000000000000 (a .value) (omega arith),
+      le-ltb (a .spot) 6 (omega arith),
+      le-ltb (a .spot) 7 (omega arith),
+      le-ltb (a .spot) 17 (omega arith),
+      lt-ltb (a .spot) 18 (omega arith),
+    )
 
 returns-6 : tie.Need-returns-6
 unfolding takesDigit
-returns-6 c = let a = c .before .before .before .before .before .before .args in rw (lt-leb 1000000000000000000 (a .value) (omega arith), le-ltb (a .spot) 6 (omega arith), le-ltb (a .spot) 7 (omega arith), le-ltb (a .spot) 17 (omega arith), le-ltb (a .spot) 18 (omega arith), lt-ltb (a .spot) 20 (omega arith))
+returns-6 c =
+    let a = c .before .before .before .before .before .before .args in
+    rw (
+      lt-leb 1000000000000000000 (a .value) (omega arith),
+      le-ltb (a .spot) 6 (omega arith),
+      le-ltb (a .spot) 7 (omega arith),
+      le-ltb (a .spot) 17 (omega arith),
+      le-ltb (a .spot) 18 (omega arith),
+      lt-ltb (a .spot) 20 (omega arith),
+    )
 
 whole-digit-requires-3 : tie.Need-whole-digit-requires-3
 whole-digit-requires-3 c κs = search needs
 
 returns-7 : tie.Need-returns-7
 unfolding takesDigit
-returns-7 c = let a = c .before .before .before .before .before .before .before .before .args in rw (c .whole-digit3 .ensures, lt-leb 1000000000000000000 (a .value) (omega arith), le-ltb (a .spot) 6 (omega arith), le-ltb (a .spot) 7 (omega arith), le-ltb (a .spot) 17 (omega arith), le-ltb (a .spot) 18 (omega arith), le-ltb (a .spot) 20 (omega arith), lt-ltb (a .spot) 24 (omega arith))
+returns-7 c =
+    let a = c .before .before .before .before .before .before .before .before .args in
+    rw (
+      c .whole-digit3 .ensures,
+      lt-leb 1000000000000000000 (a .value) (omega arith),
+      le-ltb (a .spot) 6 (omega arith),
+      le-ltb (a .spot) 7 (omega arith),
+      le-ltb (a .spot) 17 (omega arith),
+      le-ltb (a .spot) 18 (omega arith),
+      le-ltb (a .spot) 20 (omega arith),
+      lt-ltb (a .spot) 24 (omega arith),
+    )
 
 returns-8 : tie.Need-returns-8
 unfolding takesDigit
-returns-8 c = let a = c .before .before .before .before .before .before .before .args in rw (lt-leb 1000000000000000000 (a .value) (omega arith), le-ltb (a .spot) 6 (omega arith), le-ltb (a .spot) 7 (omega arith), le-ltb (a .spot) 17 (omega arith), le-ltb (a .spot) 18 (omega arith), le-ltb (a .spot) 20 (omega arith), le-ltb (a .spot) 24 (omega arith))
+returns-8 c =
+    let a = c .before .before .before .before .before .before .before .args in
+    rw (
+      lt-leb 1000000000000000000 (a .value) (omega arith),
+      le-ltb (a .spot) 6 (omega arith),
+      le-ltb (a .spot) 7 (omega arith),
+      le-ltb (a .spot) 17 (omega arith),
+      le-ltb (a .spot) 18 (omega arith),
+      le-ltb (a .spot) 20 (omega arith),
+      le-ltb (a .spot) 24 (omega arith),
+    )
 
 pub takes-digit-spec : {M : Type 1} → statement M
 takes-digit-spec =

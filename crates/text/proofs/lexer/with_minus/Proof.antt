@@ -15,7 +15,9 @@ fresh-line-requires c κs = search needs
 
 returns-2 : tie.Need-returns-2
 unfolding withMinus
-returns-2 c = let a = c .before .before .before .before .before .args in rw (c .fresh-line .ensures, eq-eqb (a .l .spot) 0 (omega arith), ne-eqb (a .l .minus) 0 (λ e. omega (arith, e)))
+returns-2 c =
+    let a = c .before .before .before .before .before .args in
+    rw (c .fresh-line .ensures, eq-eqb (a .l .spot) 0 (omega arith), ne-eqb (a .l .minus) 0 (λ e. omega (arith, e)))
 
 fresh-line-requires-2 : tie.Need-fresh-line-requires-2
 fresh-line-requires-2 c κs = search needs

@@ -15,7 +15,9 @@ fresh-line-requires c κs = search needs
 
 returns-2 : tie.Need-returns-2
 unfolding withPoint
-returns-2 c = let a = c .before .before .before .before .before .args in rw (c .fresh-line .ensures, le-leb 1 (a .l .spot) (omega arith), lt-leb (a .l .spot) 6 (omega arith))
+returns-2 c =
+    let a = c .before .before .before .before .before .args in
+    rw (c .fresh-line .ensures, le-leb 1 (a .l .spot) (omega arith), lt-leb (a .l .spot) 6 (omega arith))
 
 fresh-line-requires-2 : tie.Need-fresh-line-requires-2
 fresh-line-requires-2 c κs = search needs

@@ -15,28 +15,41 @@ fresh-line-requires c κs = search needs
 
 returns-2 : tie.Need-returns-2
 unfolding withSpace
-returns-2 c = let a = c .before .before .before .before .before .args in rw (c .fresh-line .ensures, eq-eqb (a .l .spot) 0 (omega arith), ne-eqb (a .l .minus) 0 (λ e. omega (arith, e)))
+returns-2 c =
+    let a = c .before .before .before .before .before .args in
+    rw (c .fresh-line .ensures, eq-eqb (a .l .spot) 0 (omega arith), ne-eqb (a .l .minus) 0 (λ e. omega (arith, e)))
 
 add-t5 : tie.Need-add-t5
 add-t5 c = search needs
 
 returns-3 : tie.Need-returns-3
 unfolding withSpace
-returns-3 c = let a = c .before .before .before .before .before .before .before .args in rw (ne-eqb (a .l .spot) 0 (λ e. omega (arith, e)), eq-eqb (a .l .spot) 18 (omega arith), lt-ltb (a .l .field) 2 (omega arith))
+returns-3 c =
+    let a = c .before .before .before .before .before .before .before .args in
+    rw (ne-eqb (a .l .spot) 0 (λ e. omega (arith, e)), eq-eqb (a .l .spot) 18 (omega arith), lt-ltb (a .l .field) 2 (omega arith))
 
 fresh-line-requires-2 : tie.Need-fresh-line-requires-2
 fresh-line-requires-2 c κs = search needs
 
 returns-4 : tie.Need-returns-4
 unfolding withSpace
-returns-4 c = let a = c .before .before .before .before .before .before .before .args in rw (c .fresh-line2 .ensures, ne-eqb (a .l .spot) 0 (λ e. omega (arith, e)), eq-eqb (a .l .spot) 18 (omega arith), le-ltb (a .l .field) 2 (omega arith))
+returns-4 c =
+    let a = c .before .before .before .before .before .before .before .args in
+    rw (
+      c .fresh-line2 .ensures,
+      ne-eqb (a .l .spot) 0 (λ e. omega (arith, e)),
+      eq-eqb (a .l .spot) 18 (omega arith),
+      le-ltb (a .l .field) 2 (omega arith),
+    )
 
 fresh-line-requires-3 : tie.Need-fresh-line-requires-3
 fresh-line-requires-3 c κs = search needs
 
 returns-5 : tie.Need-returns-5
 unfolding withSpace
-returns-5 c = let a = c .before .before .before .before .before .args in rw (c .fresh-line3 .ensures, ne-eqb (a .l .spot) 0 (λ e. omega (arith, e)), ne-eqb (a .l .spot) 18 (λ e. omega (arith, e)))
+returns-5 c =
+    let a = c .before .before .before .before .before .args in
+    rw (c .fresh-line3 .ensures, ne-eqb (a .l .spot) 0 (λ e. omega (arith, e)), ne-eqb (a .l .spot) 18 (λ e. omega (arith, e)))
 
 pub with-space-spec : {M : Type 1} → statement M
 with-space-spec =

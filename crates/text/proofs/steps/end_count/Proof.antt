@@ -15,7 +15,9 @@ stop-requires : tie.Need-stop-requires
 stop-requires c κs = search needs
 
 returns : tie.Need-returns
-returns c = let a = c .before .before .before .before .before .args in wrote-refused (a .r) _ _ (countEnd (a .r)) _ (c .before .before .count-refusal .ensures) (λ e. omega (arith, e)) (c .stop .ensures)
+returns c =
+    let a = c .before .before .before .before .before .args in
+    wrote-refused (a .r) _ _ (countEnd (a .r)) _ (c .before .before .count-refusal .ensures) (λ e. omega (arith, e)) (c .stop .ensures)
 
 put-number-requires : tie.Need-put-number-requires
 put-number-requires c κs = search needs
@@ -30,7 +32,13 @@ enum-known-put : tie.Need-enum-known-put
 enum-known-put c = search needs
 
 add-advance : tie.Need-add-advance
-add-advance c = let a = c .before .before .before .before .before .before .before .before .before .before .before .args in omega (arith, counted (a .r .blocks) (sums (a .r)) (a .r .line .value) (sym (c .before .before .before .before .before .before .before .before .count-refusal .ensures) ∙ (omega arith)))
+add-advance c =
+    let a = c .before .before .before .before .before .before .before .before .before .before .before .args in
+    omega (
+      arith,
+      counted (a .r .blocks) (sums (a .r)) (a .r .line .value)
+          (sym (c .before .before .before .before .before .before .before .before .count-refusal .ensures) ∙ (omega arith)),
+    )
 
 open-block-requires : tie.Need-open-block-requires
 open-block-requires c κs = sym (c .before .before .before .before .before .before .before .before .count-refusal .ensures) ∙ (omega arith)
@@ -42,13 +50,24 @@ same-length : tie.Need-same-length
 same-length c = search needs
 
 returns-2 : tie.Need-returns-2
-returns-2 c = let a = c .before .before .before .before .before .before .before .before .before .before .before .args in wrote-full (a .r) _ _ (countEnd (a .r)) (sym (c .before .before .before .before .before .before .before .before .count-refusal .ensures) ∙ (omega arith)) _ _ _ _ (c .before .before .before .before .before .put-number .ensures .0 ∙ put-answer-is _ _ _) (c .before .before .before .before .before .put-number .ensures .1 ∙ put-out-is _ _ _) (c .before .enum-told .given .1) (c .stop2 .ensures)
+returns-2 c =
+    let a = c .before .before .before .before .before .before .before .before .before .before .before .args in
+    wrote-full (a .r) _ _ (countEnd (a .r))
+    (sym (c .before .before .before .before .before .before .before .before .count-refusal .ensures) ∙ (omega arith)) _ _ _ _
+    (c .before .before .before .before .before .put-number .ensures .0 ∙ put-answer-is _ _ _)
+    (c .before .before .before .before .before .put-number .ensures .1 ∙ put-out-is _ _ _) (c .before .enum-told .given .1) (c .stop2 .ensures)
 
 same-length-2 : tie.Need-same-length-2
 same-length-2 c = search needs
 
 returns-3 : tie.Need-returns-3
-returns-3 c = let a = c .before .before .before .before .before .before .before .before .before .before .before .before .before .args in wrote-next (a .r) _ _ (countEnd (a .r)) (sym (c .before .before .before .before .before .before .before .before .before .before .count-refusal .ensures) ∙ (omega arith)) _ _ _ _ (c .before .before .before .before .before .before .before .put-number .ensures .0 ∙ put-answer-is _ _ _) (c .before .before .before .before .before .before .before .put-number .ensures .1 ∙ put-out-is _ _ _) (c .before .before .before .put .given .1) (c .advance .ensures ∙ rw (c .before .open-block .ensures))
+returns-3 c =
+    let a = c .before .before .before .before .before .before .before .before .before .before .before .before .before .args in
+    wrote-next (a .r) _ _ (countEnd (a .r))
+    (sym (c .before .before .before .before .before .before .before .before .before .before .count-refusal .ensures) ∙ (omega arith)) _ _ _ _
+    (c .before .before .before .before .before .before .before .put-number .ensures .0 ∙ put-answer-is _ _ _)
+    (c .before .before .before .before .before .before .before .put-number .ensures .1 ∙ put-out-is _ _ _)
+    (c .before .before .before .put .given .1) (c .advance .ensures ∙ rw (c .before .open-block .ensures))
 
 pub end-count-spec : {M : Type 1} → statement M
 end-count-spec =

@@ -16,7 +16,10 @@ same-length : tie.Need-same-length
 same-length c = search needs
 
 returns : tie.Need-returns
-returns c = let a = c .before .before .before .before .before .before .before .before .args in rw (verdict-count (a .r) (sym (c .before .before .before .before .before .whole-count .ensures) ∙ c .before .before .before .before .if1 .taken)) (c .before .before .end-count .ensures)
+returns c =
+    let a = c .before .before .before .before .before .before .before .before .args in
+    rw (verdict-count (a .r) (sym (c .before .before .before .before .before .whole-count .ensures) ∙ c .before .before .before .before .if1 .taken))
+    (c .before .before .end-count .ensures)
 
 whole-term-requires : tie.Need-whole-term-requires
 whole-term-requires c κs = search needs
@@ -28,13 +31,26 @@ same-length-2 : tie.Need-same-length-2
 same-length-2 c = search needs
 
 returns-2 : tie.Need-returns-2
-returns-2 c = let a = c .before .before .before .before .before .before .before .before .before .before .args in rw (verdict-term (a .r) (sym (c .before .before .before .before .before .before .before .whole-count .ensures) ∙ c .before .before .before .before .before .before .if1 .left) (sym (c .before .before .before .before .before .whole-term .ensures) ∙ c .before .before .before .before .if2 .taken)) (c .before .before .end-term .ensures)
+returns-2 c =
+    let a = c .before .before .before .before .before .before .before .before .before .before .args in
+    rw
+    (verdict-term (a .r)
+    (sym (c .before .before .before .before .before .before .before .whole-count .ensures) ∙ c .before .before .before .before .before
+    .before .if1 .left)
+    (sym (c .before .before .before .before .before .whole-term .ensures) ∙ c .before .before .before .before .if2 .taken))
+    (c .before .before .end-term .ensures)
 
 stop-requires : tie.Need-stop-requires
 stop-requires c κs = search needs
 
 returns-3 : tie.Need-returns-3
-returns-3 c = let a = c .before .before .before .before .before .before .before .args in wrote-refused (a .r) _ _ _ 3 (sym (verdict-early (a .r) (sym (c .before .before .before .before .whole-count .ensures) ∙ c .before .before .before .if1 .left) (sym (c .before .before .whole-term .ensures) ∙ c .before .if2 .left))) (λ e. omega (arith, e)) (c .stop .ensures)
+returns-3 c =
+    let a = c .before .before .before .before .before .before .before .args in
+    wrote-refused (a .r) _ _ _ 3
+    (sym
+    (verdict-early (a .r) (sym (c .before .before .before .before .whole-count .ensures) ∙ c .before .before .before .if1 .left)
+    (sym (c .before .before .whole-term .ensures) ∙ c .before .if2 .left)))
+    (λ e. omega (arith, e)) (c .stop .ensures)
 
 pub end-line-spec : {M : Type 1} → statement M
 end-line-spec =

@@ -21,7 +21,8 @@ good c = sym (judged (c .before .before)) ∙ (omega arith)
 more : (c : tie.Else1) → let r = c .before .before .before .before .before .before .args .r in c .before .before .judge-term .result .sums ≡ termEnd r .sums
 more c =
     let r = c .before .before .before .before .before .before .args .r in
-    c .before .before .judge-term .ensures .1 (omega arith) ∙ ap (λ (f : ℕ). added f (sums r) (termOf (r .line))) (c .before .before .before .factor-of .ensures .0)
+    c .before .before .judge-term .ensures .1 (omega arith) ∙ ap (λ (f : ℕ). added f (sums r) (termOf (r .line)))
+    (c .before .before .before .factor-of .ensures .0)
 
 factor-of-requires : tie.Need-factor-of-requires
 factor-of-requires c κs = search needs
@@ -33,10 +34,14 @@ stop-requires : tie.Need-stop-requires
 stop-requires c κs = search needs
 
 returns : tie.Need-returns
-returns c = let a = c .before .before .before .before .before .before .before .args in wrote-refused (a .r) _ _ (termEnd (a .r)) _ (judged (c .before .before .before)) (λ e. omega (arith, e)) (c .stop .ensures)
+returns c =
+    let a = c .before .before .before .before .before .before .before .args in
+    wrote-refused (a .r) _ _ (termEnd (a .r)) _ (judged (c .before .before .before)) (λ e. omega (arith, e)) (c .stop .ensures)
 
 put-term-requires : tie.Need-put-term-requires
-put-term-requires c κs = let a = c .before .before .before .before .before .before .before .before .args in let s = small-of (factor (a .r .blocks - 1)) (sums (a .r)) (a .r .line) (good (c .before .before)) in omega (arith, s .a, s .c)
+put-term-requires c κs =
+    let a = c .before .before .before .before .before .before .before .before .args in
+    let s = small-of (factor (a .r .blocks - 1)) (sums (a .r)) (a .r .line) (good (c .before .before)) in omega (arith, s .a, s .c)
 
 enum-told : tie.Need-enum-told
 enum-told c = search needs
@@ -57,13 +62,23 @@ same-length : tie.Need-same-length
 same-length c = search needs
 
 returns-2 : tie.Need-returns-2
-returns-2 c = let a = c .before .before .before .before .before .before .before .before .before .before .before .before .before .before .args in wrote-full (a .r) _ _ (termEnd (a .r)) (good (c .before .before .before .before .before .before .before .before)) _ _ _ _ (c .before .before .before .before .before .put-term .ensures .0) (c .before .before .before .before .before .put-term .ensures .1) (c .before .enum-told .given .1) (c .stop2 .ensures)
+returns-2 c =
+    let a = c .before .before .before .before .before .before .before .before .before .before .before .before .before .before .args in
+    wrote-full (a .r) _ _ (termEnd (a .r)) (good (c .before .before .before .before .before .before .before .before)) _ _ _ _
+    (c .before .before .before .before .before .put-term .ensures .0) (c .before .before .before .before .before .put-term .ensures .1)
+    (c .before .enum-told .given .1) (c .stop2 .ensures)
 
 same-length-2 : tie.Need-same-length-2
 same-length-2 c = search needs
 
 returns-3 : tie.Need-returns-3
-returns-3 c = let a = c .before .before .before .before .before .before .before .before .before .before .before .before .before .before .before .before .args in wrote-next (a .r) _ _ (termEnd (a .r)) (good (c .before .before .before .before .before .before .before .before .before .before)) _ _ _ _ (c .before .before .before .before .before .before .before .put-term .ensures .0) (c .before .before .before .before .before .before .before .put-term .ensures .1) (c .before .before .before .put .given .1) (c .advance .ensures ∙ (rw (c .before .less-one .ensures, more (c .before .before .before .before .before .before .before .before .before .before))))
+returns-3 c =
+    let a = c .before .before .before .before .before .before .before .before .before .before .before .before .before .before .before .before .args in
+    wrote-next (a .r) _ _ (termEnd (a .r)) (good (c .before .before .before .before .before .before .before .before .before .before)) _ _ _ _
+    (c .before .before .before .before .before .before .before .put-term .ensures .0)
+    (c .before .before .before .before .before .before .before .put-term .ensures .1) (c .before .before .before .put .given .1)
+    (c .advance .ensures ∙
+    (rw (c .before .less-one .ensures, more (c .before .before .before .before .before .before .before .before .before .before))))
 
 pub end-term-spec : {M : Type 1} → statement M
 end-term-spec =

@@ -15,23 +15,58 @@ returns-2 c = let a = c .before .before .args in rw (ne-eqb (a .status) 4 (λ e.
 
 returns-3 : tie.Need-returns-3
 unfolding refusal
-returns-3 c = let a = c .before .before .before .args in rw (ne-eqb (a .status) 4 (λ e. omega (arith, e)), ne-eqb (a .status) 5 (λ e. omega (arith, e)), eq-eqb (a .status) 6 (omega arith))
+returns-3 c =
+    let a = c .before .before .before .args in
+    rw (ne-eqb (a .status) 4 (λ e. omega (arith, e)), ne-eqb (a .status) 5 (λ e. omega (arith, e)), eq-eqb (a .status) 6 (omega arith))
 
 returns-4 : tie.Need-returns-4
 unfolding refusal
-returns-4 c = let a = c .before .before .before .before .args in rw (ne-eqb (a .status) 4 (λ e. omega (arith, e)), ne-eqb (a .status) 5 (λ e. omega (arith, e)), ne-eqb (a .status) 6 (λ e. omega (arith, e)), eq-eqb (a .status) 7 (omega arith))
+returns-4 c =
+    let a = c .before .before .before .before .args in
+    rw (
+      ne-eqb (a .status) 4 (λ e. omega (arith, e)),
+      ne-eqb (a .status) 5 (λ e. omega (arith, e)),
+      ne-eqb (a .status) 6 (λ e. omega (arith, e)),
+      eq-eqb (a .status) 7 (omega arith),
+    )
 
 returns-5 : tie.Need-returns-5
 unfolding refusal
-returns-5 c = let a = c .before .before .before .before .before .args in rw (ne-eqb (a .status) 4 (λ e. omega (arith, e)), ne-eqb (a .status) 5 (λ e. omega (arith, e)), ne-eqb (a .status) 6 (λ e. omega (arith, e)), ne-eqb (a .status) 7 (λ e. omega (arith, e)), eq-eqb (a .status) 8 (omega arith))
+returns-5 c =
+    let a = c .before .before .before .before .before .args in
+    rw (
+      ne-eqb (a .status) 4 (λ e. omega (arith, e)),
+      ne-eqb (a .status) 5 (λ e. omega (arith, e)),
+      ne-eqb (a .status) 6 (λ e. omega (arith, e)),
+      ne-eqb (a .status) 7 (λ e. omega (arith, e)),
+      eq-eqb (a .status) 8 (omega arith),
+    )
 
 returns-6 : tie.Need-returns-6
 unfolding refusal
-returns-6 c = let a = c .before .before .before .before .before .before .args in rw (ne-eqb (a .status) 4 (λ e. omega (arith, e)), ne-eqb (a .status) 5 (λ e. omega (arith, e)), ne-eqb (a .status) 6 (λ e. omega (arith, e)), ne-eqb (a .status) 7 (λ e. omega (arith, e)), ne-eqb (a .status) 8 (λ e. omega (arith, e)), eq-eqb (a .status) 9 (omega arith))
+returns-6 c =
+    let a = c .before .before .before .before .before .before .args in
+    rw (
+      ne-eqb (a .status) 4 (λ e. omega (arith, e)),
+      ne-eqb (a .status) 5 (λ e. omega (arith, e)),
+      ne-eqb (a .status) 6 (λ e. omega (arith, e)),
+      ne-eqb (a .status) 7 (λ e. omega (arith, e)),
+      ne-eqb (a .status) 8 (λ e. omega (arith, e)),
+      eq-eqb (a .status) 9 (omega arith),
+    )
 
 returns-7 : tie.Need-returns-7
 unfolding refusal
-returns-7 c = let a = c .before .before .before .before .before .before .args in rw (ne-eqb (a .status) 4 (λ e. omega (arith, e)), ne-eqb (a .status) 5 (λ e. omega (arith, e)), ne-eqb (a .status) 6 (λ e. omega (arith, e)), ne-eqb (a .status) 7 (λ e. omega (arith, e)), ne-eqb (a .status) 8 (λ e. omega (arith, e)), ne-eqb (a .status) 9 (λ e. omega (arith, e)))
+returns-7 c =
+    let a = c .before .before .before .before .before .before .args in
+    rw (
+      ne-eqb (a .status) 4 (λ e. omega (arith, e)),
+      ne-eqb (a .status) 5 (λ e. omega (arith, e)),
+      ne-eqb (a .status) 6 (λ e. omega (arith, e)),
+      ne-eqb (a .status) 7 (λ e. omega (arith, e)),
+      ne-eqb (a .status) 8 (λ e. omega (arith, e)),
+      ne-eqb (a .status) 9 (λ e. omega (arith, e)),
+    )
 
 pub refusal-of-spec : {M : Type 1} → statement M
 refusal-of-spec =

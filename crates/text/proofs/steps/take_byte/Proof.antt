@@ -12,13 +12,17 @@ stop-requires : tie.Need-stop-requires
 stop-requires c κs = search needs
 
 returns-2 : tie.Need-returns-2
-returns-2 c = let a = c .before .before .before .before .before .before .args in step-uncounted (a .r) _ _ (a .out .now) (a .byte) (omega arith) (omega arith) (c .stop .ensures)
+returns-2 c =
+    let a = c .before .before .before .before .before .before .args in
+    step-uncounted (a .r) _ _ (a .out .now) (a .byte) (omega arith) (omega arith) (c .stop .ensures)
 
 stop-requires-2 : tie.Need-stop-requires-2
 stop-requires-2 c κs = search needs
 
 returns-3 : tie.Need-returns-3
-returns-3 c = let a = c .before .before .before .before .before .before .before .before .before .args in step-after (a .r) _ _ (a .out .now) (a .byte) (omega arith) (λ e. omega (arith, e)) (omega arith) (c .stop2 .ensures)
+returns-3 c =
+    let a = c .before .before .before .before .before .before .before .before .before .args in
+    step-after (a .r) _ _ (a .out .now) (a .byte) (omega arith) (λ e. omega (arith, e)) (omega arith) (c .stop2 .ensures)
 
 end-line-requires : tie.Need-end-line-requires
 end-line-requires c κs = search needs
@@ -27,13 +31,19 @@ same-length : tie.Need-same-length
 same-length c = search needs
 
 returns-4 : tie.Need-returns-4
-returns-4 c = let a = c .before .before .before .before .before .before .before .before .before .before .before .before .before .args in step-feed (a .r) _ _ _ (a .byte) (omega arith) (λ e. omega (arith, e)) (λ e. omega (arith, e)) (omega arith) (c .before .before .end-line .ensures)
+returns-4 c =
+    let a = c .before .before .before .before .before .before .before .before .before .before .before .before .before .args in
+    step-feed (a .r) _ _ _ (a .byte) (omega arith) (λ e. omega (arith, e)) (λ e. omega (arith, e)) (omega arith)
+    (c .before .before .end-line .ensures)
 
 take-other-requires : tie.Need-take-other-requires
 take-other-requires c κs = search needs
 
 returns-5 : tie.Need-returns-5
-returns-5 c = let a = c .before .before .before .before .before .before .before .before .before .before .args in step-other (a .r) _ _ (a .out .now) (a .byte) (omega arith) (λ e. omega (arith, e)) (λ e. omega (arith, e)) (λ e. omega (arith, e)) (c .take-other .ensures)
+returns-5 c =
+    let a = c .before .before .before .before .before .before .before .before .before .before .args in
+    step-other (a .r) _ _ (a .out .now) (a .byte) (omega arith) (λ e. omega (arith, e)) (λ e. omega (arith, e)) (λ e. omega (arith, e))
+    (c .take-other .ensures)
 
 pub take-byte-spec : {M : Type 1} → statement M
 take-byte-spec =

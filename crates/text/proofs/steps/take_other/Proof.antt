@@ -12,13 +12,17 @@ stop-requires : tie.Need-stop-requires
 stop-requires c κs = search needs
 
 returns : tie.Need-returns
-returns c = let a = c .before .before .before .before .before .args in other-bad (a .r) _ _ (a .byte) (c .before .before .before .lex .ensures) (omega arith) (c .stop .ensures)
+returns c =
+    let a = c .before .before .before .before .before .args in
+    other-bad (a .r) _ _ (a .byte) (c .before .before .before .lex .ensures) (omega arith) (c .stop .ensures)
 
 add-t6 : tie.Need-add-t6
 add-t6 c = search needs
 
 returns-2 : tie.Need-returns-2
-returns-2 c = let a = c .before .before .before .before .before .args in other-good (a .r) _ (a .byte) (c .before .before .before .lex .ensures) (λ e. omega (arith, e))
+returns-2 c =
+    let a = c .before .before .before .before .before .args in
+    other-good (a .r) _ (a .byte) (c .before .before .before .lex .ensures) (λ e. omega (arith, e))
 
 pub take-other-spec : {M : Type 1} → statement M
 take-other-spec = tie.close (tie.spec lex-requires stop-requires returns add-t6 returns-2)

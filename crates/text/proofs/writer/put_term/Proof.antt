@@ -18,8 +18,11 @@ last : (c : tie.After-groups-of3) → let l = c .before .before .before .before 
 last c = c .groups-of3 .ensures ∙ ap (λ (v : ℕ). length (encode v)) (c .before .before .before .fold2 .ensures)
 
 few : (c : tie.After-groups-of3) → (c .before .before .groups-of .result ≤ 10) × (c .before .groups-of2 .result ≤ 10) × (c .groups-of3 .result ≤ 10)
-few c =
-    (rw (c .before .before .groups-of .ensures) (encode-few _), rw (c .before .groups-of2 .ensures) (encode-few _), rw (c .groups-of3 .ensures) (encode-few _))
+few c = (
+  rw (c .before .before .groups-of .ensures) (encode-few _),
+  rw (c .before .groups-of2 .ensures) (encode-few _),
+  rw (c .groups-of3 .ensures) (encode-few _),
+)
 
 total : (c : tie.After-groups-of3) → let a = c .before .before .before .before .before .before .args in
     c .before .before .groups-of .result + c .before .groups-of2 .result + c .groups-of3 .result ≡ length (pack-term (termOf (a .l)))
@@ -40,7 +43,9 @@ groups-of-requires-2 : tie.Need-groups-of-requires-2
 groups-of-requires-2 c κs = search needs
 
 add-n : tie.Need-add-n
-add-n c = let a = c .before .before .before .before .before .args in omega (arith, encode-few (c .before .before .before .fold .result), encode-few (a .l .b), c .before .groups-of .ensures, c .groups-of2 .ensures)
+add-n c =
+    let a = c .before .before .before .before .before .args in
+    omega (arith, encode-few (c .before .before .before .fold .result), encode-few (a .l .b), c .before .groups-of .ensures, c .groups-of2 .ensures)
 
 groups-of-requires-3 : tie.Need-groups-of-requires-3
 groups-of-requires-3 c κs = search needs
@@ -49,13 +54,17 @@ add-n-2 : tie.Need-add-n-2
 add-n-2 c = omega (arith, few c)
 
 returns : tie.Need-returns
-returns c = let a = c .before .before .before .before .before .before .before .args in put-full (termOf (a .l)) (a .at) (a .out .now) _ (total (c .before)) (omega arith)
+returns c =
+    let a = c .before .before .before .before .before .before .before .args in
+    put-full (termOf (a .l)) (a .at) (a .out .now) _ (total (c .before)) (omega arith)
 
 sub-if2 : tie.Need-sub-if2
 sub-if2 c = search needs
 
 returns-2 : tie.Need-returns-2
-returns-2 c = let a = c .before .before .before .before .before .before .before .before .args in put-full (termOf (a .l)) (a .at) (a .out .now) _ (total (c .before .before)) (omega arith)
+returns-2 c =
+    let a = c .before .before .before .before .before .before .before .before .args in
+    put-full (termOf (a .l)) (a .at) (a .out .now) _ (total (c .before .before)) (omega arith)
 
 put-groups-requires : tie.Need-put-groups-requires
 put-groups-requires c κs = search needs
@@ -70,7 +79,36 @@ same-length : tie.Need-same-length
 same-length c = search needs
 
 returns-3 : tie.Need-returns-3
-returns-3 c = let a = c .before .before .before .before .before .before .before .before .before .before .before .before .before .before .before .before .before .before .before .before .args in let t = length-term (termOf (a .l)) (a .at) (a .out .now) in let h : a .at + length (pack-term (termOf (a .l))) ≤ length (a .out .now) = omega (arith, total (c .before .before .before .before .before .before .before .before .before .before .before .before .before .before)) in let p = ap (λ (v : ℕ). encode v) (c .before .before .before .before .before .before .before .before .before .before .before .before .before .before .before .before .before .before .fold .ensures) in let q = ap (λ (v : ℕ). encode v) (c .before .before .before .before .before .before .before .before .before .before .before .before .before .before .before .before .before .fold2 .ensures) in (put-three (termOf (a .l)) (a .at) (a .out .now) _ (omega (arith, c .before .before .put-groups3 .ensures .0, c .before .before .before .before .before .before .put-groups2 .ensures .0, c .before .before .before .before .before .before .before .before .before .before .put-groups .ensures .0, ap length p, ap length q)) h, stored-three (termOf (a .l)) (a .at) (a .out .now) _ _ _ _ _ h (rw p at (c .before .before .before .before .before .before .before .before .before .before .put-groups .ensures .1)) (rw p at (c .before .before .before .before .before .before .before .before .before .before .put-groups .ensures .0)) (c .before .before .before .before .before .before .put-groups2 .ensures .1) (c .before .before .before .before .before .before .put-groups2 .ensures .0) (rw q at (c .before .before .put-groups3 .ensures .1)))
+returns-3 c =
+    let a = c .before .before .before .before .before .before .before .before .before .before .before .before .before .before .before .before .before
+    .before .before .before .args in
+    let t = length-term (termOf (a .l)) (a .at) (a .out .now) in
+    let h : a .at + length (pack-term (termOf (a .l))) ≤ length (a .out .now) = omega
+    (arith, total (c .before .before .before .before .before .before .before .before .before .before .before .before .before .before)) in
+    let p = ap (λ (v : ℕ). encode v)
+    (c .before .before .before .before .before .before .before .before .before .before .before .before .before .before .before .before .before
+    .before .fold .ensures)
+    in
+    let q = ap (λ (v : ℕ). encode v)
+    (c .before .before .before .before .before .before .before .before .before .before .before .before .before .before .before .before .before
+    .fold2 .ensures)
+    in (
+      put-three (termOf (a .l)) (a .at) (a .out .now) _
+          (omega (
+            arith,
+            c .before .before .put-groups3 .ensures .0,
+            c .before .before .before .before .before .before .put-groups2 .ensures .0,
+            c .before .before .before .before .before .before .before .before .before .before .put-groups .ensures .0,
+            ap length p,
+            ap length q,
+          ))
+          h,
+      stored-three (termOf (a .l)) (a .at) (a .out .now) _ _ _ _ _ h
+          (rw p at (c .before .before .before .before .before .before .before .before .before .before .put-groups .ensures .1))
+          (rw p at (c .before .before .before .before .before .before .before .before .before .before .put-groups .ensures .0))
+          (c .before .before .before .before .before .before .put-groups2 .ensures .1)
+          (c .before .before .before .before .before .before .put-groups2 .ensures .0) (rw q at (c .before .before .put-groups3 .ensures .1)),
+    )
 
 pub put-term-spec : {M : Type 1} → statement M
 put-term-spec =
