@@ -5,3 +5,4 @@ pub mod Halving
 pub mod Turns
 pub mod Steps
 pub mod Latitudes
+pub mod Figures

@@ -2,3 +2,4 @@
 pub mod Polynomials
 pub mod Terms
 pub mod Sums
+pub mod Figures
