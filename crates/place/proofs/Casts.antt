@@ -6,7 +6,10 @@ use lib.Dec.{T, le→leb, lt→ltb}
 use lib.IntN.{ℤ, pos, negsuc, natAbs}
 use lib.Ieee.{Float, binary64, ofInt, ofBits, div, inFloat}
 use Rattle.vectors.proofs.Cells.{Cell, cell}
-use Rattle.place.specs.Mount.{degrees, astronomical-units}
+use Rattle.place.specs.Mount.{degrees, astronomical-units, mount-place}
+use Rattle.place.specs.declared.Equatorial.{Equatorial}
+use Rattle.place.specs.declared.MountPlace.{MountPlace}
+use Rattle.place.specs.Sizes.{Small}
 
 exact : (k : ℤ) → natAbs k ≤ 2 ^ 52 → T (inFloat binary64 k)
 unfolding inFloat
@@ -32,3 +35,13 @@ divisor-of-distances = refl
 pub astronomical-units-are : (k : ℤ) → natAbs k ≤ 2 ^ 52 → div binary64 (ofInt binary64 (Cell k)) (ofBits binary64 4771362005757984768) ≡ astronomical-units k
 unfolding astronomical-units
 astronomical-units-are k h = rw (cell k (omega arith), divisor-of-distances)
+
+-- The three figures, from the bits of the numbers.
+pub figures-are : (p : Equatorial) → Small p → (a b d : Float) → a ≡ degrees (Cell (p .«right_ascension»)) → b ≡ degrees (Cell (p .declination)) → d ≡ astronomical-units (Cell (p .distance))
+    → _≡_ {A = MountPlace} (record { «right_ascension» = a; declination = b; distance = d }) (mount-place p)
+unfolding mount-place
+figures-are p h a b d ea eb ed =
+    let x : a ≡ degrees (p .«right_ascension») = ea ∙ ap degrees (let l = h .ascension-in in cell (p .«right_ascension») (omega arith)) in
+    let y : b ≡ degrees (p .declination) = eb ∙ ap degrees (let l = h .declination-in in cell (p .declination) (omega arith)) in
+    let z : d ≡ astronomical-units (p .distance) = ed ∙ ap astronomical-units (let l = h .distance-in in cell (p .distance) (omega arith)) in
+    rw (x, y, z)

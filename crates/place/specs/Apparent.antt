@@ -11,7 +11,7 @@ use Rattle.vectors.specs.declared.Vector.{Vector}
 use Rattle.vectors.specs.Vectors.{geocentric, length}
 use Rattle.vectors.specs.Rectangular.{rectangular, place, distance, places-usable}
 use Rattle.direction.specs.Direction.{steps-angle, direction, latitude}
-use Rattle.nutation.specs.Nutation.{longitude-nutation, true-obliquity, nutation-angle, obliquity-angle}
+use Rattle.nutation.specs.Nutation.{nutation-angle, obliquity-angle}
 use Rattle.place.specs.declared.Sight.{Sight}
 use Rattle.place.specs.declared.Sight.the-variants.{Usable, Unusable}
 use Rattle.place.specs.declared.Apparent.{Apparent}
@@ -42,12 +42,12 @@ turned e v = record {
   z = rounded (v .y *ℤ sine e) U +ℤ rounded (v .z *ℤ cosine e) U;
 }
 
--- The apparent equatorial X, Y, Z of a geocentric vector, with the nutation in longitude and the true obliquity, all at the asked t.
+-- The apparent equatorial X, Y, Z of a geocentric vector, with the angles of the nutation in longitude and of the true obliquity, all at the asked t.
 unfoldable pub apparent : Instant → Vector → Apparent
 apparent t v = record {
   vector = turned (obliquity-angle (t .ms)) (rebuilt (nutation-angle (t .ms)) v);
-  nutation = longitude-nutation (t .ms);
-  obliquity = true-obliquity (t .ms);
+  nutation = nutation-angle (t .ms);
+  obliquity = obliquity-angle (t .ms);
 }
 
 -- "Right ascension and declination are its direction and latitude." The distance is given with it.

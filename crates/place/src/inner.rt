@@ -4,17 +4,27 @@ ghost use Prim.Native.Nat.{_<_, _≤_, _^_};
 ghost use lib.IntN.{pos, natAbs};
 ghost use Rattle.vectors.specs.Sizes.{Components};
 ghost use Rattle.units.specs.Units.{t-limit};
-ghost use Rattle.place.specs.Apparent.{sight as sight-of, light-time, earlier as earlier-of, turned};
+ghost use Rattle.place.specs.Apparent.{sight as sight-of, light-time, earlier as earlier-of, rebuilt, turned, apparent as apparent-of, equatorial as equatorial-of};
+ghost use Rattle.place.specs.Sizes.{reach, equator-reach};
+use crate::Apparent;
+use crate::Equatorial;
 use crate::Geocentric;
 use crate::Sight;
 use arith::muldiv::mul_div_round_wide;
 use arith::muldiv::scale;
+use arith::residue::residue;
 use arith::signed::add;
 use arith::signed::sub;
+use arith::signed::wide;
 use cosine::inner::cosine_sine;
+use direction::inner::direction_of;
+use direction::inner::latitude_of;
+use direction::inner::units_angle;
+use nutation::inner::angles_at;
 use units::Coordinates;
 use units::Instant;
 use vectors::Vector;
+use vectors::inner::from_angles;
 use vectors::inner::geocentric;
 use vectors::inner::length;
 use vectors::inner::place;
@@ -71,4 +81,56 @@ pub fn turn(v: Vector, obliquity: u64) -> Vector
     let y = sub(yc, zs);
     let z = add(ys, zc);
     Vector { x: v.x, y, z }
+}
+
+// A vector rebuilt from its direction and latitude, the nutation's angle added to the longitude.
+pub fn rebuild(v: Vector, nutation: i64) -> Vector
+    requires { ⌜ Components reach v ⌝ }
+    ensures { λ r. ⌜ r ≡ rebuilt nutation v ⌝ }
+{
+    let k = direction_of(v.x, v.y);
+    let h = latitude_of(v.x, v.y, v.z);
+    let b = residue(units_angle(h, 129600000), 62831853071796);
+    let a = residue(units_angle(k, 129600000), 62831853071796);
+    let n = residue(nutation, 62831853071796);
+    let r = wide(length(v));
+    from_angles(r, b, (a + n) % 62831853071796)
+}
+
+// Rebuilt and turned, by the angles of the nutation in longitude and of the true obliquity.
+pub fn to_equator(v: Vector, nutation: i64, obliquity: i64) -> Vector
+    requires { ⌜ Components reach v ⌝ }
+    ensures { λ r. ⌜ r ≡ turned obliquity (rebuilt nutation v) ⌝ }
+{
+    let w = rebuild(v, nutation);
+    turn(w, residue(obliquity, 62831853071796))
+}
+
+// The apparent equatorial vector of a geocentric one, with the nutation and the obliquity that it was turned by.
+pub fn apparent(t: Instant, v: Vector) -> Apparent
+    requires { ⌜ (natAbs (t .ms) ≤ t-limit) × Components reach v ⌝ }
+    ensures { λ r. ⌜ r ≡ apparent-of t v ⌝ }
+{
+    let a = angles_at(t.ms);
+    let vector = to_equator(v, a.nutation, a.obliquity);
+    Apparent {
+        vector,
+        nutation: a.nutation,
+        obliquity: a.obliquity,
+    }
+}
+
+// The two directions of an equatorial vector, with a distance.
+pub fn equatorial(v: Vector, distance: u64) -> Equatorial
+    requires { ⌜ Components equator-reach v × (distance < 2 ^ 46) ⌝ }
+    ensures { λ r. ⌜ r ≡ equatorial-of v distance ⌝ }
+{
+    let a = direction_of(v.x, v.y);
+    let d = latitude_of(v.x, v.y, v.z);
+    let u = wide(distance);
+    Equatorial {
+        right_ascension: a,
+        declination: d,
+        distance: u,
+    }
 }

@@ -1,8 +1,18 @@
 // The apparent equatorial place of a planet from two packed series, and the mount's answer: document 01, "Places".
+ghost use mathlib.Core.Path.{_≡_};
+ghost use Rattle.place.specs.Place.{place-answer};
+ghost use Rattle.place.specs.Mount.{mount-answer};
+
 pub mod bodies;
 mod doubles;
 pub mod inner;
 
+use crate::bodies::sighting;
+use crate::doubles::figures;
+use crate::doubles::number_of;
+use crate::inner::apparent;
+use crate::inner::equatorial;
+use units::Instant;
 use units::Refusal;
 use vectors::Vector;
 
@@ -24,7 +34,7 @@ pub enum Sighting {
     NoSight(Refusal),
 }
 
-// The apparent equatorial vector, in parts, with the nutation in longitude and the true obliquity, in 10^-5 arcsecond.
+// The apparent equatorial vector, in parts, with the nutation in longitude and the true obliquity as angles, in 10^-13 radian.
 pub struct Apparent {
     pub vector: Vector,
     pub nutation: i64,
@@ -55,4 +65,31 @@ pub struct MountPlace {
 pub enum Mount {
     At(MountPlace),
     Refused(u64),
+}
+
+// The apparent place of a planet at an instant, from the packed series of planet and Earth. The answer's distance is that at t.
+pub fn apparent_place(planet: &[u8], earth: &[u8], t: Instant) -> PlaceAnswer
+    ensures { λ r. ⌜ r ≡ place-answer (now (planet .entry)) (now (earth .entry)) t ⌝ }
+{
+    let s = sighting(planet, earth, t);
+    match s {
+        Sighting::NoSight(r) => PlaceAnswer::NoPlace(r),
+        Sighting::Seen(g) => {
+            let v = g.vector;
+            let a = apparent(t, v);
+            let w = a.vector;
+            PlaceAnswer::Place(equatorial(w, g.distance))
+        }
+    }
+}
+
+// The same for a mount.
+pub fn mount_place(planet: &[u8], earth: &[u8], t: Instant) -> Mount
+    ensures { λ r. ⌜ r ≡ mount-answer (now (planet .entry)) (now (earth .entry)) t ⌝ }
+{
+    let p = apparent_place(planet, earth, t);
+    match p {
+        PlaceAnswer::NoPlace(r) => Mount::Refused(number_of(r)),
+        PlaceAnswer::Place(e) => Mount::At(figures(e)),
+    }
 }
