@@ -7,3 +7,7 @@ pub mod Demand
 pub mod Separations
 pub mod Working
 pub mod Written
+pub mod Filling
+pub mod Tabled
+pub mod Listing
+pub mod Calling

@@ -2,3 +2,4 @@
 pub mod Minute
 pub mod SunList
 pub mod Demand
+pub mod Working

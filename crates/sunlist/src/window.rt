@@ -3,22 +3,30 @@ ghost use mathlib.Core.Path.{_≡_};
 ghost use Prim.Native.Nat.{_*_, _≤_, _<_};
 ghost use lib.IntN.{pos, natAbs, _+ℤ_};
 ghost use lib.ListN.{length};
-ghost use Rattle.units.specs.Units.{t-limit, in-limit};
+ghost use Rattle.units.specs.Units.{t-limit};
 ghost use Rattle.runs.specs.Runs.{run-numbers};
-ghost use Rattle.sunlist.specs.SunList.{minute as minute-of, flag-of, numbers, answered, written};
+ghost use Rattle.sunlist.specs.SunList.{window-fits, minute as minute-of, flag-of, numbers, answered, written};
 use crate::Decision;
 use crate::ListAnswer;
-use arith::signed::abs;
 use arith::signed::add;
 use arith::signed::wide;
 use units::Instant;
 use units::Refusal;
 
-// Whether an instant is within its limit.
-pub fn in_time(t: Instant) -> bool
-    ensures { λ r. ⌜ r ≡ in-limit (t .ms) ⌝ }
+// Whether a window of n minutes and a keep-out of k arcminutes are within their ranges.
+pub fn fits(n: u64, k: u64) -> bool
+    ensures { λ r. ⌜ r ≡ window-fits (pos n) (pos k) ⌝ }
 {
-    abs(t.ms) <= 63115200000000
+    if k < 60 {
+        return false;
+    }
+    if 2700 < k {
+        return false;
+    }
+    if n < 1 {
+        return false;
+    }
+    n <= 1440
 }
 
 // Minute j of a window that begins at t0.

@@ -1,0 +1,101 @@
+-- The call's answers in the order of its tests. Assumes nothing.
+use mathlib.Core.Path.{_≡_, refl, sym, ap, ap₂, _∙_, subst}
+use mathlib.Core.Bool.{Bool, true, false}
+use mathlib.Core.List.{List}
+use Prim.Native.Nat.{ℕ, _-_, _≤_, _<_}
+use native.Mathlib.Omega.{arith}
+use borrow.Author.Tests.{leb-true}
+use lib.IntN.{ℤ, pos, negsuc, natAbs}
+use lib.ListN.{length}
+use Rattle.arith.specs.Signed.{naturalOr}
+use Rattle.units.specs.Units.{t-limit, in-limit}
+use Rattle.units.specs.declared.Instant.{Instant}
+use Rattle.units.specs.declared.Refusal.{Refusal}
+use Rattle.units.specs.declared.Refusal.the-variants.{PastLimit, BadWindow}
+use Rattle.packed.specs.Series.{parse}
+use Rattle.vectors.proofs.Cells.{Cell}
+use Rattle.sunlist.specs.declared.ListAnswer.{ListAnswer}
+use Rattle.sunlist.specs.declared.ListAnswer.the-variants.{NoList}
+use Rattle.sunlist.specs.SunList.{minute, window-fits, Outcome, no-numbers, of-series, outcome, answered, written, sun-list, sun-list-out}
+use Rattle.sunlist.specs.Working.{Window}
+use Rattle.sunlist.proofs.Limits.{Fits, fits-is, minute-in}
+
+-- A negative number is refused as 0 is.
+fits-natural : (minutes keep-out : ℤ) → window-fits minutes keep-out ≡ window-fits (pos (naturalOr minutes 0)) (pos (naturalOr keep-out 0))
+unfolding window-fits naturalOr
+fits-natural (pos m) (pos k) = refl
+fits-natural (negsuc m) (pos k) = refl
+fits-natural (pos m) (negsuc k) = refl
+fits-natural (negsuc m) (negsuc k) = refl
+
+natural-is : (z : ℤ) → z ≡ pos (natAbs z) → naturalOr z 0 ≡ natAbs z
+unfolding naturalOr
+natural-is z e = ap (λ (y : ℤ). naturalOr y 0) e
+
+module _ (planet earth : List ℕ) (t0 : Instant) (minutes keep-out : ℤ) (out : List ℕ) (n k : ℕ) (cm : Cell minutes ≡ minutes) (ck : Cell keep-out ≡ keep-out)
+    (hn : n ≡ naturalOr (Cell minutes) 0) (hk : k ≡ naturalOr (Cell keep-out) 0) (b : Bool) (hb : b ≡ window-fits (pos n) (pos k)) where
+  told : (o : Outcome) (r : ListAnswer) (now : List ℕ) → outcome planet earth t0 minutes keep-out ≡ o → r ≡ answered (length out) o → now ≡ written out o → (r ≡ sun-list planet earth t0 minutes keep-out (length out)) × (now ≡ sun-list-out planet earth t0 minutes keep-out out)
+  unfolding sun-list sun-list-out
+  told o r now e p q = (p ∙ ap (answered (length out)) (sym e), q ∙ ap (written out) (sym e))
+
+  no-list : (x : Refusal) → outcome planet earth t0 minutes keep-out ≡ no-numbers x → (NoList x ≡ sun-list planet earth t0 minutes keep-out (length out)) × (out ≡ sun-list-out planet earth t0 minutes keep-out out)
+  unfolding answered written
+  no-list x e = told (no-numbers x) (NoList x) out e refl refl
+
+  n-is : n ≡ naturalOr minutes 0
+  n-is = hn ∙ ap (λ (z : ℤ). naturalOr z 0) cm
+
+  k-is : k ≡ naturalOr keep-out 0
+  k-is = hk ∙ ap (λ (z : ℤ). naturalOr z 0) ck
+
+  fits-told : window-fits minutes keep-out ≡ b
+  fits-told = fits-natural minutes keep-out ∙ sym (ap₂ (λ (x y : ℕ). window-fits (pos x) (pos y)) n-is k-is) ∙ sym hb
+
+  pub bad-window : b ≡ false → (NoList BadWindow ≡ sun-list planet earth t0 minutes keep-out (length out)) × (out ≡ sun-list-out planet earth t0 minutes keep-out out)
+  unfolding outcome
+  bad-window e = no-list BadWindow (rw (fits-told ∙ e))
+
+  module _ (e : b ≡ true) where
+    good : window-fits minutes keep-out ≡ true
+    good = fits-told ∙ e
+
+    n-natAbs : n ≡ natAbs minutes
+    n-natAbs = n-is ∙ natural-is minutes (fits-is minutes keep-out good .minutes-in .whole)
+
+    k-natAbs : k ≡ natAbs keep-out
+    k-natAbs = k-is ∙ natural-is keep-out (fits-is minutes keep-out good .keep-out-in .whole)
+
+    pub in-range : (1 ≤ n) × (n ≤ 1440) × (k ≤ 2700)
+    in-range = let f = fits-is minutes keep-out good in rw (n-natAbs, k-natAbs) (f .minutes-in .least, f .minutes-in .most, f .keep-out-in .most)
+
+    pub first-refused : in-limit (t0 .ms) ≡ false → (NoList (PastLimit t0) ≡ sun-list planet earth t0 minutes keep-out (length out)) × (out ≡ sun-list-out planet earth t0 minutes keep-out out)
+    unfolding outcome
+    first-refused h = no-list (PastLimit t0) (rw (good, h))
+
+    module _ (h : in-limit (t0 .ms) ≡ true) (last : Instant) (hl : last ≡ minute t0 (n - 1)) where
+      last-is : last ≡ minute t0 (natAbs minutes - 1)
+      last-is = hl ∙ ap (λ (m : ℕ). minute t0 (m - 1)) n-natAbs
+
+      pub last-refused : in-limit (last .ms) ≡ false → (NoList (PastLimit last) ≡ sun-list planet earth t0 minutes keep-out (length out)) × (out ≡ sun-list-out planet earth t0 minutes keep-out out)
+      unfolding outcome
+      last-refused g =
+          let f : in-limit (minute t0 (natAbs minutes - 1) .ms) ≡ false = ap (λ (t : Instant). in-limit (t .ms)) (sym last-is) ∙ g in
+          no-list (PastLimit last) (rw (good, h, f) (ap (λ (t : Instant). no-numbers (PastLimit t)) (sym last-is)))
+
+      module _ (g : in-limit (last .ms) ≡ true) where
+        pub window : Window t0 n k
+        unfolding in-limit
+        window =
+            let r = in-range in
+            let f : in-limit (minute t0 (n - 1) .ms) ≡ true = ap (λ (t : Instant). in-limit (t .ms)) (sym hl) ∙ g in
+            record { few = r .1; angle = r .2; start = minute-zero; within = λ j l. minute-in t0 n j h f l }
+          where
+            minute-zero : natAbs (t0 .ms) ≤ t-limit
+            minute-zero = leb-true _ _ h
+
+        pub series-told : (r : ListAnswer) (now : List ℕ) → r ≡ answered (length out) (of-series (parse planet) (parse earth) t0 n k) → now ≡ written out (of-series (parse planet) (parse earth) t0 n k)
+            → (r ≡ sun-list planet earth t0 minutes keep-out (length out)) × (now ≡ sun-list-out planet earth t0 minutes keep-out out)
+        unfolding outcome
+        series-told r now p q =
+            let f : in-limit (minute t0 (natAbs minutes - 1) .ms) ≡ true = ap (λ (t : Instant). in-limit (t .ms)) (sym last-is) ∙ g in
+            told (of-series (parse planet) (parse earth) t0 n k) r now (rw (good, h, f) (ap₂ (of-series (parse planet) (parse earth) t0) (sym n-natAbs) (sym k-natAbs))) p q

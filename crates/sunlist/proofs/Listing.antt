@@ -1,0 +1,96 @@
+-- What the functions of the list ask of each other and answer. Assumes nothing.
+use mathlib.Core.Path.{_≡_, refl, sym, ap, ap₂, _∙_, subst}
+use mathlib.Core.Bool.{Bool, true, false, cond, _&&_}
+use mathlib.Core.List.{List, _++_}
+use Prim.Native.Nat.{ℕ, zero, suc, _≤_, _<_}
+use native.Mathlib.Omega.{arith}
+use borrow.Author.Tests.{le-leb, lt-leb, lt-ltb, le-ltb, leb-true}
+use lib.Dec.{leb, ltb}
+use lib.IntN.{ℤ, pos, negsuc, natAbs}
+use lib.ListN.{length, take, drop}
+use lib.Seq.{length-take-le, take-at}
+use Rattle.units.specs.Units.{t-limit, in-limit}
+use Rattle.units.specs.declared.Instant.{Instant}
+use Rattle.units.specs.declared.Coordinates.{Coordinates}
+use Rattle.units.specs.declared.Refusal.the-variants.{NotUsable, PastLimit, BadWindow}
+use Rattle.packed.specs.declared.Term.{Term}
+use Rattle.series.specs.Sums.{coordinates}
+use Rattle.runs.specs.Runs.{run-numbers}
+use Rattle.sunlist.specs.declared.Decision.{Decision}
+use Rattle.sunlist.specs.declared.ListAnswer.the-variants.{NoList}
+use Rattle.sunlist.specs.Minute.{decide}
+use Rattle.sunlist.specs.SunList.{minute, window-fits, decision-at, first-bad, window-flags, numbers, no-numbers, of-minutes, answered, written}
+use Rattle.sunlist.specs.Working.{Window, Filled}
+
+-- ---- fits
+
+module _ (n k : ℕ) where
+  pub angle-low : k < 60 → false ≡ window-fits (pos n) (pos k)
+  unfolding window-fits
+  angle-low h = rw (lt-leb 60 k h)
+
+  pub angle-high : 60 ≤ k → 2700 < k → false ≡ window-fits (pos n) (pos k)
+  unfolding window-fits
+  angle-high g h = rw (le-leb 60 k g, lt-leb k 2700 h)
+
+  pub no-minutes : 60 ≤ k → k ≤ 2700 → n < 1 → false ≡ window-fits (pos n) (pos k)
+  unfolding window-fits
+  no-minutes g h l = rw (le-leb 60 k g, le-leb k 2700 h, lt-leb 1 n l)
+
+  pub minutes-told : 60 ≤ k → k ≤ 2700 → 1 ≤ n → leb n 1440 ≡ window-fits (pos n) (pos k)
+  unfolding window-fits
+  minutes-told g h l = rw (le-leb 60 k g, le-leb k 2700 h, le-leb 1 n l)
+
+-- ---- decide_at
+
+pub window-less : (t0 : Instant) (n k j : ℕ) → Window t0 n k → j < n → Window t0 (suc j) k
+window-less t0 n k j w h = record { few = (let f = w .few in omega arith); angle = w .angle; start = w .start; within = λ i l. w .within i (omega arith) }
+
+pub minute-asks : (t0 : Instant) (k j : ℕ) (t : Instant) → Window t0 (suc j) k → t ≡ minute t0 j → natAbs (t .ms) ≤ t-limit
+minute-asks t0 k j t w e = subst (λ (s : Instant). natAbs (s .ms) ≤ t-limit) (sym e) (w .within j (omega arith))
+
+pub decided : (t0 : Instant) (k j : ℕ) (t : Instant) (ms : ℤ) (planet earth : List (List Term)) (p e : Coordinates) (d : Decision) → t ≡ minute t0 j → ms ≡ t .ms → p ≡ coordinates ms planet → e ≡ coordinates ms earth → d ≡ decide k p e → d ≡ decision-at planet earth t0 k j
+unfolding decision-at
+decided t0 k j t ms planet earth p e d h g hp he hd =
+    let m : ms ≡ minute t0 j .ms = g ∙ ap (λ (s : Instant). s .ms) h in
+    hd ∙ ap₂ (decide k) (hp ∙ ap (λ (z : ℤ). coordinates z planet) m) (he ∙ ap (λ (z : ℤ). coordinates z earth) m)
+
+-- ---- list_of
+
+module _ (at : ℕ → Decision) (n bad : ℕ) (flags out : List ℕ) (f : Filled at n bad flags) where
+  pub bad-told : bad < n → (NoList (NotUsable bad) ≡ answered (length out) (of-minutes at n)) × (out ≡ written out (of-minutes at n))
+  unfolding of-minutes answered written
+  bad-told h = let l : first-bad at 0 n < n = subst (λ (b : ℕ). b < n) (f .bad-is) h in rw (lt-ltb (first-bad at 0 n) n l, f .bad-is) (refl, refl)
+
+  pub numbers-are : n ≤ bad → numbers (run-numbers flags) ≡ of-minutes at n
+  unfolding of-minutes
+  numbers-are h = let l : n ≤ first-bad at 0 n = subst (λ (b : ℕ). n ≤ b) (f .bad-is) h in rw (le-ltb (first-bad at 0 n) n l, f .flags-are h)
+
+-- The part of the room that the window takes, before it is filled and after.
+pub part-length : (n : ℕ) (room : List ℕ) → n ≤ 1440 → 1440 ≤ length room → n ≡ length (take n room)
+part-length n room h l = sym (length-take-le n room (omega arith))
+
+pub filled-part : (n : ℕ) (flags room : List ℕ) → length flags ≡ n → take n (flags ++ drop n room) ≡ flags
+filled-part n flags room e = take-at flags (drop n room) n e
+
+flags-length : (at : ℕ → Decision) (j n : ℕ) → length (window-flags at j n) ≡ n
+unfolding window-flags
+flags-length at j zero = refl
+flags-length at j (suc n) = ap suc (flags-length at (suc j) n)
+
+module _ (at : ℕ → Decision) (n m bad : ℕ) (flags room out : List ℕ) (f : Filled at m bad flags) (e : n ≡ m) where
+  filled : Filled at n bad flags
+  filled = subst (λ (i : ℕ). Filled at i bad flags) (sym e) f
+
+  pub part-bad : bad < n → (NoList (NotUsable bad) ≡ answered (length out) (of-minutes at n)) × (out ≡ written out (of-minutes at n))
+  part-bad h = bad-told at n bad flags out filled h
+
+  module _ (h : n ≤ bad) where
+    part-is : take n (flags ++ drop n room) ≡ flags
+    part-is = filled-part n flags room (ap length (filled .flags-are h) ∙ flags-length at 0 n)
+
+    pub part-size : n ≡ length (take n (flags ++ drop n room))
+    part-size = sym (ap length part-is ∙ ap length (filled .flags-are h) ∙ flags-length at 0 n)
+
+    pub part-numbers : numbers (run-numbers (take n (flags ++ drop n room))) ≡ of-minutes at n
+    part-numbers = ap (λ (s : List ℕ). numbers (run-numbers s)) part-is ∙ numbers-are at n bad flags out filled h

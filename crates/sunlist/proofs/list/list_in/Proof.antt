@@ -1,0 +1,76 @@
+-- `sunlist::list::list_in` meets its contract. Assumes nothing.
+use mathlib.Core.Path.{ap, _∙_, subst}
+use Prim.Native.Nat.{ℕ, _≤_}
+use lib.ListN.{length}
+use Rattle.sunlist.specs.SunList.{decision-at, answered, written}
+use Rattle.sunlist.specs.Working.{Window}
+use Rattle.sunlist.proofs.Listing.{part-length, part-bad, part-size, part-numbers}
+use Rattle.packed.specs.Tables.{table-blocks}
+use borrow.Author.Needs.{needs}
+use Rattle.sunlist.proofs.list.list_in.Statement.{statement}
+use Rattle.sunlist.proofs.list.list_in.Tie as tie
+
+slice-relend-prefix-fill : tie.Need-slice-relend-prefix-fill
+slice-relend-prefix-fill c = search needs
+
+slice-aggregate-fill : tie.Need-slice-aggregate-fill
+slice-aggregate-fill c = let s = c .before .before .before in part-length (s .args .n) (s .args .room .now) (s .pre .1 .few) (s .pre .0)
+
+fill-requires : tie.Need-fill-requires
+fill-requires c κs =
+    let s = c .before .before .before in
+    (subst (λ (m : ℕ). Window (s .args .t0) m (s .args .k)) (part-length (s .args .n) (s .args .room .now) (s .pre .1 .few) (s .pre .0)) (s .pre .1), s .pre .2, s .pre .3)
+
+same-length : tie.Need-same-length
+same-length c = search needs
+
+returns : tie.Need-returns
+returns c =
+    let f = c .before .before .before in
+    let s = f .before .before .before .before in
+    part-bad (decision-at (table-blocks (s .args .pa .now) (s .args .pb .now) (s .args .pc .now) (s .args .pends .now)) (table-blocks (s .args .ea .now) (s .args .eb .now) (s .args .ec .now) (s .args .eends .now)) (s .args .t0) (s .args .k)) (s .args .n) _ (f .fill .result) (f .fill .last .0) (s .args .room .now) (s .args .out .now) (f .fill .ensures) (part-length (s .args .n) (s .args .room .now) (s .pre .1 .few) (s .pre .0)) (c .if1 .taken)
+
+slice-reshare-prefix-write-runs : tie.Need-slice-reshare-prefix-write-runs
+slice-reshare-prefix-write-runs c = search needs
+
+slice-aggregate-write-runs : tie.Need-slice-aggregate-write-runs
+slice-aggregate-write-runs c =
+    let f = c .before .before .before .before in
+    let s = f .before .before .before .before in
+    part-size (decision-at (table-blocks (s .args .pa .now) (s .args .pb .now) (s .args .pc .now) (s .args .pends .now)) (table-blocks (s .args .ea .now) (s .args .eb .now) (s .args .ec .now) (s .args .eends .now)) (s .args .t0) (s .args .k)) (s .args .n) _ (f .fill .result) (f .fill .last .0) (s .args .room .now) (s .args .out .now) (f .fill .ensures) (part-length (s .args .n) (s .args .room .now) (s .pre .1 .few) (s .pre .0)) (c .before .if1 .left)
+
+write-runs-requires : tie.Need-write-runs-requires
+write-runs-requires c κs =
+    let f = c .before .before .before .before .before in
+    let s = f .before .before .before .before in
+    subst (λ (m : ℕ). m ≤ 1440) (part-size (decision-at (table-blocks (s .args .pa .now) (s .args .pb .now) (s .args .pc .now) (s .args .pends .now)) (table-blocks (s .args .ea .now) (s .args .eb .now) (s .args .ec .now) (s .args .eends .now)) (s .args .t0) (s .args .k)) (s .args .n) _ (f .fill .result) (f .fill .last .0) (s .args .room .now) (s .args .out .now) (f .fill .ensures) (part-length (s .args .n) (s .args .room .now) (s .pre .1 .few) (s .pre .0)) (c .before .before .if1 .left)) (s .pre .1 .few)
+
+same-length-2 : tie.Need-same-length-2
+same-length-2 c = search needs
+
+same-length-3 : tie.Need-same-length-3
+same-length-3 c = search needs
+
+returns-2 : tie.Need-returns-2
+returns-2 c =
+    let w = c .before .before in
+    let f = c .before .before .before .before .before .before .before .before in
+    let s = f .before .before .before .before in
+    let o = part-numbers (decision-at (table-blocks (s .args .pa .now) (s .args .pb .now) (s .args .pc .now) (s .args .pends .now)) (table-blocks (s .args .ea .now) (s .args .eb .now) (s .args .ec .now) (s .args .eends .now)) (s .args .t0) (s .args .k)) (s .args .n) _ (f .fill .result) (f .fill .last .0) (s .args .room .now) (s .args .out .now) (f .fill .ensures) (part-length (s .args .n) (s .args .room .now) (s .pre .1 .few) (s .pre .0)) (w .before .before .before .if1 .left) in
+    (w .write-runs .ensures .0 ∙ ap (answered (length (s .args .out .now))) o, w .write-runs .ensures .1 ∙ ap (written (s .args .out .now)) o)
+
+pub list-in-spec : {M : Type 1} → statement M
+list-in-spec =
+    tie.close
+    (tie.spec
+    slice-relend-prefix-fill
+    slice-aggregate-fill
+    fill-requires
+    same-length
+    returns
+    slice-reshare-prefix-write-runs
+    slice-aggregate-write-runs
+    write-runs-requires
+    same-length-2
+    same-length-3
+    returns-2)
