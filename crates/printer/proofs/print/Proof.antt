@@ -23,7 +23,12 @@ enum-told : tie.Need-enum-told
 enum-told c = search needs
 
 print-table-requires : tie.Need-print-table-requires
-print-table-requires c κs = (c .before .before .before .before .before .before .before .unpack .ensures .2, c .before .before .before .before .before .before .before .unpack .ensures .3, (opened (c .before .before .before .before .before .before .before .before .before .before .before .before .before .before .args .packed .now) (c .before .before .before .before .before .before .before .unpack .last .1 .0) (c .before .before .before .before .before .before .before .unpack .last .1 .1 .0) (c .before .before .before .before .before .before .before .unpack .last .1 .1 .1 .0) (c .before .before .before .before .before .before .before .unpack .last .1 .1 .1 .1 .0) (no-refusal (c .before .before .before .before .before .before)) (c .before .before .before .before .before .before .before .unpack .ensures .1)) .ordered)
+print-table-requires c κs =
+    let arm = c .before .before .before .before .before .before in
+    let t = arm .before .unpack in
+    let s = arm .before .before .before .before .before .before .before .before in
+    let o = opened (s .args .packed .now) (t .last .1 .0) (t .last .1 .1 .0) (t .last .1 .1 .1 .0) (t .last .1 .1 .1 .1 .0) (no-refusal arm) (t .ensures .1) in
+    (t .ensures .2, t .ensures .3, o .ordered)
 
 returns : tie.Need-returns
 returns c = print-refused _ _ _ (sym (c .before .before .before .unpack .ensures .0) ∙ c .before .read .given .1)
@@ -32,7 +37,13 @@ same-length : tie.Need-same-length
 same-length c = search needs
 
 returns-2 : tie.Need-returns-2
-returns-2 c = let e = (opened (c .before .before .before .before .before .before .before .before .before .before .before .before .before .before .before .before .before .args .packed .now) (c .before .before .before .before .before .before .before .before .before .before .unpack .last .1 .0) (c .before .before .before .before .before .before .before .before .before .before .unpack .last .1 .1 .0) (c .before .before .before .before .before .before .before .before .before .before .unpack .last .1 .1 .1 .0) (c .before .before .before .before .before .before .before .before .before .before .unpack .last .1 .1 .1 .1 .0) (no-refusal (c .before .before .before .before .before .before .before .before .before)) (c .before .before .before .before .before .before .before .before .before .before .unpack .ensures .1)) .is in let p = c .before .before .print-table .ensures in (rw e (p .0), rw e (p .1))
+returns-2 c =
+    let arm = c .before .before .before .before .before .before .before .before .before in
+    let t = arm .before .unpack in
+    let s = arm .before .before .before .before .before .before .before .before in
+    let o = opened (s .args .packed .now) (t .last .1 .0) (t .last .1 .1 .0) (t .last .1 .1 .1 .0) (t .last .1 .1 .1 .1 .0) (no-refusal arm) (t .ensures .1) in
+    let p = c .before .before .print-table .ensures in
+    (rw (o .is) (p .0), rw (o .is) (p .1))
 
 pub print-spec : {M : Type 1} → statement M
 print-spec =

@@ -10,19 +10,37 @@ sub-put-whole : tie.Need-sub-put-whole
 sub-put-whole c = search needs
 
 put-whole-requires : tie.Need-put-whole-requires
-put-whole-requires c κs = let s = c .before .before in left-room (left-is (block-pieces (s .args .a .now) (s .args .b .now) (s .args .c .now) (s .args .from) (s .args .end - s .args .from)) (s .args .at) (s .args .out .now)) (s .pre .3)
+put-whole-requires c κs =
+    let s = c .before .before in
+    let l = left-is (block-pieces (s .args .a .now) (s .args .b .now) (s .args .c .now) (s .args .from) (s .args .end - s .args .from)) (s .args .at) (s .args .out .now) in
+    left-room l (s .pre .3)
 
 put-byte-requires : tie.Need-put-byte-requires
-put-byte-requires c κs = let s = c .before .before .before .before .before .before in left-room (left-more (left-is (block-pieces (s .args .a .now) (s .args .b .now) (s .args .c .now) (s .args .from) (s .args .end - s .args .from)) (s .args .at) (s .args .out .now)) (c .before .before .before .put-whole .ensures)) (s .pre .3)
+put-byte-requires c κs =
+    let count = c .before .before .before in
+    let s = count .before .before .before in
+    let l = left-is (block-pieces (s .args .a .now) (s .args .b .now) (s .args .c .now) (s .args .from) (s .args .end - s .args .from)) (s .args .at) (s .args .out .now) in
+    left-room (left-more l (count .put-whole .ensures)) (s .pre .3)
 
 put-lines-requires : tie.Need-put-lines-requires
-put-lines-requires c κs = let s = c .before .before .before .before .before .before .before .before .before .before in (s .pre .0, s .pre .1, s .pre .2, left-room (left-more (left-more (left-is (block-pieces (s .args .a .now) (s .args .b .now) (s .args .c .now) (s .args .from) (s .args .end - s .args .from)) (s .args .at) (s .args .out .now)) (c .before .before .before .before .before .before .before .put-whole .ensures)) (c .before .before .before .put-byte .ensures)) (s .pre .3))
+put-lines-requires c κs =
+    let feed = c .before .before .before in
+    let count = feed .before .before .before .before in
+    let s = count .before .before .before in
+    let l = left-is (block-pieces (s .args .a .now) (s .args .b .now) (s .args .c .now) (s .args .from) (s .args .end - s .args .from)) (s .args .at) (s .args .out .now) in
+    (s .pre .0, s .pre .1, s .pre .2, left-room (left-more (left-more l (count .put-whole .ensures)) (feed .put-byte .ensures)) (s .pre .3))
 
 same-length : tie.Need-same-length
 same-length c = search needs
 
 returns : tie.Need-returns
-returns c = let s = c .before .before .before .before .before .before .before .before .before .before .before .before .before in left-over (left-more (left-more (left-more (left-is (block-pieces (s .args .a .now) (s .args .b .now) (s .args .c .now) (s .args .from) (s .args .end - s .args .from)) (s .args .at) (s .args .out .now)) (c .before .before .before .before .before .before .before .before .before .before .put-whole .ensures)) (c .before .before .before .before .before .before .put-byte .ensures)) (c .before .before .put-lines .ensures))
+returns c =
+    let lines = c .before .before in
+    let feed = lines .before .before .before .before in
+    let count = feed .before .before .before .before in
+    let s = count .before .before .before in
+    let l = left-is (block-pieces (s .args .a .now) (s .args .b .now) (s .args .c .now) (s .args .from) (s .args .end - s .args .from)) (s .args .at) (s .args .out .now) in
+    left-over (left-more (left-more (left-more l (count .put-whole .ensures)) (feed .put-byte .ensures)) (lines .put-lines .ensures))
 
 pub put-block-spec : {M : Type 1} → statement M
 put-block-spec =

@@ -32,7 +32,13 @@ element-copy-out-end : tie.Need-element-copy-out-end Inv-loop μ-loop
 element-copy-out-end c = omega (arith, c .loop-test .taken)
 
 put-block-requires : tie.Need-put-block-requires Inv-loop μ-loop
-put-block-requires c κs = let s = c .before .before .before .before .before in let l = c .before .before .before .loop in let e = getD (s .args .ends .now) (l .k) 0 in let h = above (c .before .before) in let w = (ordered-next (s .args .ends .now) (l .from) (l .k) e h refl (l .inv .0)) in (s .pre .0, w .after, w .within, left-room (block-left (s .args .a .now) (s .args .b .now) (s .args .c .now) (s .args .ends .now) (l .from) (l .k) e (l .inv .1) h refl) (s .pre .3))
+put-block-requires c κs =
+    let turn = c .before .before in
+    let l = turn .before .loop in
+    let s = turn .before .before .before in
+    let e = getD (s .args .ends .now) (l .k) 0 in
+    let w = ordered-next (s .args .ends .now) (l .from) (l .k) e (above turn) refl (l .inv .0) in
+    (s .pre .0, w .after, w .within, left-room (block-left (s .args .a .now) (s .args .b .now) (s .args .c .now) (s .args .ends .now) (l .from) (l .k) e (l .inv .1) (above turn) refl) (s .pre .3))
 
 add-k : tie.Need-add-k Inv-loop μ-loop
 add-k c = omega (arith, c .before .before .before .before .before .loop-test .taken)
@@ -41,7 +47,13 @@ loop-less : tie.Need-loop-less Inv-loop μ-loop
 loop-less c = omega (arith, c .before .before .before .before .before .loop-test .taken)
 
 loop-again : tie.Need-loop-again Inv-loop μ-loop
-loop-again c = let s = c .before .before .before .before .before .before .before .before in let l = c .before .before .before .before .before .before .loop in let e = getD (s .args .ends .now) (l .k) 0 in let h = above (c .before .before .before .before .before) in ((ordered-next (s .args .ends .now) (l .from) (l .k) e h refl (l .inv .0)) .rest, left-more (block-left (s .args .a .now) (s .args .b .now) (s .args .c .now) (s .args .ends .now) (l .from) (l .k) e (l .inv .1) h refl) (c .before .before .put-block .ensures))
+loop-again c =
+    let turn = c .before .before .before .before .before in
+    let l = turn .before .loop in
+    let s = turn .before .before .before in
+    let e = getD (s .args .ends .now) (l .k) 0 in
+    let w = ordered-next (s .args .ends .now) (l .from) (l .k) e (above turn) refl (l .inv .0) in
+    (w .rest, left-more (block-left (s .args .a .now) (s .args .b .now) (s .args .c .now) (s .args .ends .now) (l .from) (l .k) e (l .inv .1) (above turn) refl) (c .before .before .put-block .ensures))
 
 same-length : tie.Need-same-length Inv-loop μ-loop
 same-length c = c .before .loop .inv .1 .same

@@ -23,10 +23,22 @@ element-copy-out-end : tie.Need-element-copy-out-end Inv-loop μ-loop
 element-copy-out-end c = omega (arith, c .loop-test .taken)
 
 block-length-requires : tie.Need-block-length-requires Inv-loop μ-loop
-block-length-requires c κs = let s = c .before .before .before in let l = c .before .before .loop in let w = ordered-next (s .args .ends .now) (l .from) (l .k) (getD (s .args .ends .now) (l .k) 0) (omega (arith, s .pre .1, c .before .loop-test .taken)) refl (l .inv .ordered) in (s .pre .0, w .after, w .within)
+block-length-requires c κs =
+    let turn = c .before in
+    let l = turn .before .loop in
+    let s = turn .before .before in
+    let e = getD (s .args .ends .now) (l .k) 0 in
+    let w = ordered-next (s .args .ends .now) (l .from) (l .k) e (omega (arith, s .pre .1, turn .loop-test .taken)) refl (l .inv .ordered) in
+    (s .pre .0, w .after, w .within)
 
 add-n : tie.Need-add-n Inv-loop μ-loop
-add-n c = let s = c .before .before .before .before in let l = c .before .before .before .loop in let w = ordered-next (s .args .ends .now) (l .from) (l .k) (getD (s .args .ends .now) (l .k) 0) (omega (arith, s .pre .1, c .before .before .loop-test .taken)) refl (l .inv .ordered) in omega (arith, w .after, w .within, l .inv .few, c .before .before .loop-test .taken, c .block-length .ensures .1)
+add-n c =
+    let turn = c .before .before in
+    let l = turn .before .loop in
+    let s = turn .before .before in
+    let e = getD (s .args .ends .now) (l .k) 0 in
+    let w = ordered-next (s .args .ends .now) (l .from) (l .k) e (omega (arith, s .pre .1, turn .loop-test .taken)) refl (l .inv .ordered) in
+    omega (arith, w .after, w .within, l .inv .few, turn .loop-test .taken, c .block-length .ensures .1)
 
 add-k : tie.Need-add-k Inv-loop μ-loop
 add-k c = omega (arith, c .before .before .loop-test .taken)
@@ -35,7 +47,13 @@ loop-less : tie.Need-loop-less Inv-loop μ-loop
 loop-less c = omega (arith, c .before .before .loop-test .taken)
 
 loop-again : tie.Need-loop-again Inv-loop μ-loop
-loop-again c = let s = c .before .before .before .before in let l = c .before .before .before .loop in totalled-more (s .args .a .now) (s .args .b .now) (s .args .c .now) (s .args .ends .now) _ (l .from) (l .k) (getD (s .args .ends .now) (l .k) 0) _ (l .inv) (omega (arith, s .pre .1, c .before .before .loop-test .taken)) refl (c .block-length .ensures .0) (c .block-length .ensures .1)
+loop-again c =
+    let turn = c .before .before in
+    let l = turn .before .loop in
+    let s = turn .before .before in
+    let e = getD (s .args .ends .now) (l .k) 0 in
+    let p = c .block-length .ensures in
+    totalled-more (s .args .a .now) (s .args .b .now) (s .args .c .now) (s .args .ends .now) _ (l .from) (l .k) e _ (l .inv) (omega (arith, s .pre .1, turn .loop-test .taken)) refl (p .0) (p .1)
 
 returns : tie.Need-returns Inv-loop μ-loop
 returns c = totalled-last _ _ _ _ _ _ _ (c .before .loop .inv) (omega (arith, c .before .before .pre .1, c .loop-test .left))

@@ -1,28 +1,57 @@
 -- `put_decimal` meets its contract. Assumes nothing.
-use Rattle.printer.proofs.Writing.{left-is, left-more, left-over, left-room}
+use mathlib.Core.List.{[], _∷_}
+use Prim.Native.Nat.{_/_}
+use Rattle.text.specs.Grammar.{sign, digits, decimal}
+use Rattle.printer.specs.Printer.{last-digits, plain-decimal}
+use Rattle.printer.specs.Writing.{whole-text}
+use Rattle.printer.proofs.Writing.{Left, left-is, left-more, left-over, left-room}
 use Rattle.printer.proofs.Figures.{digits-room}
 use Rattle.printer.proofs.Pieces.{decimal-pieces}
 use borrow.Author.Needs.{needs}
 use Rattle.printer.proofs.digits.put_decimal.Statement.{statement}
 use Rattle.printer.proofs.digits.put_decimal.Tie as tie
 
+-- Before the first call all pieces are left.
+begun : (s : tie.Start) → Left (decimal (plain-decimal (s .args .minus) (s .args .v))) (s .args .at) (s .args .out .now) (sign (s .args .minus) ∷ whole-text (s .args .v / 100000000000) ∷ (46 ∷ []) ∷ digits (last-digits 11 (s .args .v)) ∷ []) (s .args .at) (s .args .out .now)
+begun s = left-is (decimal-pieces (s .args .minus) (s .args .v)) (s .args .at) (s .args .out .now)
+
 put-sign-requires : tie.Need-put-sign-requires
-put-sign-requires c κs = left-room (left-is (decimal-pieces (c .before .before .args .minus) (c .before .before .args .v)) (c .before .before .args .at) (c .before .before .args .out .now)) (c .before .before .pre)
+put-sign-requires c κs =
+    let s = c .before .before in
+    left-room (begun s) (s .pre)
 
 put-whole-requires : tie.Need-put-whole-requires
-put-whole-requires c κs = left-room (left-more (left-is (decimal-pieces (c .before .before .before .before .before .before .args .minus) (c .before .before .before .before .before .before .args .v)) (c .before .before .before .before .before .before .args .at) (c .before .before .before .before .before .before .args .out .now)) (c .before .before .before .put-sign .ensures)) (c .before .before .before .before .before .before .pre)
+put-whole-requires c κs =
+    let sign = c .before .before .before in
+    let s = sign .before .before .before in
+    left-room (left-more (begun s) (sign .put-sign .ensures)) (s .pre)
 
 put-byte-requires : tie.Need-put-byte-requires
-put-byte-requires c κs = left-room (left-more (left-more (left-is (decimal-pieces (c .before .before .before .before .before .before .before .before .before .before .args .minus) (c .before .before .before .before .before .before .before .before .before .before .args .v)) (c .before .before .before .before .before .before .before .before .before .before .args .at) (c .before .before .before .before .before .before .before .before .before .before .args .out .now)) (c .before .before .before .before .before .before .before .put-sign .ensures)) (c .before .before .before .put-whole .ensures)) (c .before .before .before .before .before .before .before .before .before .before .pre)
+put-byte-requires c κs =
+    let whole = c .before .before .before in
+    let sign = whole .before .before .before .before in
+    let s = sign .before .before .before in
+    left-room (left-more (left-more (begun s) (sign .put-sign .ensures)) (whole .put-whole .ensures)) (s .pre)
 
 put-digits-requires : tie.Need-put-digits-requires
-put-digits-requires c κs = digits-room 11 (c .before .before .before .before .before .before .before .before .before .before .before .before .before .before .args .v) (left-more (left-more (left-more (left-is (decimal-pieces (c .before .before .before .before .before .before .before .before .before .before .before .before .before .before .args .minus) (c .before .before .before .before .before .before .before .before .before .before .before .before .before .before .args .v)) (c .before .before .before .before .before .before .before .before .before .before .before .before .before .before .args .at) (c .before .before .before .before .before .before .before .before .before .before .before .before .before .before .args .out .now)) (c .before .before .before .before .before .before .before .before .before .before .before .put-sign .ensures)) (c .before .before .before .before .before .before .before .put-whole .ensures)) (c .before .before .before .put-byte .ensures)) (c .before .before .before .before .before .before .before .before .before .before .before .before .before .before .pre)
+put-digits-requires c κs =
+    let byte = c .before .before .before in
+    let whole = byte .before .before .before .before in
+    let sign = whole .before .before .before .before in
+    let s = sign .before .before .before in
+    digits-room 11 (s .args .v) (left-more (left-more (left-more (begun s) (sign .put-sign .ensures)) (whole .put-whole .ensures)) (byte .put-byte .ensures)) (s .pre)
 
 same-length : tie.Need-same-length
 same-length c = search needs
 
 returns : tie.Need-returns
-returns c = left-over (left-more (left-more (left-more (left-more (left-is (decimal-pieces (c .before .before .before .before .before .before .before .before .before .before .before .before .before .before .before .before .before .args .minus) (c .before .before .before .before .before .before .before .before .before .before .before .before .before .before .before .before .before .args .v)) (c .before .before .before .before .before .before .before .before .before .before .before .before .before .before .before .before .before .args .at) (c .before .before .before .before .before .before .before .before .before .before .before .before .before .before .before .before .before .args .out .now)) (c .before .before .before .before .before .before .before .before .before .before .before .before .before .before .put-sign .ensures)) (c .before .before .before .before .before .before .before .before .before .before .put-whole .ensures)) (c .before .before .before .before .before .before .put-byte .ensures)) (c .before .before .put-digits .ensures))
+returns c =
+    let digits = c .before .before in
+    let byte = digits .before .before .before .before in
+    let whole = byte .before .before .before .before in
+    let sign = whole .before .before .before .before in
+    let s = sign .before .before .before in
+    left-over (left-more (left-more (left-more (left-more (begun s) (sign .put-sign .ensures)) (whole .put-whole .ensures)) (byte .put-byte .ensures)) (digits .put-digits .ensures))
 
 pub put-decimal-spec : {M : Type 1} → statement M
 put-decimal-spec =

@@ -41,7 +41,15 @@ add-result-3 : tie.Need-add-result-3
 add-result-3 c = search needs
 
 returns : tie.Need-returns
-returns c = let s = c .before .before .before .before .before .before .before in (line-length (term (s .args .a) (s .args .b) (s .args .c)) _ _ _ _ (rw (back (s .args .a) (s .fits .a)) at (c .before .before .before .before .before .before .is-neg .ensures)) (rw (back (s .args .a) (s .fits .a)) at (c .before .before .before .before .before .abs .ensures)) (rw (back (s .args .c) (s .fits .c)) at (c .before .before .before .before .is-neg2 .ensures)) (rw (back (s .args .c) (s .fits .c)) at (c .before .before .before .abs2 .ensures)) _ _ _ (c .before .before .decimal-length .ensures .0) (c .before .decimal-length2 .ensures .0) (c .decimal-length3 .ensures .0), omega (arith, c .before .before .decimal-length .ensures .1, c .before .decimal-length2 .ensures .1, c .decimal-length3 .ensures .1))
+returns c =
+    let known = c .before .before .before in
+    let s = known .before .before .before .before in
+    let a = back (s .args .a) (s .fits .a) in
+    let z = back (s .args .c) (s .fits .c) in
+    let n = c .before .before .decimal-length .ensures in
+    let m = c .before .decimal-length2 .ensures in
+    let k = c .decimal-length3 .ensures in
+    (line-length (term (s .args .a) (s .args .b) (s .args .c)) _ _ _ _ (rw a at (known .before .before .before .is-neg .ensures)) (rw a at (known .before .before .abs .ensures)) (rw z at (known .before .is-neg2 .ensures)) (rw z at (known .abs2 .ensures)) _ _ _ (n .0) (m .0) (k .0), omega (arith, n .1, m .1, k .1))
 
 pub line-length-spec : {M : Type 1} → statement M
 line-length-spec =

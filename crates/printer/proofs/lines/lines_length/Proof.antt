@@ -46,7 +46,13 @@ loop-less : tie.Need-loop-less Inv-loop μ-loop
 loop-less c = omega (arith, c .before .before .before .before .loop-test .taken)
 
 loop-again : tie.Need-loop-again Inv-loop μ-loop
-loop-again c = let s = c .before .before .before .before .before .before in let i = c .before .before .before .before .before .loop .i in measured-more (s .args .a .now) (s .args .b .now) (s .args .c .now) (s .args .from) (s .args .end) _ i _ _ _ (c .before .before .before .before .before .loop .inv) (back _ (ok (c .before .before .before .line-length-arg .given))) (back _ (ok (c .before .line-length-arg3 .given))) (c .before .before .before .before .loop-test .taken) (c .line-length .ensures .0) (c .line-length .ensures .1)
+loop-again c =
+    let z = c .before in
+    let arg = z .before .before in
+    let l = arg .before .before .loop in
+    let s = arg .before .before .before in
+    let p = c .line-length .ensures in
+    measured-more (s .args .a .now) (s .args .b .now) (s .args .c .now) (s .args .from) (s .args .end) _ (l .i) _ _ _ (l .inv) (back _ (ok (arg .line-length-arg .given))) (back _ (ok (z .line-length-arg3 .given))) (arg .before .loop-test .taken) (p .0) (p .1)
 
 returns : tie.Need-returns Inv-loop μ-loop
 returns c = measured-last _ _ _ _ _ _ _ (c .before .loop .inv) (c .loop-test .left)

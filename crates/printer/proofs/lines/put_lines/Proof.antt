@@ -38,7 +38,12 @@ element-copy-out-put-line-3 : tie.Need-element-copy-out-put-line-3 Inv-loop μ-l
 element-copy-out-put-line-3 c = omega (arith, c .before .before .loop-test .taken, c .before .before .before .before .before .pre .2)
 
 put-line-requires : tie.Need-put-line-requires Inv-loop μ-loop
-put-line-requires c κs = left-room (line-left (c .before .before .before .before .before .before .before .args .a .now) (c .before .before .before .before .before .before .before .args .b .now) (c .before .before .before .before .before .before .before .args .c .now) (c .before .before .before .before .before .loop .i) (c .before .before .before .before .before .before .before .args .end) _ _ (c .before .before .before .before .before .loop .inv .1) (back _ (ok (c .before .before .before .put-line-arg .given))) (back _ (ok (c .before .put-line-arg3 .given))) (c .before .before .before .before .loop-test .taken)) (c .before .before .before .before .before .before .before .pre .3)
+put-line-requires c κs =
+    let z = c .before in
+    let arg = z .before .before in
+    let l = arg .before .before .loop in
+    let s = arg .before .before .before .before in
+    left-room (line-left (s .args .a .now) (s .args .b .now) (s .args .c .now) (l .i) (s .args .end) _ _ (l .inv .1) (back _ (ok (arg .put-line-arg .given))) (back _ (ok (z .put-line-arg3 .given))) (arg .before .loop-test .taken)) (s .pre .3)
 
 add-i : tie.Need-add-i Inv-loop μ-loop
 add-i c = omega (arith, c .before .before .before .before .before .before .before .loop-test .taken, c .before .before .before .before .before .before .before .before .before .before .pre .2)
@@ -47,7 +52,12 @@ loop-less : tie.Need-loop-less Inv-loop μ-loop
 loop-less c = omega (arith, c .before .before .before .before .before .before .before .loop-test .taken)
 
 loop-again : tie.Need-loop-again Inv-loop μ-loop
-loop-again c = (omega (arith, c .before .before .before .before .before .before .before .loop-test .taken), left-more (line-left (c .before .before .before .before .before .before .before .before .before .before .args .a .now) (c .before .before .before .before .before .before .before .before .before .before .args .b .now) (c .before .before .before .before .before .before .before .before .before .before .args .c .now) (c .before .before .before .before .before .before .before .before .loop .i) (c .before .before .before .before .before .before .before .before .before .before .args .end) _ _ (c .before .before .before .before .before .before .before .before .loop .inv .1) (back _ (ok (c .before .before .before .before .before .before .put-line-arg .given))) (back _ (ok (c .before .before .before .before .put-line-arg3 .given))) (c .before .before .before .before .before .before .before .loop-test .taken)) (c .before .before .put-line .ensures))
+loop-again c =
+    let z = c .before .before .before .before in
+    let arg = z .before .before in
+    let l = arg .before .before .loop in
+    let s = arg .before .before .before .before in
+    (omega (arith, arg .before .loop-test .taken), left-more (line-left (s .args .a .now) (s .args .b .now) (s .args .c .now) (l .i) (s .args .end) _ _ (l .inv .1) (back _ (ok (arg .put-line-arg .given))) (back _ (ok (z .put-line-arg3 .given))) (arg .before .loop-test .taken)) (c .before .before .put-line .ensures))
 
 same-length : tie.Need-same-length Inv-loop μ-loop
 same-length c = c .before .loop .inv .1 .same
