@@ -18,4 +18,5 @@ pub mod Apart
 pub mod Angles
 pub mod Joined
 pub mod Core
+pub mod Positive
 pub mod Examples
