@@ -11,10 +11,11 @@ use Rattle.integers.specs.Division.{floor, modulo}
 use Rattle.integers.specs.Signs.{sgn}
 use Rattle.arith.specs.Signed.{naturalOr}
 use Rattle.calendar.specs.Calendar.{leap, month-length, first-bad, noon-number, day-of-date}
-use Rattle.dates.specs.Lines.{fresh, at-space, at-minus, at-digit, take, reading, read}
+use Rattle.dates.specs.Lines.{fresh, greatest, at-space, at-minus, at-digit, take, reading, read}
 use Rattle.dates.specs.Replies.{decimal, refused, day-text, reply, after, said, line-after, replies}
 use Rattle.dates.specs.declared.reader.Line.{Line}
 use Rattle.dates.specs.declared.reader.Reading.the-variants.{Three}
+use Rattle.dates.proofs.Least.{greatest-most}
 
 -- Two pieces are the input in one.
 pub cut-line : (s : Line) (xs ys : List ℕ) → line-after s (xs ++ ys) ≡ line-after (line-after s xs) ys
@@ -46,10 +47,10 @@ unfoldable pub value : ℕ → List ℕ → ℕ
 value v [] = v
 value v (b ∷ ds) = value (10 * v + (b - 48)) ds
 
--- A number as it is written: a minus or none, a first digit, and more.
+-- A number as it is written: a minus or none, a first digit, and more; one of 64 bits.
 pub record Decimal (minus : Bool) (first : ℕ) (more : List ℕ) : Type 0 where
   pub digits : Digits (first ∷ more)
-  pub small : value 0 (first ∷ more) ≤ 9223372036854775807
+  pub small : value 0 (first ∷ more) ≤ greatest minus
 
 abbrev pub written : Bool → List ℕ → List ℕ
 written true ds = 45 ∷ ds
@@ -70,12 +71,12 @@ module _ (count : ℕ) (year month : ℤ) (few : count ≤ 2) (minus : Bool) whe
   one-digit d v b p q l =
       rw (ne-eqb b 32 (λ e. omega (arith, e)), le-ltb 2 count few, ne-eqb b 45 (λ e. omega (arith, e)), le-ltb b 48 p, le-ltb 57 b q, le-ltb 922337203685477580 v l)
 
-  more-digits : (v : ℕ) (ds rest : List ℕ) → Digits ds → value v ds ≤ 9223372036854775807 → read (state count year month minus true v) (ds ++ rest) ≡ read (state count year month minus true (value v ds)) rest
+  more-digits : (v : ℕ) (ds rest : List ℕ) → Digits ds → value v ds ≤ greatest minus → read (state count year month minus true v) (ds ++ rest) ≡ read (state count year month minus true (value v ds)) rest
   unfolding value read
   more-digits v [] rest h l = refl
   more-digits v (b ∷ ds) rest h l =
       let g = grows (10 * v + (b - 48)) ds in
-      ap (λ (s : Line). read s (ds ++ rest)) (one-digit true v b (h .0) (h .1) (omega arith))
+      ap (λ (s : Line). read s (ds ++ rest)) (one-digit true v b (h .0) (h .1) (omega (arith, greatest-most minus)))
       ∙ more-digits (10 * v + (b - 48)) ds rest (h .2) l
 
   all-digits : (b : ℕ) (ds rest : List ℕ) → Decimal minus b ds → read (state count year month minus false 0) (b ∷ (ds ++ rest)) ≡ read (state count year month minus true (value 0 (b ∷ ds))) rest
@@ -96,18 +97,18 @@ number-read count year month few true b ds rest h =
     ap (λ (s : Line). read s (b ∷ (ds ++ rest))) (minus-read count year month few) ∙ all-digits count year month few true b ds rest h
 
 -- A space after the year and after the month, and the end after the day.
-module _ (minus : Bool) (v : ℕ) (l : v ≤ 9223372036854775807) where
+module _ (minus : Bool) (v : ℕ) (l : v ≤ greatest minus) where
   year-read : (rest : List ℕ) → read (state 0 (pos 0) (pos 0) minus true v) (32 ∷ rest) ≡ read (state 1 (sgn minus v) (pos 0) false false 0) rest
   unfolding read take at-space
-  year-read rest = rw (le-ltb 9223372036854775807 v l)
+  year-read rest = rw (le-ltb (greatest minus) v l)
 
   month-read : (y : ℤ) (rest : List ℕ) → read (state 1 y (pos 0) minus true v) (32 ∷ rest) ≡ read (state 2 y (sgn minus v) false false 0) rest
   unfolding read take at-space
-  month-read y rest = rw (le-ltb 9223372036854775807 v l)
+  month-read y rest = rw (le-ltb (greatest minus) v l)
 
   day-read : (y m : ℤ) → reading (read (state 2 y m minus true v) []) ≡ Three y m (sgn minus v)
   unfolding read reading
-  day-read y m = rw (le-ltb 9223372036854775807 v l)
+  day-read y m = rw (le-ltb (greatest minus) v l)
 
 -- "1582 10 4": three numbers parted by single spaces are these numbers.
 pub three-numbers : (a b c : Bool) (f g h : ℕ) (fs gs hs : List ℕ) → Decimal a f fs → Decimal b g gs → Decimal c h hs
@@ -127,5 +128,5 @@ three-numbers a b c f g h fs gs hs p q r =
 
 -- "The date program reads "1582 10 4" and "1582 10 10" on two lines and prints `2299160` and `refused 1`, a line each."
 pub two-lines : replies fresh (49 ∷ 53 ∷ 56 ∷ 50 ∷ 32 ∷ 49 ∷ 48 ∷ 32 ∷ 52 ∷ 10 ∷ 49 ∷ 53 ∷ 56 ∷ 50 ∷ 32 ∷ 49 ∷ 48 ∷ 32 ∷ 49 ∷ 48 ∷ 10 ∷ []) ≡ 50 ∷ 50 ∷ 57 ∷ 57 ∷ 49 ∷ 54 ∷ 48 ∷ 10 ∷ 114 ∷ 101 ∷ 102 ∷ 117 ∷ 115 ∷ 101 ∷ 100 ∷ 32 ∷ 49 ∷ 10 ∷ []
-unfolding replies said after take at-space at-digit reading reply day-text decimal refused sgn naturalOr day-of-date first-bad month-length leap noon-number floor modulo
+unfolding replies said after take at-space at-digit reading reply day-text decimal refused sgn naturalOr day-of-date first-bad month-length leap noon-number floor modulo greatest
 two-lines = refl

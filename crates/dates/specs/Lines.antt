@@ -1,6 +1,6 @@
--- Which three numbers a line of the date program has, or what is wrong with it. A number is an optional minus and one or more digits, its
--- magnitude at most 9,223,372,036,854,775,807; single spaces part the numbers; nothing else stands on the line. A line is read byte by byte,
--- and the first fault stays.
+-- Which three numbers a line of the date program has, or what is wrong with it. A number is an optional minus and one or more digits, from
+-- -9,223,372,036,854,775,808 to 9,223,372,036,854,775,807; single spaces part the numbers; nothing else stands on the line. A line is read
+-- byte by byte, and the first fault stays.
 use mathlib.Core.Bool.{Bool, true, false, cond, _&&_, _||_, not}
 use mathlib.Core.List.{List, [], _∷_}
 use Prim.Native.Nat.{ℕ, _+_, _*_, _-_}
@@ -38,9 +38,13 @@ fresh = record { fault = 0; count = 0; year = pos 0; month = pos 0; minus = fals
 abbrev pub faulty : ℕ → Line
 faulty f = record { fault = f; count = 0; year = pos 0; month = pos 0; minus = false; digits = false; value = 0 }
 
+-- The greatest magnitude of 64 bits, with a minus and without.
+unfoldable pub greatest : Bool → ℕ
+greatest minus = cond minus 9223372036854775808 9223372036854775807
+
 -- The magnitude of a number that has ended is judged.
 abbrev pub too-large : Line → Bool
-too-large s = ltb 9223372036854775807 (s .value)
+too-large s = ltb (greatest (s .minus)) (s .value)
 
 abbrev pub number : Line → ℤ
 number s = sgn (s .minus) (s .value)

@@ -1,6 +1,8 @@
 // A line of three numbers, read byte by byte. All of this is for lib.rt.
 ghost use mathlib.Core.Path.{_≡_};
-ghost use Rattle.dates.specs.Lines.{fresh, faulty, at-space, at-minus, at-digit, take, reading};
+ghost use Prim.Native.Nat.{_≤_};
+ghost use Rattle.integers.specs.Signs.{sgn};
+ghost use Rattle.dates.specs.Lines.{fresh, faulty, greatest, at-space, at-minus, at-digit, take, reading};
 use arith::signed::of_parts;
 
 // What a line has said so far: its first fault, or 0; how many of its numbers have ended; the year and the month once they have;
@@ -49,6 +51,26 @@ fn refuse(fault: u64) -> Line
     }
 }
 
+fn most(minus: bool) -> u64
+    ensures { λ r. ⌜ r ≡ greatest minus ⌝ }
+{
+    if minus {
+        return 9223372036854775808;
+    }
+    9223372036854775807
+}
+
+// The number with this sign and magnitude.
+fn number(minus: bool, value: u64) -> i64
+    requires { ⌜ value ≤ greatest minus ⌝ }
+    ensures { λ r. ⌜ r ≡ sgn minus value ⌝ }
+{
+    if value == 9223372036854775808 {
+        return -9223372036854775808;
+    }
+    of_parts(minus, value)
+}
+
 fn take_space(s: Line) -> Line
     ensures { λ r. ⌜ r ≡ at-space s ⌝ }
 {
@@ -60,10 +82,11 @@ fn take_space(s: Line) -> Line
         }
         return refuse(3);
     }
-    if 9223372036854775807 < value {
+    let limit = most(minus);
+    if limit < value {
         return refuse(4);
     }
-    let n = of_parts(minus, value);
+    let n = number(minus, value);
     if s.count == 0 {
         return Line {
             fault: 0,
@@ -177,11 +200,12 @@ pub fn whole(s: Line) -> Reading
     }
     let minus = s.minus;
     let value = s.value;
-    if 9223372036854775807 < value {
+    let limit = most(minus);
+    if limit < value {
         return Reading::Bad(4);
     }
     if s.count < 2 {
         return Reading::Bad(5);
     }
-    Reading::Three(s.year, s.month, of_parts(minus, value))
+    Reading::Three(s.year, s.month, number(minus, value))
 }
