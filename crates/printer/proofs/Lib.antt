@@ -5,6 +5,7 @@ pub mod Pieces
 pub mod Tables
 pub mod Answers
 pub mod Numerals
+pub mod Spacing
 pub mod Reading
 pub mod Series
 pub mod Longest

@@ -13,8 +13,8 @@ use Rattle.units.specs.Units as units
 use Rattle.packed.specs.declared.Term.{Term}
 use Rattle.text.specs.Grammar.{numeral, Natural, Decimal, size, value, GoodDecimal, CountLine, count, GoodCount, TermLine, GoodTerm, termIn, Block, termsIn, blocksIn, AllGood}
 use Rattle.printer.specs.Printer.{last-digits, first-digit, rest-digits, plain-decimal, plain-count, plain-term, plain-block}
-use Rattle.printer.specs.Plain.{PlainLine, PlainLines}
 use Rattle.printer.proofs.Figures.{length-last}
+use Rattle.printer.proofs.Spacing.{PlainLine}
 use Rattle.printer.proofs.Numerals.{all-last, numeral-last, natural-good, natural-value, natural-unique, Unique, Written, written}
 
 -- A decimal and its number.

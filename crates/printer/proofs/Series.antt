@@ -17,7 +17,7 @@ use Rattle.packed.proofs.Limits as limits
 use Rattle.packed.proofs.Judged as judged
 use Rattle.text.specs.Grammar.{value, size, count, TermLine, Block, termIn, termsIn, blocksIn, AllGood, GoodBlocks, TermInLimits, TermsInLimits, BlocksInLimits}
 use Rattle.printer.specs.Printer.{plain-decimal, plain-count, plain-term, plain-block}
-use Rattle.printer.specs.Plain.{PlainLines, Plain}
+use Rattle.printer.proofs.Spacing.{PlainLines, Plain}
 use Rattle.printer.proofs.Reading.{size-plain, value-plain, decimal-good, number-good, count-plain, count-good, count-unique, term-plain, term-unique}
 
 -- The numbers of the printed lines.

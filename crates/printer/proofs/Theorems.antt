@@ -19,7 +19,8 @@ use Rattle.text.specs.Grammar.{Block, blocksBytes, blocksIn, GoodText, InLimits
 use Rattle.text.proofs.Theorems.{Reads, read-text, accepted-text}
 use Rattle.printer.specs.declared.Printed.the-variants.{Length}
 use Rattle.printer.specs.Printer.{plain-block, plain-text, text-fits, printed, printed-out}
-use Rattle.printer.specs.Plain.{Plain}
+use Rattle.printer.specs.Plain.{PlainText}
+use Rattle.printer.proofs.Spacing.{text-plain}
 use Rattle.printer.proofs.Series.{blocks-plain, blocks-in, blocks-good, length-blocks, blocks-out, blocks-unique}
 use Rattle.printer.proofs.Longest.{text-short}
 
@@ -57,13 +58,13 @@ print-read x out blocks b e h =
     (rw p at (r .0), rw p at (r .1))
 
 -- A plain text, as the reader takes it, is printed back as it was, from the bytes that the reader gives for it.
-pub read-print : (ks : List Block) (out : List ℕ) → GoodText ks → InLimits ks → Plain ks → length (blocksBytes ks) ≤ length out
+pub read-print : (ks : List Block) (out : List ℕ) → GoodText ks → InLimits ks → PlainText (blocksBytes ks) → length (blocksBytes ks) ≤ length out
     → (printed (parse (pack (blocksIn ks))) out ≡ Length (length (blocksBytes ks))) × (printed-out (parse (pack (blocksIn ks))) out ≡ sets out 0 (blocksBytes ks))
 unfolding printed printed-out text-fits plain-text
 read-print ks out g l p h =
     let k = blocks-out 0 no-sums ks (g .good) l in
     let a = good-allowed (blocksIn ks) (length-blocks ks ∙ g .eighteen) k in
-    let u = blocks-unique 0 no-sums ks (g .good) l p in
+    let u = blocks-unique 0 no-sums ks (g .good) l (text-plain ks p) in
     rw (pack-parse (blocksIn ks) a, u, le-leb (length (blocksBytes ks)) (length out) h) (refl, refl)
 
 -- What a buffer begins with after a text was written at its start.
@@ -72,21 +73,17 @@ front x out h =
     let l : 0 + length x ≤ length out = omega arith in
     ap (λ (s : List ℕ). take (length x) s) (sets-eq x out 0 l) ∙ take-append-seam x (drop (0 + length x) out)
 
-read-back : (text buffer out : List ℕ) (n : ℕ) (r : Reads text buffer n) → Plain (r .ks) → length text ≤ length out
+-- So an accepted plain text is printed back as it was, from the bytes that the reader wrote.
+pub accepted-printed : (text buffer out : List ℕ) (n : ℕ) → told (whole text buffer .reader) ≡ Accepted n → PlainText text → length text ≤ length out
     → (printed (parse (take n (whole text buffer .out))) out ≡ Length (length text)) × (printed-out (parse (take n (whole text buffer .out))) out ≡ sets out 0 text)
-read-back text buffer out n r p h =
+accepted-printed text buffer out n e p h =
+    let r = accepted-text text buffer n e in
     let x = pack (blocksIn (r .ks)) in
     let m = length x in
     let room : m ≤ length buffer = rw (r .long) at (r .room) in
     let b : take n (whole text buffer .out) ≡ x = ap (λ (k : ℕ). take k (whole text buffer .out)) (r .long) ∙ (ap (λ (s : List ℕ). take m s) (r .written) ∙ front x buffer room) in
-    let q = read-print (r .ks) out (r .good) (r .limits) p (rw (r .is) at h) in
+    let q = read-print (r .ks) out (r .good) (r .limits) (rw (r .is) at p) (rw (r .is) at h) in
     (ap (λ (s : List ℕ). printed (parse s) out) b ∙ (q .0 ∙ ap (λ (t : List ℕ). Length (length t)) (sym (r .is))), ap (λ (s : List ℕ). printed-out (parse s) out) b ∙ (q .1 ∙ ap (λ (t : List ℕ). sets out 0 t) (sym (r .is))))
-
--- So an accepted plain text is printed back as it was, from the bytes that the reader wrote.
-pub accepted-printed : (text buffer out : List ℕ) (n : ℕ) (e : told (whole text buffer .reader) ≡ Accepted n) → Plain (accepted-text text buffer n e .ks) → length text ≤ length out
-    → (printed (parse (take n (whole text buffer .out))) out ≡ Length (length text)) × (printed-out (parse (take n (whole text buffer .out))) out ≡ sets out 0 text)
-accepted-printed text buffer out n e p h =
-    read-back text buffer out n (accepted-text text buffer n e) p h
 
 -- Two packed series with the same plain text are equal.
 pub same-text : (x y : List ℕ) (xs ys : List (List Term)) → AllBytes x → AllBytes y → parse x ≡ accepted xs → parse y ≡ accepted ys → plain-text xs ≡ plain-text ys → x ≡ y
