@@ -9,4 +9,5 @@ pub mod Spacing
 pub mod Reading
 pub mod Series
 pub mod Longest
+pub mod Printing
 pub mod Theorems

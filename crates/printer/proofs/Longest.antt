@@ -1,8 +1,8 @@
 -- How long the text of a series within the limits can be: 53 bytes a term, 5 a count. Assumes nothing.
-use mathlib.Core.Path.{_≡_, refl, sym, ap, _∙_}
-use mathlib.Core.Bool.{Bool, true, false}
-use mathlib.Core.List.{List, [], _∷_, _++_}
-use Prim.Native.Nat.{ℕ, zero, suc, _+_, _*_, _/_, _^_, _≤_, _<_}
+use mathlib.Core.Path.{_≡_, refl, ap}
+use mathlib.Core.Bool.{Bool, false}
+use mathlib.Core.List.{List, _∷_}
+use Prim.Native.Nat.{ℕ, suc, _+_, _*_, _/_, _^_, _≤_, _<_}
 use native.Mathlib.Omega.{arith}
 use lib.IntN.{ℤ, natAbs}
 use lib.ListN.{length, length-append}
@@ -14,11 +14,10 @@ use Rattle.packed.specs.Series.{term-count}
 use Rattle.packed.proofs.Accepting.{GoodA, GoodC, GoodTerm}
 use Rattle.packed.proofs.Limits as limits
 use Rattle.packed.proofs.Judged as judged
-use Rattle.text.specs.Grammar.{sign, digits, countBytes, decimal}
-use Rattle.printer.specs.Printer.{last-digits, further-digits, plain-decimal, plain-count, plain-text}
+use Rattle.text.specs.Grammar.{sign, countBytes, decimal}
+use Rattle.printer.specs.Printer.{plain-decimal, plain-count, plain-text}
 use Rattle.printer.specs.Writing.{whole-text, line-text, lines-text, block-text}
-use Rattle.printer.proofs.Writing.{total, length-joined}
-use Rattle.printer.proofs.Figures.{whole-length, length-digits, length-last}
+use Rattle.printer.proofs.Figures.{whole-length}
 use Rattle.printer.proofs.Pieces.{decimal-size, sign-length, line-length}
 use Rattle.printer.proofs.Numerals.{further-few}
 use Rattle.printer.proofs.Tables.{lines-cons, lines-none, text-cons, text-none}

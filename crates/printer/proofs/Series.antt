@@ -2,11 +2,11 @@
 use mathlib.Core.Path.{_≡_, refl, sym, ap, ap₂, _∙_}
 use mathlib.Core.Bool.{Bool, true, false, _&&_}
 use mathlib.Core.List.{List, [], _∷_, map}
-use Prim.Native.Nat.{ℕ, zero, suc, _+_, _*_, _≤_, _<_}
+use Prim.Native.Nat.{ℕ, suc, _+_, _≤_}
 use native.Mathlib.Omega.{arith}
 use borrow.Author.Tests.{lt-ltb, le-leb, ltb-true, leb-true}
-use lib.Dec.{leb, ltb}
-use lib.IntN.{ℤ, natAbs}
+use lib.Dec.{leb}
+use lib.IntN.{ℤ}
 use lib.ListN.{length, length-map}
 use Rattle.packed.specs.declared.Term.{Term}
 use Rattle.packed.specs.declared.Sums.{Sums}
@@ -15,8 +15,8 @@ use Rattle.packed.specs.Series.{after-block}
 use Rattle.packed.proofs.Accepting.{GoodA, GoodC, GoodTerm}
 use Rattle.packed.proofs.Limits as limits
 use Rattle.packed.proofs.Judged as judged
-use Rattle.text.specs.Grammar.{value, size, count, TermLine, Block, termIn, termsIn, blocksIn, AllGood, GoodBlocks, TermInLimits, TermsInLimits, BlocksInLimits}
-use Rattle.printer.specs.Printer.{plain-decimal, plain-count, plain-term, plain-block}
+use Rattle.text.specs.Grammar.{count, TermLine, Block, termIn, termsIn, blocksIn, AllGood, GoodBlocks, TermInLimits, TermsInLimits, BlocksInLimits}
+use Rattle.printer.specs.Printer.{plain-decimal, plain-term, plain-block}
 use Rattle.printer.proofs.Spacing.{PlainLines, Plain}
 use Rattle.printer.proofs.Reading.{size-plain, value-plain, decimal-good, number-good, count-plain, count-good, count-unique, term-plain, term-unique}
 

@@ -1,13 +1,13 @@
 -- The printer's promises. Assumes nothing.
 use mathlib.Core.Path.{_≡_, refl, sym, ap, _∙_}
-use mathlib.Core.List.{List, [], _∷_, _++_, map}
-use Prim.Native.Nat.{ℕ, _+_, _*_, _≤_, _<_}
+use mathlib.Core.List.{List, map}
+use Prim.Native.Nat.{ℕ, _+_, _≤_}
 use native.Mathlib.Omega.{arith}
 use borrow.Author.Tests.{le-leb}
 use lib.ListN.{length, take, drop, replicate, length-replicate, length-map}
 use lib.Seq.{sets, sets-eq, take-append-seam}
 use Rattle.packed.specs.declared.Term.{Term}
-use Rattle.packed.specs.Limits.{no-sums, block-count}
+use Rattle.packed.specs.Limits.{no-sums}
 use Rattle.packed.specs.Series.{accepted, parse, pack}
 use Rattle.packed.specs.Allowed.{Allowed}
 use Rattle.packed.proofs.Shortest.{AllBytes}
@@ -22,6 +22,7 @@ use Rattle.printer.specs.Printer.{plain-block, plain-text, text-fits, pr
 use Rattle.printer.specs.Plain.{PlainText}
 use Rattle.printer.proofs.Spacing.{text-plain}
 use Rattle.printer.proofs.Series.{blocks-plain, blocks-in, blocks-good, length-blocks, blocks-out, blocks-unique}
+use Rattle.printer.proofs.Printing.{text-spaced}
 use Rattle.printer.proofs.Longest.{text-short}
 
 -- The text of an accepted series is never longer than that.
@@ -45,6 +46,10 @@ follows x blocks e =
       limits = blocks-in g;
       numbers = blocks-plain blocks;
     }
+
+-- What is printed has single spaces, none leading.
+pub prints-plain : (blocks : List (List Term)) → PlainText (plain-text blocks)
+prints-plain = text-spaced
 
 -- Reading the printed text of a packed series gives its bytes back.
 pub print-read : (x out : List ℕ) (blocks : List (List Term)) → AllBytes x → parse x ≡ accepted blocks → length x ≤ length out

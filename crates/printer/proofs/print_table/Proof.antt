@@ -1,7 +1,6 @@
 -- `print_table` meets its contract. Assumes nothing.
 use Rattle.packed.specs.Tables.{table-blocks}
 use Rattle.printer.proofs.Answers.{table-over, table-fits}
-use native.Mathlib.Omega.{arith}
 use borrow.Author.Needs.{needs}
 use Rattle.printer.proofs.print_table.Statement.{statement}
 use Rattle.printer.proofs.print_table.Tie as tie

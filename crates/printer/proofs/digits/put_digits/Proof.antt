@@ -1,7 +1,5 @@
 -- `put_digits` meets its contract. Assumes nothing.
-use Prim.Native.Nat.{_-_}
 use native.Mathlib.Omega.{arith}
-use lib.ListN.{length-set}
 use Rattle.printer.proofs.Figures.{Backward, backward-none, backward-more, backward-last}
 use Rattle.printer.proofs.digits.put_digits.Statement.{statement}
 use Rattle.printer.proofs.digits.put_digits.Tie as tie

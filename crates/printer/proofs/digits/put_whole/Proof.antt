@@ -1,5 +1,4 @@
 -- `put_whole` meets its contract. Assumes nothing.
-use native.Mathlib.Omega.{arith}
 use Rattle.printer.proofs.Figures.{whole-room, whole-wrote}
 use borrow.Author.Needs.{needs}
 use Rattle.printer.proofs.digits.put_whole.Statement.{statement}

@@ -1,5 +1,4 @@
 -- `whole_length` meets its contract. Assumes nothing.
-use mathlib.Core.Path.{_∙_}
 use native.Mathlib.Omega.{arith}
 use Rattle.printer.proofs.Figures.{whole-length}
 use borrow.Author.Needs.{needs}

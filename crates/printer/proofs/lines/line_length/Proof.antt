@@ -1,8 +1,5 @@
 -- `line_length` meets its contract. Assumes nothing.
-use mathlib.Core.Path.{_≡_, ap, _∙_}
 use native.Mathlib.Omega.{arith}
-use lib.IntN.{natAbs}
-use Rattle.integers.specs.Signs.{negative}
 use Rattle.arith.proofs.Signs.{back}
 use Rattle.printer.specs.Writing.{term}
 use Rattle.printer.proofs.Pieces.{line-length}
