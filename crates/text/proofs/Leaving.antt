@@ -9,7 +9,7 @@ use native.Mathlib.Omega.{arith}
 use borrow.Author.Tests.{leb-true, eqb-true, eqb-false, eq-eqb, ne-eqb}
 use lib.Dec.{leb, eqb}
 use lib.ListN.{length, length-append}
-use lib.Seq.{sets}
+use lib.Seq.{sets, length-sets}
 use Rattle.packed.specs.Numbers.{encode}
 use Rattle.packed.specs.Series.{pack-term}
 use Rattle.text.specs.declared.Line.{Line}
@@ -38,11 +38,12 @@ pub record Place (at : ℕ) (xs : List ℕ) (place : ℕ) : Type 0 where
   pub in-line : NoFeed before
   pub offset : place ≡ at + length before
 
--- No whole line comes: nothing is written, and a refusal is in this line.
+-- No whole line comes: nothing is written; a refusal is in this line, and without one the line is not ended.
 record Halts (r : Reader) (out xs : List ℕ) : Type 0 where
   same : run r out xs .out ≡ out
   written : run r out xs .reader .written ≡ r .written
   place : (run r out xs .reader .status ≡ 0 → ⊥) → Place (r .at) xs (run r out xs .reader .place)
+  reading : run r out xs .reader .status ≡ 0 → NoFeed xs
 
 halt-now : (r : Reader) (out : List ℕ) (x : ℕ) (xs : List ℕ) (n : ℕ) → (n ≡ 0 → ⊥)
     → step r out x ≡ stopped r n → stepOut r out x ≡ out → Halts r out (x ∷ xs)
@@ -53,6 +54,7 @@ halt-now r out x xs n h e f =
       same = ap (λ (y : Run). y .out) q;
       written = ap (λ (y : Run). y .reader .written) q;
       place = λ g. record { before = []; byte = x; after = xs; is = refl; in-line = tt; offset = ap (λ (y : Run). y .reader .place) q ∙ sym (add-zero (r .at)) };
+      reading = λ z. absurd (h (sym (ap (λ (y : Run). y .reader .status) q) ∙ z));
     }
 
 halt-later : (r : Reader) (out : List ℕ) (x : ℕ) (xs : List ℕ) → Going r → (x ≡ 10 → ⊥) → (lex (r .line) x .spot ≡ 31 → ⊥)
@@ -74,6 +76,7 @@ halt-later r out x xs g h k e =
             in-line = (h, p .in-line);
             offset = ap (λ (y : Run). y .reader .place) q ∙ p .offset ∙ (omega arith);
           };
+      reading = λ z. (h, e .reading (sym (ap (λ (y : Run). y .reader .status) q) ∙ z));
     }
 
 feed-event : (r : Reader) (out xs : List ℕ) → r .place ≡ 0 → Going r → NextLine r out (10 ∷ xs) ⊎ Halts r out (10 ∷ xs)
@@ -101,7 +104,7 @@ feed-event r out xs p g =
 
 -- The next event: a whole line that is written, or none.
 event : (xs : List ℕ) (r : Reader) (out : List ℕ) → r .status ≡ 0 → r .place ≡ 0 → NextLine r out xs ⊎ Halts r out xs
-event [] r out s p = inr (record { same = nil-out r out; written = nil-written r out; place = λ h. absurd (h (nil-status r out ∙ s)) })
+event [] r out s p = inr (record { same = nil-out r out; written = nil-written r out; place = λ h. absurd (h (nil-status r out ∙ s)); reading = λ h. unfold NoFeed in tt })
   where
     nil-out : (r : Reader) (out : List ℕ) → run r out [] .out ≡ out
     nil-out r out = unfold run in refl
@@ -244,11 +247,13 @@ pub record Leaves (at w : ℕ) (out xs : List ℕ) (end : Run) : Type 0 where
   pub good : GoodLines ls
   pub wrote : end .out ≡ sets out w (anyPacked ls)
   pub written : end .reader .written ≡ w + length (anyPacked ls)
+  pub room : w + length (anyPacked ls) ≤ length out
   pub refused : (end .reader .status ≡ 0 → ⊥) → Place (at + length (anyBytes ls)) tail (end .reader .place)
+  pub reading : end .reader .status ≡ 0 → NoFeed tail
 
-halted : (r : Reader) (out xs : List ℕ) → Halts r out xs → Leaves (r .at) (r .written) out xs (run r out xs)
+halted : (r : Reader) (out xs : List ℕ) → r .written ≤ length out → Halts r out xs → Leaves (r .at) (r .written) out xs (run r out xs)
 unfolding anyBytes anyPacked GoodLines
-halted r out xs h =
+halted r out xs m h =
     record {
       ls = [];
       tail = xs;
@@ -256,7 +261,9 @@ halted r out xs h =
       good = tt;
       wrote = h .same;
       written = h .written ∙ sym (add-zero (r .written));
+      room = omega arith;
       refused = λ g. rw (add-zero (r .at)) (h .place g);
+      reading = h .reading;
     }
 
 lined : (r : Reader) (out xs : List ℕ) (n : NextLine r out xs) → LineOf r out xs n
@@ -283,25 +290,27 @@ lined r out xs n l e =
       wrote =
           ap (λ (z : Run). z .out) (n .next) ∙ e .wrote ∙ (rw (l .packed, w)) ∙ sym (sets-append x y out (r .written));
       written = ap (λ (z : Run). z .reader .written) (n .next) ∙ e .written ∙ (omega (arith, w, ap length (l .packed), length-append x y));
+      room = omega (arith, e .room, w, ap length (l .packed), length-append x y, length-sets out (n .before .written) (verdict (n .before) .bytes));
       refused = λ g. rw (n .next) (rw d at (e .refused (λ z. g (ap (λ (q : Run). q .reader .status) (n .next) ∙ z))));
+      reading = λ z. e .reading (sym (ap (λ (q : Run). q .reader .status) (n .next)) ∙ z);
     }
 
 shorter : (xs body rest : List ℕ) → xs ≡ body ++ (10 ∷ rest) → length rest < length xs
 shorter xs body rest e = omega (arith, ap length e, length-append body (10 ∷ rest))
 
 leaves-step : (xs : List ℕ) (r : Reader) (out : List ℕ)
-    → ((ys : List ℕ) (q : Reader) (o : List ℕ) → length ys < length xs → Begins q → Leaves (q .at) (q .written) o ys (run q o ys))
-    → Begins r → NextLine r out xs ⊎ Halts r out xs → Leaves (r .at) (r .written) out xs (run r out xs)
-leaves-step xs r out rec b (inl n) =
+    → ((ys : List ℕ) (q : Reader) (o : List ℕ) → length ys < length xs → Begins q → q .written ≤ length o → Leaves (q .at) (q .written) o ys (run q o ys))
+    → Begins r → r .written ≤ length out → NextLine r out xs ⊎ Halts r out xs → Leaves (r .at) (r .written) out xs (run r out xs)
+leaves-step xs r out rec b m (inl n) =
     let v = verdict (n .before) in
     lined r out xs n (line-of r out xs n b)
     (rec (n .rest) (nextLine (n .before) v) (sets out (n .before .written) (v .bytes)) (shorter xs (n .body) (n .rest) (n .is))
-    (next-begins (nextLine (n .before) v) (v .blocks) (v .left) refl refl refl))
-leaves-step xs r out rec b (inr h) = halted r out xs h
+    (next-begins (nextLine (n .before) v) (v .blocks) (v .left) refl refl refl) (omega (arith, n .room, length-sets out (n .before .written) (v .bytes))))
+leaves-step xs r out rec b m (inr h) = halted r out xs m h
 
-leaves-by : (N : ℕ) (xs : List ℕ) (r : Reader) (out : List ℕ) → length xs ≤ N → Begins r → Leaves (r .at) (r .written) out xs (run r out xs)
-leaves-by zero xs r out h b = leaves-step xs r out (λ ys q o i c. absurd (omega (arith, i))) b (event xs r out (b .status) (b .place))
-leaves-by (suc N) xs r out h b = leaves-step xs r out (λ ys q o i c. leaves-by N ys q o (omega (arith, i)) c) b (event xs r out (b .status) (b .place))
+leaves-by : (N : ℕ) (xs : List ℕ) (r : Reader) (out : List ℕ) → length xs ≤ N → Begins r → r .written ≤ length out → Leaves (r .at) (r .written) out xs (run r out xs)
+leaves-by zero xs r out h b m = leaves-step xs r out (λ ys q o i c k. absurd (omega (arith, i))) b m (event xs r out (b .status) (b .place))
+leaves-by (suc N) xs r out h b m = leaves-step xs r out (λ ys q o i c k. leaves-by N ys q o (omega (arith, i)) c k) b m (event xs r out (b .status) (b .place))
 
 pub leaves : (text out : List ℕ) → Leaves 0 0 out text (run begun out text)
-leaves text out = leaves-by (length text) text begun out (omega arith) (record { status = refl; place = refl; line = inr (inl refl) })
+leaves text out = leaves-by (length text) text begun out (omega arith) (record { status = refl; place = refl; line = inr (inl refl) }) (omega arith)

@@ -15,3 +15,4 @@ pub mod Feeds
 pub mod Leaving
 pub mod Ending
 pub mod Theorems
+pub mod Series

@@ -97,7 +97,7 @@ accepted-text text out n e =
     }
 
 -- Any text, accepted or refused, leaves in the output the packed form of its whole lines before the refusal, or before its end, and nothing
--- else; a refusal stands in the line after these.
+-- else; a refusal stands in the line after these, and a text that is not refused so far has no further line feed.
 pub output : (text out : List ℕ) → Leaves 0 0 out text (run begun out text)
 output = leaves
 
