@@ -4,24 +4,25 @@ use mathlib.Core.List.{List, map}
 use Prim.Native.Nat.{ℕ, _+_, _≤_}
 use native.Mathlib.Omega.{arith}
 use borrow.Author.Tests.{le-leb}
-use lib.ListN.{length, take, drop, replicate, length-replicate, length-map}
-use lib.Seq.{sets, sets-eq, take-append-seam}
+use lib.ListN.{length, take, replicate, length-replicate, length-map}
+use lib.Seq.{sets}
 use Rattle.packed.specs.declared.Term.{Term}
 use Rattle.packed.specs.Limits.{no-sums}
 use Rattle.packed.specs.Series.{accepted, parse, pack}
 use Rattle.packed.specs.Allowed.{Allowed}
 use Rattle.packed.proofs.Shortest.{AllBytes}
-use Rattle.packed.proofs.Judged.{good-allowed, allowed-good}
+use Rattle.packed.proofs.Judged.{allowed-good}
 use Rattle.packed.proofs.Theorems.{accepted-allowed, pack-parse, parse-pack}
 use Rattle.text.specs.declared.Outcome.the-variants.{Accepted}
 use Rattle.text.specs.Reader.{told, whole}
 use Rattle.text.specs.Grammar.{Block, blocksBytes, blocksIn, GoodText, InLimits}
 use Rattle.text.proofs.Theorems.{Reads, read-text, accepted-text}
+use Rattle.text.proofs.Series.{front, text-allowed, reads-packed}
 use Rattle.printer.specs.declared.Printed.the-variants.{Length}
 use Rattle.printer.specs.Printer.{plain-block, plain-text, text-fits, printed, printed-out}
 use Rattle.printer.specs.Plain.{PlainText}
 use Rattle.printer.proofs.Spacing.{text-plain}
-use Rattle.printer.proofs.Series.{blocks-plain, blocks-in, blocks-good, length-blocks, blocks-out, blocks-unique}
+use Rattle.printer.proofs.Series.{blocks-plain, series-in, blocks-good, blocks-unique}
 use Rattle.printer.proofs.Printing.{text-spaced}
 use Rattle.printer.proofs.Longest.{text-short}
 
@@ -43,7 +44,7 @@ follows x blocks e =
     let g = allowed-good blocks a in
     record {
       good = record { eighteen = length-map blocks plain-block ∙ a .eighteen; good = blocks-good g };
-      limits = blocks-in g;
+      limits = series-in g;
       numbers = blocks-plain blocks;
     }
 
@@ -67,26 +68,16 @@ pub read-print : (ks : List Block) (out : List ℕ) → GoodText ks → InLimits
     → (printed (parse (pack (blocksIn ks))) out ≡ Length (length (blocksBytes ks))) × (printed-out (parse (pack (blocksIn ks))) out ≡ sets out 0 (blocksBytes ks))
 unfolding printed printed-out text-fits plain-text
 read-print ks out g l p h =
-    let k = blocks-out 0 no-sums ks (g .good) l in
-    let a = good-allowed (blocksIn ks) (length-blocks ks ∙ g .eighteen) k in
+    let a = text-allowed ks g l in
     let u = blocks-unique 0 no-sums ks (g .good) l (text-plain ks p) in
     rw (pack-parse (blocksIn ks) a, u, le-leb (length (blocksBytes ks)) (length out) h) (refl, refl)
-
--- What a buffer begins with after a text was written at its start.
-front : (x out : List ℕ) → length x ≤ length out → take (length x) (sets out 0 x) ≡ x
-front x out h =
-    let l : 0 + length x ≤ length out = omega arith in
-    ap (λ (s : List ℕ). take (length x) s) (sets-eq x out 0 l) ∙ take-append-seam x (drop (0 + length x) out)
 
 -- So an accepted plain text is printed back as it was, from the bytes that the reader wrote.
 pub accepted-printed : (text buffer out : List ℕ) (n : ℕ) → told (whole text buffer .reader) ≡ Accepted n → PlainText text → length text ≤ length out
     → (printed (parse (take n (whole text buffer .out))) out ≡ Length (length text)) × (printed-out (parse (take n (whole text buffer .out))) out ≡ sets out 0 text)
 accepted-printed text buffer out n e p h =
     let r = accepted-text text buffer n e in
-    let x = pack (blocksIn (r .ks)) in
-    let m = length x in
-    let room : m ≤ length buffer = rw (r .long) at (r .room) in
-    let b : take n (whole text buffer .out) ≡ x = ap (λ (k : ℕ). take k (whole text buffer .out)) (r .long) ∙ (ap (λ (s : List ℕ). take m s) (r .written) ∙ front x buffer room) in
+    let b = reads-packed text buffer n r in
     let q = read-print (r .ks) out (r .good) (r .limits) (rw (r .is) at p) (rw (r .is) at h) in
     (ap (λ (s : List ℕ). printed (parse s) out) b ∙ (q .0 ∙ ap (λ (t : List ℕ). Length (length t)) (sym (r .is))), ap (λ (s : List ℕ). printed-out (parse s) out) b ∙ (q .1 ∙ ap (λ (t : List ℕ). sets out 0 t) (sym (r .is))))
 
