@@ -4,6 +4,7 @@ pub mod Answered
 pub mod Minutes
 pub mod Near
 pub mod Demand
+pub mod Positive
 pub mod Separations
 pub mod Working
 pub mod Written
