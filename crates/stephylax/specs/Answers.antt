@@ -4,6 +4,7 @@ use mathlib.Core.Bool.{cond}
 use Prim.Native.Nat.{ℕ}
 use lib.Dec.{ltb}
 use lib.IntN.{ℤ, pos, negsuc}
+use lib.Ieee.{Float, binary64, ofInt}
 use Rattle.units.specs.declared.Refusal.{Refusal}
 use Rattle.units.specs.Refusals.{number, figure}
 use Rattle.calendar.specs.declared.DayAnswer.{DayAnswer}
@@ -20,12 +21,19 @@ use Rattle.text.specs.declared.Outcome.{Outcome}
 use Rattle.text.specs.declared.Outcome.the-variants.{More, Accepted, Refused}
 use Rattle.printer.specs.declared.Printed.{Printed}
 use Rattle.printer.specs.declared.Printed.the-variants.{Length, NoText}
+use Rattle.sunlist.specs.declared.ListAnswer.{ListAnswer}
+use Rattle.sunlist.specs.declared.ListAnswer.the-variants.{Runs, NoList}
 use Rattle.series.specs.declared.CoordinatesAnswer.{CoordinatesAnswer}
 use Rattle.series.specs.declared.CoordinatesAnswer.the-variants.{At as AtCoordinates, NoCoordinates}
+use Rattle.place.specs.declared.PlaceAnswer.{PlaceAnswer}
+use Rattle.place.specs.declared.PlaceAnswer.the-variants.{Place, NoPlace}
+use Rattle.place.specs.declared.Mount.{Mount}
+use Rattle.place.specs.declared.Mount.the-variants.{At as AtPlace, Refused as NoMount}
 use Rattle.stephylax.specs.declared.answers.Flat.{Flat}
 use Rattle.stephylax.specs.declared.answers.One.{One}
 use Rattle.stephylax.specs.declared.answers.Moment.{Moment}
 use Rattle.stephylax.specs.declared.answers.Three.{Three}
+use Rattle.stephylax.specs.declared.answers.Doubles.{Doubles}
 
 -- A number of up to 64 bits as a signed one; past its range, which no memory can count to, the greatest.
 unfoldable pub clip : ℕ → ℤ
@@ -69,7 +77,7 @@ unfoldable pub moment-shown : MomentAnswer → Moment
 moment-shown (OnAt d m) = record { refusal = 0; figure = pos 0; year = d .year; month = d .month; day = d .day; ms = m }
 moment-shown (NoMoment r) = moment-refused r
 
--- stephylax_checked: the number of terms. stephylax_written: the length of the packed form, so far or in all, or of the text.
+-- stephylax_checked: the number of terms. stephylax_written: the length of the packed form, so far or in all; of the text; of the list.
 unfoldable pub checked-shown : Checked → One
 checked-shown (Terms n) = one-counted n
 checked-shown (NoSeries r) = one-refused r
@@ -83,7 +91,23 @@ unfoldable pub printed-shown : Printed → One
 printed-shown (Length n) = one-counted n
 printed-shown (NoText r) = one-refused r
 
--- stephylax_coordinates.
+unfoldable pub list-shown : ListAnswer → One
+list-shown (Runs n) = one-counted n
+list-shown (NoList r) = one-refused r
+
+-- stephylax_coordinates, stephylax_place.
 unfoldable pub coordinates-shown : CoordinatesAnswer → Three
 coordinates-shown (AtCoordinates c) = record { refusal = 0; figure = pos 0; first = c .longitude; second = c .latitude; third = c .radius }
 coordinates-shown (NoCoordinates r) = three-refused r
+
+unfoldable pub place-shown : PlaceAnswer → Three
+place-shown (Place p) = record { refusal = 0; figure = pos 0; first = p .«right_ascension»; second = p .declination; third = p .distance }
+place-shown (NoPlace r) = three-refused r
+
+-- stephylax_mount: the three doubles, or the refusal's number.
+abbrev zero-double : Float
+zero-double = ofInt binary64 (pos 0)
+
+unfoldable pub mount-shown : Mount → Doubles
+mount-shown (AtPlace p) = record { refusal = 0; first = p .«right_ascension»; second = p .declination; third = p .distance }
+mount-shown (NoMount n) = record { refusal = n; first = zero-double; second = zero-double; third = zero-double }

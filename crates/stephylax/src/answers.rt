@@ -1,13 +1,16 @@
 // Each answer as C has it: `refusal` is 0 or the refusal's number, `figure` what comes with a refusal; what an answer does not use is 0.
 ghost use mathlib.Core.Path.{_≡_};
-ghost use Rattle.stephylax.specs.Answers.{clip, flat, one-refused, one-counted, moment-refused, three-refused, day-shown, date-shown, instant-shown, moment-shown, checked-shown, text-shown, printed-shown, coordinates-shown};
+ghost use Rattle.stephylax.specs.Answers.{clip, flat, one-refused, one-counted, moment-refused, three-refused, day-shown, date-shown, instant-shown, moment-shown, checked-shown, text-shown, printed-shown, list-shown, coordinates-shown, place-shown, mount-shown};
 use calendar::DateAnswer;
 use calendar::DayAnswer;
 use calendar::InstantAnswer;
 use calendar::MomentAnswer;
 use packed::Checked;
+use place::Mount;
+use place::PlaceAnswer;
 use printer::Printed;
 use series::CoordinatesAnswer;
+use sunlist::ListAnswer;
 use text::Outcome;
 use units::Refusal;
 
@@ -44,6 +47,15 @@ pub struct Three {
     pub first: i64,
     pub second: i64,
     pub third: i64,
+}
+
+// stephylax_mount.
+#[repr(C)]
+pub struct Doubles {
+    pub refusal: u64,
+    pub first: f64,
+    pub second: f64,
+    pub third: f64,
 }
 
 // A number of up to 64 bits as a signed one; past its range, which no memory can count to, the greatest.
@@ -229,6 +241,15 @@ pub fn of_printed(a: Printed) -> One
     }
 }
 
+pub fn of_list(a: ListAnswer) -> One
+    ensures { λ r. ⌜ r ≡ list-shown a ⌝ }
+{
+    match a {
+        ListAnswer::Runs(n) => counted(n),
+        ListAnswer::NoList(r) => refused_one(r),
+    }
+}
+
 pub fn of_coordinates(a: CoordinatesAnswer) -> Three
     ensures { λ t. ⌜ t ≡ coordinates-shown a ⌝ }
 {
@@ -241,5 +262,39 @@ pub fn of_coordinates(a: CoordinatesAnswer) -> Three
             third: c.radius,
         },
         CoordinatesAnswer::NoCoordinates(r) => refused_three(r),
+    }
+}
+
+pub fn of_place(a: PlaceAnswer) -> Three
+    ensures { λ t. ⌜ t ≡ place-shown a ⌝ }
+{
+    match a {
+        PlaceAnswer::Place(p) => Three {
+            refusal: 0,
+            figure: 0,
+            first: p.right_ascension,
+            second: p.declination,
+            third: p.distance,
+        },
+        PlaceAnswer::NoPlace(r) => refused_three(r),
+    }
+}
+
+pub fn of_mount(a: Mount) -> Doubles
+    ensures { λ d. ⌜ d ≡ mount-shown a ⌝ }
+{
+    match a {
+        Mount::At(p) => Doubles {
+            refusal: 0,
+            first: p.right_ascension,
+            second: p.declination,
+            third: p.distance,
+        },
+        Mount::Refused(number) => Doubles {
+            refusal: number,
+            first: 0.0,
+            second: 0.0,
+            third: 0.0,
+        },
     }
 }

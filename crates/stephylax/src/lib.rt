@@ -1,15 +1,20 @@
 // The C interface: one function for each public call, with its name and its layout of `include/stephylax.h`, which explains each. A slice
 // crosses as a pointer and a length. An answer is the library's, as numbers: specs/Answers.antt says which.
 ghost use mathlib.Core.Path.{_≡_};
+ghost use lib.ListN.{length};
 ghost use Rattle.calendar.specs.Calendar.{day-of-date, date-of-day, instant-of-date, date-of-instant};
 ghost use Rattle.packed.specs.Series.{parse, checked};
+ghost use Rattle.place.specs.Mount.{mount-answer};
+ghost use Rattle.place.specs.Place.{place-answer};
 ghost use Rattle.printer.specs.Printer.{printed, printed-out};
 ghost use Rattle.series.specs.Sums.{coordinates-answer};
+ghost use Rattle.sunlist.specs.SunList.{sun-list, sun-list-out};
 ghost use Rattle.text.specs.Reader.{begun, run, ended, told, whole};
-ghost use Rattle.stephylax.specs.Answers.{day-shown, date-shown, instant-shown, moment-shown, checked-shown, text-shown, printed-shown, coordinates-shown};
+ghost use Rattle.stephylax.specs.Answers.{day-shown, date-shown, instant-shown, moment-shown, checked-shown, text-shown, printed-shown, list-shown, coordinates-shown, place-shown, mount-shown};
 
 mod answers;
 
+use crate::answers::Doubles;
 use crate::answers::Moment;
 use crate::answers::One;
 use crate::answers::Three;
@@ -18,7 +23,10 @@ use crate::answers::of_coordinates;
 use crate::answers::of_date;
 use crate::answers::of_day;
 use crate::answers::of_instant;
+use crate::answers::of_list;
 use crate::answers::of_moment;
+use crate::answers::of_mount;
+use crate::answers::of_place;
 use crate::answers::of_printed;
 use crate::answers::of_text;
 use text::Reader;
@@ -107,4 +115,32 @@ pub extern "C" fn stephylax_coordinates_at(packed: &[u8], t: i64) -> Three
     ensures { λ r. ⌜ r ≡ coordinates-shown (coordinates-answer (now (packed .entry)) (record { ms = t })) ⌝ }
 {
     of_coordinates(series::coordinates_at(packed, Instant { ms: t }))
+}
+
+#[no_mangle]
+pub extern "C" fn stephylax_apparent_place(planet: &[u8], earth: &[u8], t: i64) -> Three
+    ensures { λ r. ⌜ r ≡ place-shown (place-answer (now (planet .entry)) (now (earth .entry)) (record { ms = t })) ⌝ }
+{
+    of_place(place::apparent_place(planet, earth, Instant { ms: t }))
+}
+
+#[no_mangle]
+pub extern "C" fn stephylax_mount_place(planet: &[u8], earth: &[u8], t: i64) -> Doubles
+    ensures { λ r. ⌜ r ≡ mount-shown (mount-answer (now (planet .entry)) (now (earth .entry)) (record { ms = t })) ⌝ }
+{
+    of_mount(place::mount_place(planet, earth, Instant { ms: t }))
+}
+
+#[no_mangle]
+pub extern "C" fn stephylax_sun_list(
+    planet: &[u8],
+    earth: &[u8],
+    t0: i64,
+    minutes: i64,
+    keep_out: i64,
+    runs: &mut [u64],
+) -> One
+    ensures { λ r. ⌜ (r ≡ list-shown (sun-list (now (planet .entry)) (now (earth .entry)) (record { ms = t0 }) minutes «keep_out» (length (now (runs .entry))))) × (now (runs .exit) ≡ sun-list-out (now (planet .entry)) (now (earth .entry)) (record { ms = t0 }) minutes «keep_out» (now (runs .entry))) ⌝ }
+{
+    of_list(sunlist::sun_list(planet, earth, Instant { ms: t0 }, minutes, keep_out, runs))
 }
