@@ -7,13 +7,12 @@ mod words;
 ghost use Prim.Native.Nat.{_≤_};
 use arith::signed::natural_or;
 use arith::signed::wide;
-
 use calendar::InstantAnswer;
 use sunlist::ListAnswer;
 use units::Instant;
 use words::Figure;
-use words::explain;
 use words::argument;
+use words::explain;
 use words::two_digits;
 
 // How a file was read.
@@ -214,7 +213,10 @@ fn main() {
     match a {
         Asked::For(n) => with_planet(n),
         Asked::Unclear => {
-            io::write_all(1, b"list PLANET EARTH YEAR MONTH DAY HOUR MINUTE MINUTES KEEP-OUT\n");
+            io::write_all(
+                1,
+                b"list PLANET EARTH YEAR MONTH DAY HOUR MINUTE MINUTES KEEP-OUT\n",
+            );
         }
     }
 }
