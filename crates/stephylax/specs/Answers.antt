@@ -43,6 +43,7 @@ unfoldable pub clipZ : ℤ → ℤ
 clipZ (pos n) = clip n
 clipZ (negsuc n) = negsuc n
 
+-- "Refusals and what they leave": the number and the figure.
 unfoldable pub flat : Refusal → Flat
 flat r = record { refusal = number r; figure = clipZ (figure r) }
 
@@ -60,7 +61,7 @@ three-refused r = record { refusal = flat r .refusal; figure = flat r .figure; f
 unfoldable pub one-counted : ℕ → One
 one-counted n = record { refusal = 0; figure = pos 0; value = clip n }
 
--- stephylax_day, stephylax_date, stephylax_instant.
+-- "Calendar": stephylax_day, stephylax_date, stephylax_instant.
 unfoldable pub day-shown : DayAnswer → One
 day-shown (Day n) = record { refusal = 0; figure = pos 0; value = n }
 day-shown (NoDay r) = one-refused r
@@ -77,7 +78,8 @@ unfoldable pub moment-shown : MomentAnswer → Moment
 moment-shown (OnAt d m) = record { refusal = 0; figure = pos 0; year = d .year; month = d .month; day = d .day; ms = m }
 moment-shown (NoMoment r) = moment-refused r
 
--- stephylax_checked: the number of terms. stephylax_written: the length of the packed form, so far or in all; of the text; of the list.
+-- "Series, as text and packed": stephylax_checked, the number of terms; stephylax_written, the length of the packed form, so far or in all,
+-- or of the printed text.
 unfoldable pub checked-shown : Checked → One
 checked-shown (Terms n) = one-counted n
 checked-shown (NoSeries r) = one-refused r
@@ -91,20 +93,22 @@ unfoldable pub printed-shown : Printed → One
 printed-shown (Length n) = one-counted n
 printed-shown (NoText r) = one-refused r
 
+-- "Sun list": stephylax_written, how many numbers.
 unfoldable pub list-shown : ListAnswer → One
 list-shown (Runs n) = one-counted n
 list-shown (NoList r) = one-refused r
 
--- stephylax_coordinates, stephylax_place.
+-- "Working cosine and sums": stephylax_coordinates.
 unfoldable pub coordinates-shown : CoordinatesAnswer → Three
 coordinates-shown (AtCoordinates c) = record { refusal = 0; figure = pos 0; first = c .longitude; second = c .latitude; third = c .radius }
 coordinates-shown (NoCoordinates r) = three-refused r
 
+-- "Places": stephylax_place.
 unfoldable pub place-shown : PlaceAnswer → Three
 place-shown (Place p) = record { refusal = 0; figure = pos 0; first = p .«right_ascension»; second = p .declination; third = p .distance }
 place-shown (NoPlace r) = three-refused r
 
--- stephylax_mount: the three doubles, or the refusal's number.
+-- "Places": stephylax_mount, the three doubles, or the refusal's number.
 abbrev zero-double : Float
 zero-double = ofInt binary64 (pos 0)
 
