@@ -1,4 +1,4 @@
-// From two packed series to the sight that an apparent place is made of.
+// From two packed series to the sight that an apparent place is made of. For this crate and those above.
 ghost use mathlib.Core.Path.{_≡_};
 ghost use Prim.Native.Nat.{_≤_};
 ghost use lib.IntN.{natAbs};
