@@ -32,7 +32,6 @@ fn build_archive(repository: &Path) {
 }
 
 fn main() {
-    println!("cargo::rustc-check-cfg=cfg(stephylax_linked)");
     let manifest = std::env::var("CARGO_MANIFEST_DIR").expect("cargo gives the package's folder");
     let repository = Path::new(&manifest).parent().expect("the package stands in the repository").to_path_buf();
     let crates = repository.join("crates");
@@ -40,9 +39,6 @@ fn main() {
     let archive = folder.join("libstephylax.a");
     println!("cargo::rerun-if-changed={}", crates.display());
     println!("cargo::rerun-if-changed=build.rs");
-    if !crates.join("stephylax").exists() {
-        return;
-    }
     if modified(&archive) < newest_source(&crates) {
         build_archive(&repository);
     }
@@ -52,5 +48,4 @@ fn main() {
     println!("cargo::rerun-if-changed={}", archive.display());
     println!("cargo::rustc-link-search=native={}", folder.display());
     println!("cargo::rustc-link-lib=static=stephylax");
-    println!("cargo::rustc-cfg=stephylax_linked");
 }

@@ -3,27 +3,34 @@
  *
  * Every function takes every input and comes to an end. An answer has `refusal` 0; a refusal has its number there and what
  * comes with it in `figure`. Fields that an answer does not use are 0. A refusal leaves the lent memory as it was, unless
- * said otherwise below; a success leaves untouched what lies past its output. A slice is a pointer and a length: the pointer
- * has to be good for that many elements, and an output must not overlap another slice of the call. Nothing else has to be
- * checked beforehand.
+ * said otherwise below; a success leaves untouched what lies past its output. Nothing has to be checked beforehand but this:
+ *
+ *   Slices    A slice is a pointer and a length. The pointer must not be NULL, is aligned for its elements, and is good for
+ *             that many of them; with length 0 any such pointer does. An output must not overlap another slice of the call.
+ *   Stack     Measured on x86-64, not proved: stephylax_apparent_place, _mount_place and _sun_list take 400 kB (two tables of
+ *             terms of fixed size), _check, _print and _coordinates_at 200 kB, the others less than 5 kB. 512 kB do for all.
+ *   Threads   The functions keep nothing between calls and allocate nothing; any number of them may run at once.
  *
  *   no.  given exactly when                                                   figure
  *    1   year, month, day (the skipped days of 1582 too), ms or a day         first bad field, 1 to 4 in that order;
  *        number does not exist                                                5 for a day number
  *    2   t, or the light-time instant, passes its limit                       that instant
  *    3   a text byte cannot continue a line                                   its offset
- *    4   a number or count passes its limit, or a packed number goes past     offset
+ *    4   a number or count passes its limit, or a packed number goes past     offset *
  *        nine groups
- *    5   the amplitudes of a block total more than their limit                offset
- *    6   the series is too coarse                                             offset
+ *    5   the amplitudes of a block total more than their limit                offset *
+ *    6   the series is too coarse                                             offset *
  *    7   the output does not fit                                              the length it would need; for a text
- *                                                                             the offset
+ *                                                                             the offset *
  *    8   the input ended before block 18 did                                  its length
  *    9   a byte follows block 18                                              its offset
- *   10   a packed number is not in its shortest form                          offset
+ *   10   a packed number is not in its shortest form                          offset *
  *   11   a place is not usable                                                the minute of a list, else 0
  *   12   keep-out outside 60 to 2,700 arcminutes, or minutes outside          0
  *        1 to 1,440
+ *
+ * Offsets count bytes from 0 at the beginning of the whole input. The offset * of a text is that of the line feed which ends
+ * the line; that of a packed series is that of the number's last byte (of the ninth, if the number goes past nine groups).
  *
  * Units: t is in whole milliseconds of TD from 2000-01-01 12h, negative before, and at most 63,115,200,000,000 (two
  * millennia) from 0. Parts are 10^-11 radian or AU. "01" is the paper of rules; its section stands with each function.

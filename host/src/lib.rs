@@ -3,13 +3,8 @@
 //! Nothing here decides anything that the library decides. `plain` and `floating` are for tests and the benchmark alone.
 
 mod answers;
-#[cfg(stephylax_linked)]
 pub mod ffi;
 pub mod floating;
-#[cfg(stephylax_linked)]
-mod library;
-#[cfg(not(stephylax_linked))]
-#[path = "stand_in.rs"]
 mod library;
 pub mod plain;
 mod refusal;

@@ -12,16 +12,9 @@ fn example() {
     let mut compiler = Command::new("gcc");
     compiler.args(["-std=c99", "-Wall", "-Wextra", "-Werror", "-pedantic", "-O2"]);
     compiler.arg("-I").arg(repository("include")).arg(repository("host/tests/c/example.c"));
-    if cfg!(stephylax_linked) {
-        compiler.arg(repository("target/staticlib/libstephylax.a")).arg("-o").arg(&program);
-    } else {
-        compiler.arg("-fsyntax-only");
-    }
+    compiler.arg(repository("target/staticlib/libstephylax.a")).arg("-o").arg(&program);
     let compiled = compiler.output().expect("gcc runs");
     assert!(compiled.status.success(), "{}", String::from_utf8_lossy(&compiled.stderr));
-    if !cfg!(stephylax_linked) {
-        return;
-    }
     let run = Command::new(&program).current_dir(repository("")).output().expect("the program runs");
     assert_eq!(String::from_utf8_lossy(&run.stdout), "shut from minute 296 to 1439\n");
     assert_eq!(run.status.code(), Some(0));

@@ -3,7 +3,7 @@
 mod common;
 
 use common::calls::LIBRARY;
-use common::{published, repository};
+use common::{published, repository, vectors};
 use stephylax::plain::nutation::TABLE;
 
 fn packed(planet: &str) -> Vec<u8> {
@@ -39,20 +39,53 @@ fn mercury_near_the_sun_in_2019() {
     assert_eq!(runs, [296, 1439, 7, 7]);
 }
 
-/// The table of nutation against the figures of the IAU 1980 series, in any order of rows.
+/// A row of nutation in the order of document 000's table: longitude and its rate, obliquity and its rate (rates in tenths of the
+/// figures' unit), then the multipliers of D, M, M', F and the node.
+type Row = [i64; 9];
+
+/// A figure with one decimal at most, in tenths.
+fn tenths(figure: &str) -> i64 {
+    let (whole, tenth) = figure.split_once('.').unwrap_or((figure, "0"));
+    assert_eq!(tenth.len(), 1, "{figure}");
+    format!("{whole}{tenth}").parse().unwrap_or_else(|error| panic!("{figure}: {error}"))
+}
+
+/// vectors/iau1980.txt, whose lines begin with the multipliers of M', M, F, D and the node.
+fn iau_1980() -> Vec<Row> {
+    let row = |(number, line): (usize, String)| {
+        let words: Vec<&str> = line.split_ascii_whitespace().collect();
+        let Ok([m_moon, m_sun, f, d, node, psi, psi_rate, eps, eps_rate]) = <[&str; 9]>::try_from(words) else {
+            panic!("line {number}: {line}");
+        };
+        let whole = |word: &str| word.parse().unwrap_or_else(|error| panic!("line {number}: {line}: {error}"));
+        let [d, m_sun, m_moon, f, node] = [d, m_sun, m_moon, f, node].map(whole);
+        [whole(psi), tenths(psi_rate), whole(eps), tenths(eps_rate), d, m_sun, m_moon, f, node]
+    };
+    vectors("iau1980.txt").into_iter().map(row).collect()
+}
+
+/// The rows that stand in the library's source.
+fn library_rows() -> Vec<Row> {
+    let path = repository("crates/nutation_table/src/lib.rt");
+    let text = std::fs::read_to_string(&path).unwrap_or_else(|error| panic!("{}: {error}", path.display()));
+    let rows = text.lines().filter_map(|line| line.trim().strip_prefix("Row(")?.strip_suffix("),"));
+    let row = |inside: &str| -> Row {
+        let numbers: Vec<i64> = inside.split(", ").map(|word| word.parse().expect(inside)).collect();
+        numbers.try_into().unwrap_or_else(|_| panic!("Row({inside})"))
+    };
+    rows.map(row).collect()
+}
+
+/// The tables of the library and of the independent implementation are the IAU 1980 series, whatever the order of their rows.
 #[test]
 fn nutation_table_is_iau_1980() {
-    let path = repository("vectors/iau1980.txt");
-    let Ok(text) = std::fs::read_to_string(&path) else {
-        println!("{} is not there", path.display());
-        return;
+    let sorted = |mut rows: Vec<Row>| {
+        rows.sort();
+        rows
     };
-    let rows = text.lines().filter(|line| !line.starts_with('#') && !line.trim().is_empty());
-    let mut wanted: Vec<Vec<i64>> =
-        rows.map(|line| line.split_ascii_whitespace().map(|word| word.parse().unwrap()).collect()).collect();
-    wanted.sort();
-    let mut table: Vec<Vec<i64>> = TABLE.iter().map(|row| row.to_vec()).collect();
-    table.sort();
-    assert_eq!(table.len(), 106);
-    assert_eq!(table, wanted);
+    let wanted = sorted(iau_1980());
+    assert_eq!(wanted.len(), 106);
+    assert_eq!(sorted(library_rows()), wanted, "the library");
+    assert_eq!(sorted(TABLE.to_vec()), wanted, "the independent implementation");
+    assert_eq!(library_rows(), TABLE.to_vec(), "document 000's order");
 }

@@ -1,10 +1,12 @@
-//! Random input, long, short, good and damaged: the library and the independent implementation must give the same answers and
-//! leave the same memory. A failure prints the input; the seed of each test is fixed.
+//! Random input, long, short, good and damaged: the library, through the wrapper and through the C interface itself, and the
+//! independent implementation must give the same answers and leave the same memory. A failure prints the input; the seed of each
+//! test is fixed.
 
 mod common;
 
 use common::calls::{Calls, Outcome, LIBRARY, PLAIN};
 use common::generate::{any_number, bodies, date, instant, packed, series, text};
+use common::raw::RAW;
 use common::{cut, hex, published, Random};
 use std::fmt::Debug;
 use stephylax::plain::packed::{pack, Series, Term};
@@ -17,10 +19,16 @@ fn rounds(n: u64) -> u64 {
     n
 }
 
-fn same<A: PartialEq + Debug>(library: A, plain: A, input: impl FnOnce() -> String) {
-    if library != plain {
-        panic!("library {library:?}\nplain   {plain:?}\ninput   {}", input());
+/// Runs a call of all three: the answer that they agree on.
+fn same<A: PartialEq + Debug>(call: impl Fn(&Calls) -> A, input: impl Fn() -> String) -> A {
+    let wanted = call(&PLAIN);
+    for calls in [&LIBRARY, &RAW] {
+        let answer = call(calls);
+        if answer != wanted {
+            panic!("{} {answer:?}\nplain {wanted:?}\ninput {}", calls.name, input());
+        }
     }
+    wanted
 }
 
 /// How often each refusal came, 0 for an answer: a test whose input never meets a case shows nothing of it.
@@ -41,18 +49,17 @@ impl Seen {
     }
 }
 
-/// Runs a call of both on buffers that hold the same before, and compares answer and buffer.
+/// The same for a call with output: all begin with what `before` holds, and must leave the same in it.
 fn same_output<T: Copy + PartialEq + Debug>(
-    before: Vec<T>,
+    before: &[T],
     call: impl Fn(&Calls, &mut [T]) -> Outcome<usize>,
-    input: impl FnOnce() -> String,
-) -> Outcome<usize> {
-    let mut library = before.clone();
-    let mut plain = before;
-    let library_answer = call(&LIBRARY, &mut library);
-    let plain_answer = call(&PLAIN, &mut plain);
-    same((library_answer, library), (plain_answer, plain), input);
-    plain_answer
+    input: impl Fn() -> String,
+) -> (Outcome<usize>, Vec<T>) {
+    let run = |calls: &Calls| {
+        let mut output = before.to_vec();
+        (call(calls, &mut output), output)
+    };
+    same(run, input)
 }
 
 #[test]
@@ -62,21 +69,15 @@ fn dates_and_day_numbers() {
     for _ in 0..rounds(400_000) {
         let [year, month, day, ms] = date(&mut random);
         let input = || format!("{year} {month} {day} {ms}");
-        let answer = (PLAIN.day_of_date)(year, month, day);
-        same((LIBRARY.day_of_date)(year, month, day), answer, input);
-        let all = [year, month, day, ms];
-        let at = (PLAIN.instant_of_date)(all);
-        seen.note(&at);
-        same((LIBRARY.instant_of_date)(all), at, input);
+        let answer = same(|calls| (calls.day_of_date)(year, month, day), input);
+        seen.note(&same(|calls| (calls.instant_of_date)([year, month, day, ms]), input));
         if let Ok(n) = answer {
             assert_eq!((PLAIN.date_of_day)(n), Ok([year, month, day]), "{n}");
         }
         let n = if random.one_in(8) { any_number(&mut random) } else { random.between(-2, 5_373_486) };
-        same((LIBRARY.date_of_day)(n), (PLAIN.date_of_day)(n), || n.to_string());
+        let _ = same(|calls| (calls.date_of_day)(n), || n.to_string());
         let t = instant(&mut random);
-        let answer = (PLAIN.date_of_instant)(t);
-        same((LIBRARY.date_of_instant)(t), answer, || t.to_string());
-        if let Ok(date) = answer {
+        if let Ok(date) = same(|calls| (calls.date_of_instant)(t), || t.to_string()) {
             assert_eq!((PLAIN.instant_of_date)(date), Ok(t), "{t}");
         }
     }
@@ -103,12 +104,12 @@ fn texts() {
         let room = if random.one_in(4) { random.below(needed as u64 + 2) as usize } else { needed + 40 };
         let fill = random.next() as u8;
         let input = || format!("room {room} text {}", hex(&text));
-        let whole = same_output(vec![fill; room], |calls, out| (calls.read_text)(&text, out), input);
+        let whole = same_output(&vec![fill; room], |calls, out| (calls.read_text)(&text, out), input);
         let pieces = cut(&text, &mut random);
         let input = || format!("room {room} pieces {:?}", pieces.iter().map(|piece| hex(piece)).collect::<Vec<_>>());
-        let cut = same_output(vec![fill; room], |calls, out| (calls.read_pieces)(&pieces, out), input);
-        assert_eq!(whole, cut);
-        seen.note(&whole);
+        let cut = same_output(&vec![fill; room], |calls, out| (calls.read_pieces)(&pieces, out), input);
+        assert!(whole == cut, "whole and in {}", input());
+        seen.note(&whole.0);
     }
     seen.all(&[0, 3, 4, 5, 6, 7, 8, 9]);
 }
@@ -119,19 +120,17 @@ fn packed_series_checked_and_printed() {
     let mut seen = Seen([0; 13]);
     for _ in 0..rounds(250_000) {
         let bytes = packed(&mut random);
-        let checked = (PLAIN.check)(&bytes);
-        same((LIBRARY.check)(&bytes), checked, || hex(&bytes));
+        let _ = same(|calls| (calls.check)(&bytes), || hex(&bytes));
         let needed = match (PLAIN.print)(&bytes, &mut []) {
             Err((7, length)) => length as u64,
             _ => 60,
         };
         let room = if random.one_in(3) { random.below(needed + 2) } else { needed + random.below(3) } as usize;
         let input = || format!("room {room} packed {}", hex(&bytes));
-        let mut printed = vec![random.next() as u8; room];
-        let answer = same_output(printed.clone(), |calls, out| (calls.print)(&bytes, out), input);
+        let before = vec![random.next() as u8; room];
+        let (answer, printed) = same_output(&before, |calls, out| (calls.print)(&bytes, out), input);
         seen.note(&answer);
-        if answer.is_ok() {
-            let length = (LIBRARY.print)(&bytes, &mut printed).unwrap();
+        if let Ok(length) = answer {
             let mut again = vec![0; bytes.len()];
             assert_eq!((LIBRARY.read_text)(&printed[..length], &mut again), Ok(bytes.len()), "{}", hex(&bytes));
             assert_eq!(again, bytes, "printed and read again");
@@ -148,9 +147,7 @@ fn coordinates() {
         let bytes = packed(&mut random);
         let t = instant(&mut random);
         let input = || format!("t {t} packed {}", hex(&bytes));
-        let plain = (PLAIN.coordinates_at)(&bytes, t);
-        seen.note(&plain);
-        same((LIBRARY.coordinates_at)(&bytes, t), plain, input);
+        seen.note(&same(|calls| (calls.coordinates_at)(&bytes, t), input));
     }
     seen.all(&[0, 2, 4, 5, 6, 8, 9, 10]);
 }
@@ -163,11 +160,8 @@ fn places() {
         let (planet, earth) = bodies(&mut random);
         let t = instant(&mut random);
         let input = || format!("t {t} planet {} earth {}", hex(&planet), hex(&earth));
-        let plain = (PLAIN.apparent_place)(&planet, &earth, t);
-        same((LIBRARY.apparent_place)(&planet, &earth, t), plain, input);
-        let bits = |calls: &Calls| (calls.mount_place)(&planet, &earth, t).map(|m| m.map(f64::to_bits));
-        same(bits(&LIBRARY), bits(&PLAIN), input);
-        seen.note(&plain);
+        seen.note(&same(|calls| (calls.apparent_place)(&planet, &earth, t), input));
+        let _ = same(|calls| (calls.mount_place)(&planet, &earth, t).map(|m| m.map(f64::to_bits)), input);
     }
     seen.all(&[0, 2, 4, 5, 6, 8, 9, 10, 11]);
 }
@@ -195,7 +189,7 @@ fn sun_lists() {
         let window = [t0, minutes, keep_out];
         let input = || format!("{window:?} room {room} planet {} earth {}", hex(&planet), hex(&earth));
         let before = vec![random.next(); room];
-        let answer = same_output(before, |calls, runs| (calls.sun_list)(&planet, &earth, window, runs), input);
+        let (answer, _) = same_output(&before, |calls, runs| (calls.sun_list)(&planet, &earth, window, runs), input);
         seen.note(&answer);
         listed += matches!(answer, Ok(count) if 0 < count) as u64;
     }
@@ -221,16 +215,13 @@ fn long_series() {
 
 fn long_case(bytes: &[u8], long: &Series, random: &mut Random) {
     let input = || format!("counts {:?}", long.blocks.iter().map(Vec::len).collect::<Vec<_>>());
-    same((LIBRARY.check)(bytes), (PLAIN.check)(bytes), input);
+    let _ = same(|calls| (calls.check)(bytes), input);
     let t = instant(random);
-    same((LIBRARY.coordinates_at)(bytes, t), (PLAIN.coordinates_at)(bytes, t), input);
-    let room = 600_000;
-    let mut text = vec![0x5A; room];
-    let printed = same_output(text.clone(), |calls, out| (calls.print)(bytes, out), input);
+    let _ = same(|calls| (calls.coordinates_at)(bytes, t), input);
+    let (printed, text) = same_output(&vec![0x5A; 600_000], |calls, out| (calls.print)(bytes, out), input);
     if let Ok(length) = printed {
-        (PLAIN.print)(bytes, &mut text).unwrap();
         let pieces = cut(&text[..length], random);
-        same_output(vec![1; 50_000], |calls, out| (calls.read_pieces)(&pieces, out), input).unwrap();
+        same_output(&vec![1; 50_000], |calls, out| (calls.read_pieces)(&pieces, out), input).0.unwrap();
     }
 }
 

@@ -235,5 +235,4 @@ macro_rules! vectors_of {
 
 vectors_of!(plain, super::PLAIN);
 vectors_of!(library, super::LIBRARY);
-#[cfg(stephylax_linked)]
 vectors_of!(raw, super::common::raw::RAW);

@@ -3,7 +3,6 @@
 
 pub mod calls;
 pub mod generate;
-#[cfg(stephylax_linked)]
 pub mod raw;
 
 use std::path::PathBuf;
