@@ -1,5 +1,6 @@
 -- Laws that callers of the functions cite.
 pub mod Signs
+pub mod Cells
 pub mod Long
 pub mod Residues
 pub mod Naturals

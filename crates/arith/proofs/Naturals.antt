@@ -4,7 +4,7 @@ use mathlib.Core.Bool.{true}
 use Prim.Native.Nat.{ℕ}
 use lib.IntN.{ℤ, pos, negsuc}
 use Rattle.integers.specs.Signs.{negative}
-use Rattle.arith.proofs.Signs.{false-true}
+use Rattle.integers.proofs.Tests.{false-true}
 use Rattle.arith.specs.Signed.{naturalOr}
 
 pub natural-of-negative : (x : ℤ) (other : ℕ) → negative x ≡ true → naturalOr x other ≡ other

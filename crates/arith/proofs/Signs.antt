@@ -9,21 +9,9 @@ use lib.Signed.{_≤ℤ_, ltZ, mag, nonNeg}
 use mir.Syntax.{w64}
 use mir.Val.{SFits, toZ, ofZ}
 use mir.ValLaws.{toZ-ofZ}
+use Rattle.integers.proofs.Tests.{false-true, is-false}
 use Rattle.integers.proofs.Pairs.{sub-pos, sub-neg, nonneg}
 use Rattle.integers.specs.Signs.{negative, sgn}
-
-IsFalse : Bool → Type 0
-IsFalse true = ⊥
-IsFalse false = Unit {0}
-
--- the two tests differ
-pub false-true : false ≡ true → ⊥
-unfolding IsFalse
-false-true e = subst IsFalse e tt
-
-is-false : (b : Bool) → (T b → ⊥) → b ≡ false
-is-false true f = absurd (f tt)
-is-false false f = refl
 
 pub lt-zero : (z : ℤ) → ltZ z (pos 0) ≡ negative z
 unfolding negative

@@ -10,7 +10,7 @@ use lib.Dec.{T, lit<, ltb, ltb→lt}
 use lib.IntN.{ℤ, pos, negsuc, natAbs, _+ℤ_, _*ℤ_}
 use Rattle.integers.specs.Root.{root}
 use Rattle.integers.proofs.Root.{root-is}
-use Rattle.arith.proofs.Signs.{false-true}
+use Rattle.integers.proofs.Tests.{false-true}
 use Rattle.arith.proofs.Long.{Divided}
 
 -- x·x from its halves, S the base of a half limb

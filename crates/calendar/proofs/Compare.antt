@@ -8,15 +8,8 @@ use borrow.Author.Tests.{le-leb, lt-leb}
 use lib.Dec.{T, leb}
 use lib.IntN.{ℤ}
 use lib.Signed.{leZ}
+use Rattle.integers.proofs.Tests.{is-true, is-false}
 use Rattle.integers.proofs.Pairs.{Is, less, less⁻¹}
-
-is-true : (b : Bool) → T b → b ≡ true
-is-true true t = refl
-is-true false t = absurd t
-
-is-false : (b : Bool) → (T b → ⊥) → b ≡ false
-is-false true f = absurd (f tt)
-is-false false f = refl
 
 pub leZ-is : {x y : ℤ} {a b c d : ℕ} → Is x a b → Is y c d → leZ x y ≡ leb (a + d) (c + b)
 leZ-is {x} {y} {a} {b} {c} {d} h k = go (decLe (a + d) (c + b))

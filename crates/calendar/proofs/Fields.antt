@@ -15,7 +15,7 @@ use Rattle.integers.proofs.Pairs.{Is, up, dn, same, same⁻¹, sub-cong, nat, i
 use Rattle.arith.specs.Signed.{naturalOr}
 use Rattle.calendar.specs.Calendar.{between, written, skipped, leap, month-length, first-bad}
 use Rattle.calendar.specs.Shifted.{year-index, key, leap-day, month-days, in-gap, bad-field}
-use Rattle.calendar.proofs.Below.{every-below}
+use Rattle.integers.proofs.Tests.{every-below}
 use Rattle.calendar.proofs.Compare.{leZ-is}
 use Rattle.calendar.proofs.Facts.{Leap, not4, old, plain, cent, quad, leap as leaps}
 

@@ -1,4 +1,3 @@
-pub mod Below
 pub mod Compare
 pub mod Fields
 pub mod Literal

@@ -8,7 +8,7 @@ use native.Mathlib.Decide.{decLe, ℕ-discrete}
 use native.Mathlib.Omega.{arith}
 use borrow.Author.Tests.{lt-ltb, le-ltb}
 use lib.Dec.{eqb, eqb→eq}
-use Rattle.calendar.proofs.Below.{every-below}
+use Rattle.integers.proofs.Tests.{every-below}
 use Rattle.calendar.proofs.Bounds.{leap-le, month-le}
 use Rattle.calendar.specs.declared.Shifted.{Shifted}
 use Rattle.calendar.specs.Shifted.{leap-day, month-days, key, Sound, march-year, march-month, julian, with-beta, noon, century, julian-count, year-of, day-of, month-of, from-march, in-year, of-count, date-at}

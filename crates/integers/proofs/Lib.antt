@@ -9,4 +9,5 @@ pub mod Root
 pub mod Bounds
 pub mod Near
 pub mod Fractions
+pub mod Tests
 pub mod Examples

@@ -8,6 +8,7 @@ use native.Mathlib.Omega.{arith}
 use borrow.Author.Tests.{lt-leb, le-leb, leb-true}
 use lib.Dec.{leb, eqb}
 use lib.ListN.{length, drop}
+use Rattle.integers.proofs.Tests.{both}
 use Rattle.units.specs.declared.Refusal.{Refusal}
 use Rattle.units.specs.declared.Refusal.the-variants.{OverLimit}
 use Rattle.packed.specs.declared.Term.{Term}
@@ -136,10 +137,6 @@ block-accepted k s at x ts to rest e =
       fewer = rw l v;
       terms = rw l h;
     }
-  where
-    both : (a b : Bool) → (a && b) ≡ true → (a ≡ true) × (b ≡ true)
-    both true b e = (refl, e)
-    both false b e = let z : _≡_ {A = ℕ} 0 1 = cc in absurd (omega arith)
 
 -- The sums after a block.
 pub record AfterBlock (k : ℕ) (s : Sums) (ts : List Term) : Type 0 where

@@ -19,7 +19,7 @@ unfoldable pub burden : ℕ → List Term → ℕ
 burden f ts = f * (coarse-share * moving-total ts + U * moving-count ts)
 
 -- A term more.
-burden-more : (f : ℕ) (t : Term) (ts : List Term) → burden f (t ∷ ts) ≡ weight f (t .a) (t .b) (t .c) + burden f ts
+pub burden-more : (f : ℕ) (t : Term) (ts : List Term) → burden f (t ∷ ts) ≡ weight f (t .a) (t .b) (t .c) + burden f ts
 unfolding burden weight moving-total moving-count
 burden-more f t ts = go (constant (t .b) (t .c))
   where

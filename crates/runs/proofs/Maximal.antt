@@ -7,6 +7,7 @@ use Prim.Native.Nat.{ℕ, zero, suc, _+_, _*_, _≤_, _<_}
 use native.Mathlib.Omega.{arith, both-ways, by-contra}
 use native.Mathlib.Decide.{decLe}
 use lib.ListN.{length, getD}
+use Rattle.integers.proofs.Tests.{true-false}
 use Rattle.runs.proofs.Runs.{Run-list, no-more, run}
 
 -- the first and the last minute of run i
@@ -56,10 +57,6 @@ record From (listed : ℕ → Bool) (n from r : ℕ) (xs : List ℕ) : Type 0 wh
   only : (i j : ℕ) → i < r → Holds xs i j → listed j ≡ true
   every : (j : ℕ) → from ≤ j → j < n → listed j ≡ true → (i : ℕ) × (i < r) × Holds xs i j
   once : (i k j : ℕ) → i < r → k < r → Holds xs i j → Holds xs k j → i ≡ k
-
-true-false : {A : Type 0} (b : Bool) → b ≡ true → b ≡ false → A
-true-false true p q = let z : _≡_ {A = Bool} true false = q in let w : _≡_ {A = ℕ} 0 1 = cc in absurd (omega arith)
-true-false false p q = let z : _≡_ {A = Bool} false true = p in let w : _≡_ {A = ℕ} 0 1 = cc in absurd (omega arith)
 
 module _ (listed : ℕ → Bool) (n : ℕ) where
   from-none : (from : ℕ) → ((j : ℕ) → from ≤ j → j < n → listed j ≡ false) → From listed n from 0 []

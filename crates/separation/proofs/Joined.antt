@@ -18,7 +18,7 @@ use Rattle.vectors.specs.Vectors.{sun, squared, length, unit, radius-usable, us
 use Rattle.vectors.specs.Rectangular.{rectangular, place, distance, places-usable}
 use Rattle.separation.specs.Exact.{Exact-coordinates, exact-sun, exact-geocentric, cosine-of-arcminutes, Within-arcminutes}
 use Rattle.separation.specs.Listed.{squared-separation, threshold, listed}
-use Rattle.separation.proofs.Tests.{and-left, and-right}
+use Rattle.integers.proofs.Tests.{and-left, and-right}
 use Rattle.separation.proofs.Form.{dot, sub}
 use Rattle.separation.proofs.Row.{Row}
 use Rattle.separation.proofs.Halves.{exact-listed, listed-exact}

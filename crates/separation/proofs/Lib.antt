@@ -10,7 +10,6 @@ pub mod Halves
 pub mod Units
 pub mod Places
 pub mod Closeness
-pub mod Tests
 pub mod Table
 pub mod WholeTest
 pub mod Whole

@@ -19,7 +19,7 @@ use Rattle.cosine.proofs.Nested.{nested, reference-is}
 use Rattle.separation.specs.Exact.{cosine-of-arcminutes}
 use Rattle.separation.specs.Listed.{threshold}
 use Rattle.separation.proofs.Row.{eps, Row}
-use Rattle.separation.proofs.Tests.{and-left, and-right, all, all-at}
+use Rattle.integers.proofs.Tests.{and-left, and-right, all, all-at}
 
 -- U times the sine of k arcminutes, and a 500th more: a witness, of which only the row's bound is used.
 unfoldable pub witness : ℕ → ℤ

@@ -1,11 +1,11 @@
 -- P2's ladder: a term, a block and the running sum against the exact ones. Assumes nothing.
 use mathlib.Core.Path.{_≡_, refl, sym, ap, ap₂, _∙_, subst, subst₂}
-use mathlib.Core.Bool.{Bool, true, false, cond, _&&_}
+use mathlib.Core.Bool.{Bool, true, false, cond}
 use mathlib.Core.List.{List, [], _∷_}
 use Prim.Native.Nat.{ℕ, zero, suc, _+_, _*_, _^_, _≤_, _<_}
 use native.Mathlib.Omega.{arith}
 use borrow.Author.Tests.{eqb-true}
-use lib.Dec.{T, eqb}
+use lib.Dec.{eqb}
 use lib.IntN.{ℤ, pos, negsuc, natAbs, _+ℤ_, _-ℤ_, _*ℤ_, zero-*ℤ}
 use Rattle.integers.specs.Order.{_≼_, _≺_}
 use Rattle.integers.specs.Division.{floor, rounded, modulo}
@@ -14,6 +14,7 @@ use Rattle.integers.proofs.Auto.{polys, ring!, cert!, gap, gap≡, _⊞_, _⊛_
 use Rattle.integers.proofs.Pairs.{nonneg}
 use Rattle.integers.proofs.Order.{natAbs-low, natAbs-high, ≼-antisym, cancel}
 use Rattle.integers.proofs.Division.{rounded-add}
+use Rattle.integers.proofs.Tests.{both}
 use Rattle.integers.proofs.Bounds.{Bd, bd-rounded, bd-neg, bd-as}
 use Rattle.units.specs.Units.{U, millennium, t-limit, tau-limit}
 use Rattle.cosine.specs.Cosine.{cosine}
@@ -23,11 +24,12 @@ use Rattle.cosine.proofs.Promise.{P1, P1-constant}
 use Rattle.cosine.proofs.Figures.{figures}
 use Rattle.packed.specs.declared.Term.{Term}
 use Rattle.packed.specs.Limits.{constant, weight, coarse-share}
+use Rattle.packed.specs.Allowed.{TermFits, AllFit, none, more, coarseness, moving-total, moving-count}
+use Rattle.packed.proofs.Limits.{burden, burden-more}
 use Rattle.series.specs.Sums.{block-sum, running-sum}
 use Rattle.series.specs.Exact.{tau, exact-term, exact-block, exact-sum}
 use Rattle.series.proofs.Close.{Close, close-zero, close-+, close-term, close-constant, close-step, power-lower, power-bound}
-use Rattle.series.specs.Tables.{In-limits, All-in, Blocks-in}
-use Rattle.series.proofs.Weights.{block-weight, coarseness, roundings}
+use Rattle.series.proofs.Accepted.{Blocks-in, in-head, in-tail}
 
 abbrev u : ℤ
 u = pos U
@@ -37,11 +39,6 @@ pub bd-natAbs : (z : ℤ) (n : ℕ) → natAbs z ≤ n → Bd (pos n) z
 bd-natAbs z n h = record { low = natAbs-low z n h; high = natAbs-high z n h }
 
 -- ---- a term
-
-both : (x y : Bool) → (x && y) ≡ true → (x ≡ true) × (y ≡ true)
-both true true e = (refl, refl)
-both true false e = (refl, e)
-both false y e = (e, absurd (let z : T false = subst T (sym e) tt in z))
 
 zero-size : (c : ℤ) → natAbs c ≡ 0 → c ≡ pos 0
 zero-size (pos n) e = ap pos e
@@ -77,6 +74,9 @@ constant-reference t =
     (cert! (z .upper ∷ z .lower ∷ []) 999999999 (gap (h .least)) (search polys depth 60 fits 100000) (search polys depth 60 fits 100000) (search polys depth 60 fits 100000) tt)
     (cert! (z .upper ∷ z .lower ∷ []) 999999999 (gap (h .most)) (search polys depth 60 fits 100000) (search polys depth 60 fits 100000) (search polys depth 60 fits 100000) tt)
 
+no-burden : (f : ℕ) → 0 ≡ f * (coarse-share * 0 + U * 0)
+no-burden f = omega arith
+
 module _ (t : ℤ) (ht : natAbs t ≤ t-limit) (i : ℕ) where
   abbrev p : ℤ
   p = powerᶠ (tau t) i .upper
@@ -97,16 +97,16 @@ module _ (t : ℤ) (ht : natAbs t ≤ t-limit) (i : ℕ) where
       (sym (ap (λ c. rounded (a *ℤ c) U) (constant-cosine t) ∙ whole-rounded a))
       (close-constant u p q a (term-reference 0 (pos 0) t) q-positive (P1-constant t .positive) (constant-reference t))
 
-  other-close : (x : Term) → In-limits x → Close u (pos (tau-limit ^ i * (coarse-share * natAbs (x .a) + U))) p q (term-value (x .a) (x .b) (x .c) t) (exact-term t i x)
+  other-close : (x : Term) → TermFits x → Close u (pos (tau-limit ^ i * (coarse-share * natAbs (x .a) + U))) p q (term-value (x .a) (x .b) (x .c) t) (exact-term t i x)
   unfolding term-value exact-term
   other-close x h =
       let c = term-cosine (x .b) (x .c) t in
       let z = term-reference (x .b) (x .c) t in
-      let w = P1 (x .b) (x .c) t (record { b-in = h .b-in; c-in = h .c-in; t-in = ht }) in
+      let w = P1 (x .b) (x .c) t (record { b-in = h .b-below; c-in = h .c-below; t-in = ht }) in
       close-term u (pos 7) (pos (natAbs (x .a))) (pos (tau-limit ^ i)) p q (x .a) c (rounded (x .a *ℤ c) U) z q-positive (w .positive) (nonneg 7) p-bound (bd-natAbs (x .a) (natAbs (x .a)) (omega arith))
       (bd-rounded (x .a *ℤ c) U (omega arith)) (record { low = w .least; high = w .most })
 
-  term-close : (x : Term) → In-limits x → Close u (pos (weight (tau-limit ^ i) (x .a) (x .b) (x .c))) p q (term-value (x .a) (x .b) (x .c) t) (exact-term t i x)
+  term-close : (x : Term) → TermFits x → Close u (pos (weight (tau-limit ^ i) (x .a) (x .b) (x .c))) p q (term-value (x .a) (x .b) (x .c) t) (exact-term t i x)
   unfolding weight exact-term
   term-close x h = go (constant (x .b) (x .c)) refl
     where
@@ -115,14 +115,21 @@ module _ (t : ℤ) (ht : natAbs t ≤ t-limit) (i : ℕ) where
       go false e = other-close x h
 
   -- ---- a block
-  block-close : (xs : List Term) → All-in xs → Close u (pos (block-weight (tau-limit ^ i) xs)) p q (block-sum t xs) (exact-block t i xs)
-  unfolding block-weight block-sum exact-block All-in
-  block-close [] h = close-zero u p q
-  block-close (x ∷ xs) h =
-      close-+ u (pos (weight (tau-limit ^ i) (x .a) (x .b) (x .c))) (pos (block-weight (tau-limit ^ i) xs)) p q
-      (term-value (x .a) (x .b) (x .c) t) (block-sum t xs) (exact-term t i x) (exact-block t i xs) (term-close x (h .0)) (block-close xs (h .1))
+  block-close : (xs : List Term) → AllFit xs → Close u (pos (burden (tau-limit ^ i) xs)) p q (block-sum t xs) (exact-block t i xs)
+  unfolding block-sum exact-block
+  block-close [] none = unfold burden moving-total moving-count in subst (λ (m : ℕ). Close u (pos m) p q (pos 0) (wholeᶠ (pos 0))) (no-burden (tau-limit ^ i)) (close-zero u p q)
+  block-close (x ∷ xs) (more h k) =
+      rw (burden-more (tau-limit ^ i) x xs)
+      (close-+ u (pos (weight (tau-limit ^ i) (x .a) (x .b) (x .c))) (pos (burden (tau-limit ^ i) xs)) p q
+      (term-value (x .a) (x .b) (x .c) t) (block-sum t xs) (exact-term t i x) (exact-block t i xs) (term-close x h) (block-close xs k))
 
 -- ---- the running sum
+
+-- twice what the roundings of V*t/T add, from power i on
+unfoldable pub roundings : ℕ → List (List Term) → ℕ
+roundings i [] = 0
+roundings i (b ∷ []) = 0
+roundings i (b ∷ c ∷ bs) = tau-limit ^ i + roundings (suc i) (c ∷ bs)
 
 pub running-step : (t : ℤ) (b c : List Term) (bs : List (List Term)) → running-sum t (b ∷ c ∷ bs) ≡ block-sum t b +ℤ rounded (running-sum t (c ∷ bs) *ℤ t) millennium
 unfolding running-sum
@@ -133,33 +140,25 @@ unfolding running-sum
 running-one t b = refl
 
 errors-step : (i : ℕ) (b c : List Term) (bs : List (List Term))
-    → pos (block-weight (tau-limit ^ i) b) +ℤ pos (tau-limit ^ i) *ℤ u +ℤ pos (coarseness (suc i) (c ∷ bs) + U * roundings (suc i) (c ∷ bs)) ≡ pos (coarseness i (b ∷ c ∷ bs) + U * roundings i (b ∷ c ∷ bs))
-errors-step i b c bs = ap pos (add (block-weight (tau-limit ^ i) b) (tau-limit ^ i) (coarseness (suc i) (c ∷ bs)) (roundings (suc i) (c ∷ bs)) _ _ (coarse-is i b (c ∷ bs)) (roundings-is i b c bs))
+    → pos (burden (tau-limit ^ i) b) +ℤ pos (tau-limit ^ i) *ℤ u +ℤ pos (coarseness (suc i) (c ∷ bs) + U * roundings (suc i) (c ∷ bs)) ≡ pos (coarseness i (b ∷ c ∷ bs) + U * roundings i (b ∷ c ∷ bs))
+errors-step i b c bs = ap pos (add (burden (tau-limit ^ i) b) (tau-limit ^ i) (coarseness (suc i) (c ∷ bs)) (roundings (suc i) (c ∷ bs)) _ _ (coarse-is i b (c ∷ bs)) (roundings-is i b c bs))
   where
     add : (m w k r k′ r′ : ℕ) → k′ ≡ m + k → r′ ≡ w + r → m + w * U + (k + U * r) ≡ k′ + U * r′
     add m w k r k′ r′ e f = omega arith
 
-    coarse-is : (i : ℕ) (b : List Term) (bs : List (List Term)) → coarseness i (b ∷ bs) ≡ block-weight (tau-limit ^ i) b + coarseness (suc i) bs
-    coarse-is i b bs = unfold coarseness in refl
+    coarse-is : (i : ℕ) (b : List Term) (bs : List (List Term)) → coarseness i (b ∷ bs) ≡ burden (tau-limit ^ i) b + coarseness (suc i) bs
+    coarse-is i b bs = unfold coarseness burden in refl
 
     roundings-is : (i : ℕ) (b c : List Term) (bs : List (List Term)) → roundings i (b ∷ c ∷ bs) ≡ tau-limit ^ i + roundings (suc i) (c ∷ bs)
     roundings-is i b c bs = unfold roundings in refl
 
-errors-one : (i : ℕ) (b : List Term) → pos (block-weight (tau-limit ^ i) b) +ℤ pos 0 ≡ pos (coarseness i (b ∷ []) + U * roundings i (b ∷ []))
-unfolding coarseness roundings
+errors-one : (i : ℕ) (b : List Term) → pos (burden (tau-limit ^ i) b) +ℤ pos 0 ≡ pos (coarseness i (b ∷ []) + U * roundings i (b ∷ []))
+unfolding coarseness roundings burden
 errors-one i b = ap pos (omega arith)
 
 exact-step : (t : ℤ) (i : ℕ) (b : List Term) (bs : List (List Term)) → exact-sum t i (b ∷ bs) ≡ exact-block t i b +ᶠ exact-sum t (suc i) bs
 unfolding exact-sum
 exact-step t i b bs = refl
-
-in-head : (b : List Term) (bs : List (List Term)) → Blocks-in (b ∷ bs) → All-in b
-unfolding Blocks-in
-in-head b bs h = h .0 .limits
-
-in-tail : (b : List Term) (bs : List (List Term)) → Blocks-in (b ∷ bs) → Blocks-in bs
-unfolding Blocks-in
-in-tail b bs h = h .1
 
 -- the value and the exact sum of blocks from power i on, with their error
 abbrev Sum-close : ℤ → ℕ → List (List Term) → Type 0
@@ -172,16 +171,16 @@ exact-none t i = refl
 plus-zero : (x : ℤ) → x ≡ x +ℤ pos 0
 plus-zero x = ring! (x ∷ []) (search polys depth 60 fits 100000) (search polys depth 60 fits 100000) tt
 
-one-close : (t : ℤ) → natAbs t ≤ t-limit → (i : ℕ) (b : List Term) → All-in b → Sum-close t i (b ∷ [])
+one-close : (t : ℤ) → natAbs t ≤ t-limit → (i : ℕ) (b : List Term) → AllFit b → Sum-close t i (b ∷ [])
 one-close t ht i b h =
     rw (running-one t b ∙ plus-zero (block-sum t b), exact-step t i b [] ∙ ap (λ f. exact-block t i b +ᶠ f) (exact-none t (suc i)), ← errors-one i b)
-    (close-+ u (pos (block-weight (tau-limit ^ i) b)) (pos 0) (powerᶠ (tau t) i .upper) (powerᶠ (tau t) i .lower) (block-sum t b) (pos 0) (exact-block t i b) (wholeᶠ (pos 0)) (block-close t ht i b h) (close-zero u (powerᶠ (tau t) i .upper) (powerᶠ (tau t) i .lower)))
+    (close-+ u (pos (burden (tau-limit ^ i) b)) (pos 0) (powerᶠ (tau t) i .upper) (powerᶠ (tau t) i .lower) (block-sum t b) (pos 0) (exact-block t i b) (wholeᶠ (pos 0)) (block-close t ht i b h) (close-zero u (powerᶠ (tau t) i .upper) (powerᶠ (tau t) i .lower)))
 
-more-close : (t : ℤ) → natAbs t ≤ t-limit → (i : ℕ) (b c : List Term) (bs : List (List Term)) → All-in b → Sum-close t (suc i) (c ∷ bs) → Sum-close t i (b ∷ c ∷ bs)
+more-close : (t : ℤ) → natAbs t ≤ t-limit → (i : ℕ) (b c : List Term) (bs : List (List Term)) → AllFit b → Sum-close t (suc i) (c ∷ bs) → Sum-close t i (b ∷ c ∷ bs)
 more-close t ht i b c bs h k =
     let v = running-sum t (c ∷ bs) in
     rw (running-step t b c bs, exact-step t i b (c ∷ bs), ← errors-step i b c bs)
-    (close-step u (pos (block-weight (tau-limit ^ i) b)) (pos (coarseness (suc i) (c ∷ bs) + U * roundings (suc i) (c ∷ bs))) (pos (tau-limit ^ i)) (powerᶠ (tau t) i .upper) (powerᶠ (tau t) i .lower) t (pos millennium)
+    (close-step u (pos (burden (tau-limit ^ i) b)) (pos (coarseness (suc i) (c ∷ bs) + U * roundings (suc i) (c ∷ bs))) (pos (tau-limit ^ i)) (powerᶠ (tau t) i .upper) (powerᶠ (tau t) i .lower) t (pos millennium)
     (block-sum t b) v (rounded (v *ℤ t) millennium) (exact-block t i b) (exact-sum t (suc i) (c ∷ bs)) (nonneg U) (q-positive t ht i) (record { lt = tt }) (p-bound t ht i) (bd-rounded (v *ℤ t) millennium (omega arith))
     (block-close t ht i b h) (power-next t i k))
   where
@@ -191,5 +190,5 @@ more-close t ht i b c bs h k =
 
 pub sum-close : (t : ℤ) → natAbs t ≤ t-limit → (i : ℕ) (bs : List (List Term)) → Blocks-in bs → Sum-close t i bs
 sum-close t ht i [] h = unfold coarseness roundings running-sum exact-sum in close-zero u (powerᶠ (tau t) i .upper) (powerᶠ (tau t) i .lower)
-sum-close t ht i (b ∷ []) h = one-close t ht i b (in-head b [] h)
-sum-close t ht i (b ∷ c ∷ bs) h = more-close t ht i b c bs (in-head b (c ∷ bs) h) (sum-close t ht (suc i) (c ∷ bs) (in-tail b (c ∷ bs) h))
+sum-close t ht i (b ∷ []) h = one-close t ht i b (in-head b [] h .terms)
+sum-close t ht i (b ∷ c ∷ bs) h = more-close t ht i b c bs (in-head b (c ∷ bs) h .terms) (sum-close t ht (suc i) (c ∷ bs) (in-tail b (c ∷ bs) h))

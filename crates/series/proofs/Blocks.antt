@@ -1,4 +1,4 @@
--- The blocks of a term table one by one, and the running sum over the six of a coordinate. Assumes nothing.
+-- Where a block of a term table starts, and the running sum over the six blocks of a coordinate. Assumes nothing.
 use mathlib.Core.Path.{_≡_, refl, sym, ap, ap₂, _∙_, subst}
 use mathlib.Core.List.{List, [], _∷_}
 use Prim.Native.Nat.{ℕ, zero, suc, _+_, _-_, _*_, _^_, _≤_, _<_}
@@ -10,60 +10,20 @@ use lib.Seq.{drop-cons, getD-take, getD-drop}
 use Rattle.integers.specs.Division.{floor, rounded}
 use Rattle.units.specs.Units.{millennium, t-limit}
 use Rattle.packed.specs.declared.Term.{Term}
-use Rattle.packed.specs.Limits.{total-limit, series-limit, powers, block-count}
-use Rattle.packed.specs.Tables.{terms-at, blocks-at, table-blocks}
+use Rattle.packed.specs.Limits.{total-limit}
+use Rattle.packed.proofs.Tabled.{block-start}
 use Rattle.series.specs.Sums.{block-sum, running-sum}
-use Rattle.series.specs.Tables.{block-total, Block-in, Blocks-in, start-of, Table}
 use Rattle.series.proofs.Accuracy.{running-step, running-one}
-use Rattle.series.proofs.Distance.{in-take, in-drop}
-use Rattle.series.proofs.Sizes.{block-size, carried-size, running-size}
+use Rattle.series.proofs.Accepted.{Blocks-in, in-take, in-drop}
+use Rattle.series.proofs.Sizes.{running-size}
 
--- where block j starts, when the first starts at place k
-unfoldable pub start-from : ℕ → List ℕ → ℕ → ℕ
-start-from k ends zero = k
-start-from k ends (suc j) = getD ends j 0
-
-pub start-is : (ends : List ℕ) (j : ℕ) → start-from 0 ends j ≡ start-of ends j
-unfolding start-of start-from
-start-is ends zero = refl
-start-is ends (suc j) = refl
-
--- past block 0: where the block before ends
-pub start-later : (ends : List ℕ) (j : ℕ) → (j ≡ 0 → ⊥) → getD ends (j - 1) 0 ≡ start-of ends j
-unfolding start-of
+-- past block 0, a block starts where the one before ends
+pub start-later : (ends : List ℕ) (j : ℕ) → (j ≡ 0 → ⊥) → getD ends (j - 1) 0 ≡ block-start ends j
 start-later ends zero h = absurd (h refl)
 start-later ends (suc j) h = ap (λ (k : ℕ). getD ends k 0) (before j)
   where
     before : (j : ℕ) → suc j - 1 ≡ j
     before j = omega arith
-
-module _ (la : List ℤ) (lb : List ℕ) (lc : List ℤ) where
-  block-at : (k : ℕ) (ends : List ℕ) (j : ℕ) → j < length ends → getD (blocks-at la lb lc k ends) j [] ≡ terms-at la lb lc (start-from k ends j) (getD ends j 0 - start-from k ends j)
-  unfolding blocks-at start-from
-  block-at k [] j h = absurd (omega arith)
-  block-at k (e ∷ ends) zero h = refl
-  block-at k (e ∷ ends) (suc zero) h = block-at e ends 0 (omega arith)
-  block-at k (e ∷ ends) (suc (suc j)) h = block-at e ends (suc j) (omega arith)
-
-  many-blocks : (k : ℕ) (ends : List ℕ) → length (blocks-at la lb lc k ends) ≡ length ends
-  unfolding blocks-at
-  many-blocks k [] = refl
-  many-blocks k (e ∷ ends) = ap suc (many-blocks e ends)
-
-  -- block j of the table is its terms from where it starts to where it ends
-  pub table-block : (ends : List ℕ) (j : ℕ) → j < length ends → terms-at la lb lc (start-of ends j) (getD ends j 0 - start-of ends j) ≡ getD (table-blocks la lb lc ends) j []
-  unfolding table-blocks
-  table-block ends j h = sym (block-at 0 ends j h ∙ ap (λ (s : ℕ). terms-at la lb lc s (getD ends j 0 - s)) (start-is ends j))
-
-  pub table-length : (ends : List ℕ) → length (table-blocks la lb lc ends) ≡ length ends
-  unfolding table-blocks
-  table-length ends = many-blocks 0 ends
-
-pub block-in : (bs : List (List Term)) (j : ℕ) → j < length bs → Blocks-in bs → Block-in (getD bs j [])
-unfolding Blocks-in
-block-in [] j h b = absurd (omega arith)
-block-in (x ∷ bs) zero h b = b .0
-block-in (x ∷ bs) (suc j) h b = block-in bs j (omega arith) (b .1)
 
 -- ---- the running sum
 

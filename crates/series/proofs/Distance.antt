@@ -5,7 +5,7 @@ use Prim.Native.Nat.{ℕ, zero, suc, _+_, _*_, _^_, _≤_}
 use native.Mathlib.Omega.{arith}
 use lib.Dec.{le→leb}
 use lib.IntN.{ℤ, pos, natAbs, negℤ, _+ℤ_, _-ℤ_, _*ℤ_}
-use lib.ListN.{take, drop}
+use lib.ListN.{take}
 use Rattle.integers.specs.Order.{_≼_, _≺_}
 use Rattle.integers.specs.Fractions.{Fraction, _*ᶠ_, _+ᶠ_, negᶠ, wholeᶠ, overᶠ, powerᶠ, Apart}
 use Rattle.integers.proofs.Auto.{polys, cert!, gap, _⊞_, _⊛_, _·_}
@@ -13,24 +13,12 @@ use Rattle.integers.proofs.Order.{≺-≼}
 use Rattle.units.specs.Units.{U, t-limit, tau-limit}
 use Rattle.packed.specs.declared.Term.{Term}
 use Rattle.packed.specs.Limits.{coarse-base, coarse-limit}
+use Rattle.packed.specs.Allowed.{coarseness}
 use Rattle.series.specs.Sums.{running-sum}
 use Rattle.series.specs.Exact.{tau, exact-sum}
 use Rattle.series.proofs.Close.{Close}
-use Rattle.series.specs.Tables.{Blocks-in}
-use Rattle.series.proofs.Weights.{coarseness, roundings}
-use Rattle.series.proofs.Accuracy.{sum-close}
-
-pub in-take : (n : ℕ) (bs : List (List Term)) → Blocks-in bs → Blocks-in (take n bs)
-unfolding Blocks-in
-in-take zero bs h = tt
-in-take (suc n) [] h = tt
-in-take (suc n) (b ∷ bs) h = (h .0, in-take n bs (h .1))
-
-pub in-drop : (n : ℕ) (bs : List (List Term)) → Blocks-in bs → Blocks-in (drop n bs)
-unfolding Blocks-in
-in-drop zero bs h = h
-in-drop (suc n) [] h = tt
-in-drop (suc n) (b ∷ bs) h = in-drop n bs (h .1)
+use Rattle.series.proofs.Accepted.{Blocks-in, in-take}
+use Rattle.series.proofs.Accuracy.{roundings, sum-close}
 
 -- 1 + 2 + 4 + 8 + 16
 five-roundings : (bs : List (List Term)) → roundings 0 (take 6 bs) ≤ 31
@@ -56,12 +44,12 @@ within m x f h c =
       least = cert! (pos m ∷ x ∷ f .upper ∷ f .lower ∷ []) 1999999999 (gap (c .bound .low) ⊞ gap l ⊛ ≺-≼ (c .lower)) (search polys depth 60 fits 100000) (search polys depth 60 fits 100000) (search polys depth 60 fits 100000) tt;
     }
 
-pub distance : (t : ℤ) → natAbs t ≤ t-limit → (bs : List (List Term)) → Blocks-in bs → coarse-base + coarseness 0 (take 6 bs) ≤ coarse-limit
+pub distance : (t : ℤ) → natAbs t ≤ t-limit → (bs : List (List Term)) → Blocks-in bs → coarseness 0 (take 6 bs) + coarse-base ≤ coarse-limit
     → Apart (wholeᶠ (pos 100000)) (wholeᶠ (running-sum t (take 6 bs))) (exact-sum t 0 (take 6 bs))
 distance t ht bs h l =
     let r = five-roundings bs in
     within (coarseness 0 (take 6 bs) + U * roundings 0 (take 6 bs)) (running-sum t (take 6 bs)) (exact-sum t 0 (take 6 bs)) (small (coarseness 0 (take 6 bs)) (roundings 0 (take 6 bs)) l r)
     (unfold powerᶠ in sum-close t ht 0 (take 6 bs) (in-take 6 bs h))
   where
-    small : (c r : ℕ) → coarse-base + c ≤ coarse-limit → r ≤ 31 → c + U * r ≤ coarse-limit
+    small : (c r : ℕ) → c + coarse-base ≤ coarse-limit → r ≤ 31 → c + U * r ≤ coarse-limit
     small c r h k = omega arith

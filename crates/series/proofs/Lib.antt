@@ -1,10 +1,9 @@
--- P2 from its ladder: `Promise` states it. `Close`, `Weights`, `Accuracy`: the error of a term, a block and the running sum; `Accepted`: what an accepted series keeps; `Distance`: the error in parts; `Answered`: what an answer says.
+-- P2 from its ladder: `Promise` states it. `Close`, `Accuracy`: the error of a term, a block and the running sum; `Accepted`: what an accepted series keeps; `Distance`: the error in parts; `Answered`: what an answer says.
+pub mod Accepted
 pub mod Close
 pub mod Positive
-pub mod Weights
 pub mod Accuracy
 pub mod Sizes
-pub mod Accepted
 pub mod Distance
 pub mod Answered
 pub mod Promise

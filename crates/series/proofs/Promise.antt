@@ -2,6 +2,7 @@
 use mathlib.Core.Path.{_≡_, subst}
 use mathlib.Core.List.{List}
 use Prim.Native.Nat.{ℕ, _≤_}
+use native.Mathlib.Omega.{arith}
 use lib.IntN.{ℤ, pos, natAbs}
 use lib.ListN.{drop}
 use Rattle.integers.specs.Fractions.{Fraction, Apart, wholeᶠ}
@@ -13,9 +14,9 @@ use Rattle.packed.specs.Series.{parse, accepted}
 use Rattle.series.specs.declared.CoordinatesAnswer.the-variants.{At}
 use Rattle.series.specs.Sums.{coordinates-answer, coordinates, longitude-blocks, latitude-blocks, radius-blocks}
 use Rattle.series.specs.Exact.{exact-longitude, exact-latitude, exact-radius}
-use Rattle.series.proofs.Accepted.{Accepted, accepted-is}
+use Rattle.series.proofs.Accepted.{Accepted, accepted-is, in-drop}
 use Rattle.series.proofs.Answered.{answered}
-use Rattle.series.proofs.Distance.{distance, in-drop}
+use Rattle.series.proofs.Distance.{distance}
 
 -- 10^-6 radian or AU, in parts.
 abbrev pub millionth : Fraction
@@ -35,7 +36,7 @@ P2 bytes t c e =
   where
     near : (t : ℤ) → natAbs t ≤ t-limit → (bs : List (List Term)) → Accepted bs → Near-exact (coordinates t bs) t bs
     near t ht bs h = unfold coordinates exact-longitude exact-latitude exact-radius longitude-blocks latitude-blocks radius-blocks in record {
-      longitude = distance t ht bs (h .inside) (unfold longitude-blocks in h .longitude);
-      latitude = distance t ht (drop 6 bs) (in-drop 6 bs (h .inside)) (unfold latitude-blocks in h .latitude);
-      radius = distance t ht (drop 12 bs) (in-drop 12 bs (h .inside)) (unfold radius-blocks in h .radius);
+      longitude = distance t ht bs (h .inside) (h .allowed .coarse 0 (omega arith));
+      latitude = distance t ht (drop 6 bs) (in-drop 6 bs (h .inside)) (h .allowed .coarse 1 (omega arith));
+      radius = distance t ht (drop 12 bs) (in-drop 12 bs (h .inside)) (h .allowed .coarse 2 (omega arith));
     }

@@ -15,9 +15,10 @@ use Rattle.cosine.specs.Terms.{term-angle, term-cosine, term-value}
 use Rattle.cosine.proofs.Ranges.{cosine-range}
 use Rattle.packed.specs.declared.Term.{Term}
 use Rattle.packed.specs.Limits.{total-limit}
+use Rattle.packed.specs.Allowed.{total-of}
 use Rattle.series.specs.Sums.{block-sum, running-sum}
 use Rattle.series.proofs.Accuracy.{running-step, running-one}
-use Rattle.series.specs.Tables.{block-total, Block-in, Blocks-in}
+use Rattle.series.proofs.Accepted.{Blocks-in, in-head, in-tail}
 
 pub value-size : (a : ℤ) (b : ℕ) (c t : ℤ) → natAbs (term-value a b c t) ≤ natAbs a
 unfolding term-value term-cosine
@@ -25,8 +26,8 @@ value-size a b c t =
     let r = cosine-range (pos (term-angle b c t)) in
     scaled-within a (cosine (pos (term-angle b c t))) U (natAbs a) (omega arith) (omega arith) (natAbs-le (cosine (pos (term-angle b c t))) U (r .least) (r .most))
 
-pub block-size : (t : ℤ) (xs : List Term) → natAbs (block-sum t xs) ≤ block-total xs
-unfolding block-sum block-total
+pub block-size : (t : ℤ) (xs : List Term) → natAbs (block-sum t xs) ≤ total-of xs
+unfolding block-sum total-of
 block-size t [] = omega arith
 block-size t (x ∷ xs) =
     let v = value-size (x .a) (x .b) (x .c) t in
@@ -39,25 +40,17 @@ carried-size v t h =
     rounded-within (v *ℤ t) millennium (tau-limit * natAbs v) (omega arith)
     (let e = natAbs-* v t in let m : natAbs v * natAbs t ≤ natAbs v * t-limit = mul-le-mul-left (natAbs v) h in omega arith)
 
-in-block : (b : List Term) (bs : List (List Term)) → Blocks-in (b ∷ bs) → block-total b ≤ total-limit
-unfolding Blocks-in
-in-block b bs h = h .0 .total-in
-
-in-blocks : (b : List Term) (bs : List (List Term)) → Blocks-in (b ∷ bs) → Blocks-in bs
-unfolding Blocks-in
-in-blocks b bs h = h .1
-
 -- |V| is at most total-limit·(2^n − 1) after n blocks
 pub running-size : (t : ℤ) → natAbs t ≤ t-limit → (bs : List (List Term)) → Blocks-in bs → natAbs (running-sum t bs) + total-limit ≤ total-limit * tau-limit ^ length bs
 running-size t ht [] h = unfold running-sum in omega arith
-running-size t ht (b ∷ []) h = one b (in-block b [] h)
+running-size t ht (b ∷ []) h = one b (in-head b [] h .total)
   where
-    one : (b : List Term) → block-total b ≤ total-limit → natAbs (running-sum t (b ∷ [])) + total-limit ≤ total-limit * tau-limit ^ 1
+    one : (b : List Term) → total-of b ≤ total-limit → natAbs (running-sum t (b ∷ [])) + total-limit ≤ total-limit * tau-limit ^ 1
     one b l = rw (running-one t b) (let s = block-size t b in omega arith)
 running-size t ht (b ∷ c ∷ bs) h =
-    more (in-block b (c ∷ bs) h) (running-size t ht (c ∷ bs) (in-blocks b (c ∷ bs) h))
+    more (in-head b (c ∷ bs) h .total) (running-size t ht (c ∷ bs) (in-tail b (c ∷ bs) h))
   where
-    more : block-total b ≤ total-limit → natAbs (running-sum t (c ∷ bs)) + total-limit ≤ total-limit * tau-limit ^ length (c ∷ bs)
+    more : total-of b ≤ total-limit → natAbs (running-sum t (c ∷ bs)) + total-limit ≤ total-limit * tau-limit ^ length (c ∷ bs)
         → natAbs (running-sum t (b ∷ c ∷ bs)) + total-limit ≤ total-limit * tau-limit ^ suc (length (c ∷ bs))
     more l m =
         rw (running-step t b c bs, pow-step tau-limit (length (c ∷ bs)))

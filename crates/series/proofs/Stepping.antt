@@ -11,33 +11,34 @@ use mir.Syntax.{w64}
 use mir.Val.{SFits}
 use Rattle.integers.specs.Division.{rounded}
 use Rattle.integers.proofs.Order.{natAbs-+, fits}
-use Rattle.vectors.proofs.Cells.{Cell, cell, held-le}
+use Rattle.arith.proofs.Cells.{Cell, cell, held-le}
 use Rattle.units.specs.Units.{millennium, t-limit}
 use Rattle.packed.specs.declared.Term.{Term}
 use Rattle.packed.specs.Limits.{total-limit, series-limit, block-count}
-use Rattle.packed.specs.Tables.{Sized, terms-at, table-blocks}
+use Rattle.packed.specs.Allowed.{BlockFits}
+use Rattle.packed.specs.Tables.{terms-at, table-blocks}
+use Rattle.packed.proofs.Tabled.{block-start, rising, within-table, block-there}
 use Rattle.series.specs.Sums.{block-sum}
-use Rattle.series.specs.Tables.{block-total, Block-in, start-of, Table}
-use Rattle.series.proofs.Blocks.{table-block, table-length, block-in}
+use Rattle.series.specs.Tables.{Table}
 use Rattle.series.proofs.Sizes.{block-size, carried-size}
 
 module _ (la : List ℤ) (lb : List ℕ) (lc : List ℤ) (ends : List ℕ) (h : Table la lb lc ends) (j : ℕ) (hj : j < block-count) where
   abbrev block : List Term
   block = getD (table-blocks la lb lc ends) j []
 
-  pub inside : Block-in block
-  inside = block-in (table-blocks la lb lc ends) j (let n = table-length la lb lc ends in let m = h .many in omega arith) (h .inside)
+  pub inside : BlockFits block
+  inside = h .allowed .fits j hj
 
-  block-is : terms-at la lb lc (start-of ends j) (getD ends j 0 - start-of ends j) ≡ block
-  block-is = table-block la lb lc ends j (let m = h .many in omega arith)
+  block-is : block ≡ terms-at la lb lc (block-start ends j) (getD ends j 0 - block-start ends j)
+  block-is = block-there la lb lc ends (table-blocks la lb lc ends) (h .holds) (h .allowed) j hj
 
-  pub sum-asks : (from to : ℕ) → from ≡ start-of ends j → to ≡ getD ends j 0 → (from ≤ to) × (to ≤ series-limit) × Block-in (terms-at la lb lc from (to - from))
+  pub sum-asks : (from to : ℕ) → from ≡ block-start ends j → to ≡ getD ends j 0 → (from ≤ to) × (to ≤ series-limit) × BlockFits (terms-at la lb lc from (to - from))
   sum-asks from to e f =
-      let r = h .rising j hj in
-      rw (e, f) (r .0, r .1, subst Block-in (sym block-is) inside)
+      let bs = table-blocks la lb lc ends in
+      rw (e, f) (rising la lb lc ends bs (h .holds) (h .allowed) j hj, within-table la lb lc ends bs (h .holds) (h .allowed) j hj, subst BlockFits block-is inside)
 
-  pub sum-is : (t s : ℤ) (from to : ℕ) → from ≡ start-of ends j → to ≡ getD ends j 0 → s ≡ block-sum t (terms-at la lb lc from (to - from)) → s ≡ block-sum t block
-  sum-is t s from to e f g = g ∙ ap₂ (λ (x y : ℕ). block-sum t (terms-at la lb lc x (y - x))) e f ∙ ap (block-sum t) block-is
+  pub sum-is : (t s : ℤ) (from to : ℕ) → from ≡ block-start ends j → to ≡ getD ends j 0 → s ≡ block-sum t (terms-at la lb lc from (to - from)) → s ≡ block-sum t block
+  sum-is t s from to e f g = g ∙ ap₂ (λ (x y : ℕ). block-sum t (terms-at la lb lc x (y - x))) e f ∙ ap (block-sum t) (sym block-is)
 
 module _ (t v : ℤ) (ht : natAbs t ≤ t-limit) (hv : natAbs v ≤ 31 * total-limit) where
   t-cell : Cell t ≡ t
@@ -49,9 +50,9 @@ module _ (t v : ℤ) (ht : natAbs t ≤ t-limit) (hv : natAbs v ≤ 31 * total-l
   pub carried-asks : (0 < millennium) × (millennium ≤ 2 ^ 47) × (natAbs (Cell t) ≤ 2 ^ 47) × (natAbs (Cell v) * natAbs (Cell t) < millennium * (2 ^ 63 - 1))
   carried-asks = (omega arith, omega arith, held-le t (2 ^ 47) (omega arith) (omega arith), rw (t-cell, v-cell) (lt-of-le-of-lt (mul-le-mul hv ht) (lit< tt)))
 
-  module _ (b : List Term) (hb : Block-in b) (s r : ℤ) (es : s ≡ block-sum t b) (er : r ≡ rounded (Cell v *ℤ Cell t) millennium) where
+  module _ (b : List Term) (hb : BlockFits b) (s r : ℤ) (es : s ≡ block-sum t b) (er : r ≡ rounded (Cell v *ℤ Cell t) millennium) where
     s-size : natAbs s ≤ total-limit
-    s-size = subst (λ (z : ℤ). natAbs z ≤ total-limit) (sym es) (let m = block-size t b in let n = hb .total-in in omega arith)
+    s-size = subst (λ (z : ℤ). natAbs z ≤ total-limit) (sym es) (let m = block-size t b in let n = hb .total in omega arith)
 
     r-is : r ≡ rounded (v *ℤ t) millennium
     r-is = er ∙ ap₂ (λ (x y : ℤ). rounded (x *ℤ y) millennium) v-cell t-cell

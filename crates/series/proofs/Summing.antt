@@ -8,26 +8,32 @@ use lib.ListN.{getD}
 use mir.Syntax.{w64}
 use mir.Val.{SFits}
 use Rattle.integers.proofs.Order.{natAbs-+, fits}
-use Rattle.vectors.proofs.Cells.{Cell, cell}
+use Rattle.arith.proofs.Cells.{Cell, cell}
 use Rattle.units.specs.Units.{a-limit, b-limit, c-limit}
 use Rattle.cosine.specs.Terms.{term-value}
 use Rattle.packed.specs.declared.Term.{Term}
 use Rattle.packed.specs.Limits.{total-limit, series-limit}
+use Rattle.packed.specs.Allowed.{TermFits, AllFit, more, BlockFits, total-of}
 use Rattle.packed.specs.Tables.{term-at, terms-at}
 use Rattle.series.specs.Sums.{block-sum}
-use Rattle.series.specs.Tables.{block-total, In-limits, All-in, Block-in}
 use Rattle.series.proofs.Sizes.{value-size}
+
+first-fits : {x : Term} {xs : List Term} → AllFit (x ∷ xs) → TermFits x
+first-fits (more h k) = h
+
+rest-fit : {x : Term} {xs : List Term} → AllFit (x ∷ xs) → AllFit xs
+rest-fit (more h k) = k
 
 module _ (t : ℤ) (la : List ℤ) (lb : List ℕ) (lc : List ℤ) (from to : ℕ) where
   pub record Summed (sum : ℤ) (i : ℕ) : Type 0 where
     pub within : i ≤ to
     pub room : to ≤ series-limit
-    pub limits : All-in (terms-at la lb lc i (to - i))
-    pub small : natAbs sum + block-total (terms-at la lb lc i (to - i)) ≤ total-limit
+    pub limits : AllFit (terms-at la lb lc i (to - i))
+    pub small : natAbs sum + total-of (terms-at la lb lc i (to - i)) ≤ total-limit
     pub left : sum +ℤ block-sum t (terms-at la lb lc i (to - i)) ≡ block-sum t (terms-at la lb lc from (to - from))
 
-  pub summed-none : from ≤ to → to ≤ series-limit → Block-in (terms-at la lb lc from (to - from)) → Summed (pos 0) from
-  summed-none h k b = record { within = h; room = k; limits = b .limits; small = let s = b .total-in in omega arith; left = zero-plus (block-sum t (terms-at la lb lc from (to - from))) }
+  pub summed-none : from ≤ to → to ≤ series-limit → BlockFits (terms-at la lb lc from (to - from)) → Summed (pos 0) from
+  summed-none h k b = record { within = h; room = k; limits = b .terms; small = let s = b .total in omega arith; left = zero-plus (block-sum t (terms-at la lb lc from (to - from))) }
     where
       zero-plus : (x : ℤ) → pos 0 +ℤ x ≡ x
       zero-plus x = +ℤ-idl x
@@ -50,13 +56,12 @@ module _ (t : ℤ) (la : List ℤ) (lb : List ℕ) (lc : List ℤ) (from to : �
     abbrev c : ℤ
     c = getD lc i (pos 0)
 
-    pub term-limits : In-limits (term-at la lb lc i)
-    unfolding All-in
-    term-limits = subst All-in (next-term i h) (s .limits) .0
+    pub term-limits : TermFits (term-at la lb lc i)
+    term-limits = first-fits (subst AllFit (next-term i h) (s .limits))
 
     pub term-allowed : (natAbs a < a-limit) × (b < b-limit) × (natAbs c < c-limit)
     unfolding term-at
-    term-allowed = let l = term-limits in (l .a-in, l .b-in, l .c-in)
+    term-allowed = let l = term-limits in (l .a-below, l .b-below, l .c-below)
 
     a-cell : Cell a ≡ a
     a-cell = cell a (let l = term-allowed .0 in omega arith)
@@ -70,9 +75,9 @@ module _ (t : ℤ) (la : List ℤ) (lb : List ℕ) (lc : List ℤ) (from to : �
     pub value-is : (v : ℤ) → v ≡ term-value (Cell a) b (Cell c) t → v ≡ term-value a b c t
     value-is v e = e ∙ ap₂ (λ (x y : ℤ). term-value x b y t) a-cell c-cell
 
-    sizes : natAbs sum + (natAbs a + block-total (terms-at la lb lc (i + 1) (to - (i + 1)))) ≤ total-limit
-    unfolding block-total term-at
-    sizes = subst (λ (xs : List Term). natAbs sum + block-total xs ≤ total-limit) (next-term i h) (s .small)
+    sizes : natAbs sum + (natAbs a + total-of (terms-at la lb lc (i + 1) (to - (i + 1)))) ≤ total-limit
+    unfolding total-of term-at
+    sizes = subst (λ (xs : List Term). natAbs sum + total-of xs ≤ total-limit) (next-term i h) (s .small)
 
     pub sum-fits : (v : ℤ) → v ≡ term-value a b c t → SFits w64 (sum +ℤ Cell v)
     sum-fits v e =
@@ -89,11 +94,10 @@ module _ (t : ℤ) (la : List ℤ) (lb : List ℕ) (lc : List ℤ) (from to : �
         cell w (subst (λ (x : ℤ). natAbs x < 2 ^ 63) (sym g) (omega arith)) ∙ g
 
     pub summed-more : (v : ℤ) → v ≡ term-value a b c t → Summed (sum +ℤ v) (i + 1)
-    unfolding All-in
     summed-more v e = record {
       within = omega arith;
       room = s .room;
-      limits = subst All-in (next-term i h) (s .limits) .1;
+      limits = rest-fit (subst AllFit (next-term i h) (s .limits));
       small = let l = sizes in let m = subst (λ (x : ℤ). natAbs x ≤ natAbs a) (sym e) (value-size a b c t) in let n = natAbs-+ sum v in omega arith;
       left =
           ap (λ (x : ℤ). sum +ℤ x +ℤ block-sum t (terms-at la lb lc (i + 1) (to - (i + 1)))) e

@@ -1,7 +1,7 @@
 // L, B and R from a term table, for one instant. For the crates above, which fill the table once and ask for many instants.
 ghost use mathlib.Core.Path.{_≡_};
 ghost use Prim.Native.Nat.{_+_, _-_, _*_, _≤_, _<_};
-ghost use mathlib.Core.List.{[]};
+ghost use mathlib.Core.List.{[], _∷_};
 ghost use lib.IntN.{natAbs, _+ℤ_, _*ℤ_};
 ghost use lib.ListN.{length, getD, take, drop};
 ghost use Rattle.integers.specs.Division.{rounded};
@@ -10,7 +10,8 @@ ghost use Rattle.cosine.specs.Prepared.{Ready};
 ghost use Rattle.packed.specs.Limits.{series-limit, total-limit, powers, block-count};
 ghost use Rattle.packed.specs.Tables.{Sized, terms-at, table-blocks};
 ghost use Rattle.series.specs.Sums.{block-sum, running-sum, coordinates as coordinates-of};
-ghost use Rattle.series.specs.Tables.{Block-in, start-of, Table};
+ghost use Rattle.packed.specs.Allowed.{BlockFits};
+ghost use Rattle.series.specs.Tables.{Table};
 use arith::muldiv::mul_div_round;
 use arith::signed::abs;
 use arith::signed::add;
@@ -35,7 +36,7 @@ pub fn sum_of(
     from: usize,
     to: usize,
 ) -> i64
-    requires { ⌜ Ready p × Sized (now a) (now b) (now c) × (from ≤ to) × (to ≤ series-limit) × Block-in (terms-at (now a) (now b) (now c) from (to - from)) ⌝ }
+    requires { ⌜ Ready p × Sized (now a) (now b) (now c) × (from ≤ to) × (to ≤ series-limit) × BlockFits (terms-at (now a) (now b) (now c) from (to - from)) ⌝ }
     ensures { λ r. ⌜ r ≡ block-sum (p .t) (terms-at (now (a .entry)) (now (b .entry)) (now (c .entry)) from (to - from)) ⌝ }
 {
     let mut sum: i64 = 0;
@@ -47,10 +48,10 @@ pub fn sum_of(
     sum
 }
 
-// Where block j starts in the table.
+// Where block j starts in the table: where the one before it ends.
 fn start_of(ends: &[u64; 18], j: usize) -> u64
     requires { ⌜ (j < block-count) × (length (now ends) ≡ block-count) ⌝ }
-    ensures { λ r. ⌜ r ≡ start-of (now (ends .entry)) j ⌝ }
+    ensures { λ r. ⌜ r ≡ getD (0 ∷ now (ends .entry)) j 0 ⌝ }
 {
     if j == 0 {
         return 0;

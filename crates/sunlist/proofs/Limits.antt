@@ -10,16 +10,12 @@ use lib.IntN.{ℤ, pos, negsuc, natAbs, negℤ, _+ℤ_}
 use lib.Signed.{leZ}
 use Rattle.integers.specs.Order.{_≼_}
 use Rattle.integers.proofs.Pairs.{nonneg}
+use Rattle.integers.proofs.Tests.{both, false-true}
 use Rattle.integers.proofs.Auto.{polys, cert!, gap, _⊞_}
 use Rattle.integers.proofs.Order.{natAbs-low, natAbs-high, natAbs-le}
 use Rattle.units.specs.Units.{t-limit, in-limit}
 use Rattle.units.specs.declared.Instant.{Instant}
 use Rattle.sunlist.specs.SunList.{minute, window-fits}
-
-pub both : (x y : Bool) → (x && y) ≡ true → (x ≡ true) × (y ≡ true)
-both true true e = (refl, refl)
-both true false e = (refl, e)
-both false y e = absurd (let z : T false = subst T (sym e) tt in z)
 
 -- A whole number from a to b.
 pub record From (a b : ℕ) (z : ℤ) : Type 0 where
@@ -29,7 +25,7 @@ pub record From (a b : ℕ) (z : ℤ) : Type 0 where
 
 from : (a b : ℕ) (z : ℤ) → leZ (pos a) z ≡ true → leZ z (pos b) ≡ true → From a b z
 from a b (pos n) h k = record { whole = refl; least = leb-true a n h; most = leb-true n b k }
-from a b (negsuc n) h k = absurd (let z : T false = subst T (sym h) tt in z)
+from a b (negsuc n) h k = absurd (false-true h)
 
 pub record Fits (minutes keep-out : ℤ) : Type 0 where
   pub minutes-in : From 1 1440 minutes

@@ -18,8 +18,7 @@ use Rattle.packed.specs.Series.{parse, accepted}
 use Rattle.series.specs.declared.CoordinatesAnswer.{CoordinatesAnswer}
 use Rattle.series.specs.declared.CoordinatesAnswer.the-variants.{At, NoCoordinates}
 use Rattle.series.specs.Sums.{running-sum, coordinates, longitude-blocks, latitude-blocks, radius-blocks, of-parsed, coordinates-answer}
-use Rattle.series.proofs.Accepted.{Accepted, accepted-is}
-use Rattle.series.proofs.Distance.{in-take, in-drop}
+use Rattle.series.proofs.Accepted.{Accepted, accepted-is, in-take, in-drop}
 use Rattle.series.proofs.Promise.{P2, Near-exact}
 use Rattle.series.proofs.Sizes.{running-size}
 use Rattle.separation.specs.Near.{tolerance, angle-limit, Near-coordinates}
@@ -44,7 +43,7 @@ near-exact bytes blocks t e h =
 six : (t : ℤ) → natAbs t ≤ t-limit → (bs : List (List Term)) → Accepted bs → (m : ℕ) → m ≤ 12 → natAbs (running-sum t (take powers (drop m bs))) ≤ angle-limit
 six t ht bs a m l =
     let r = running-size t ht (take 6 (drop m bs)) (in-take 6 (drop m bs) (in-drop m bs (a .inside))) in
-    let n : length (take 6 (drop m bs)) ≡ 6 = length-take-le 6 (drop m bs) (let k = a .many in omega (arith, length-drop m bs)) in
+    let n : length (take 6 (drop m bs)) ≡ 6 = length-take-le 6 (drop m bs) (let k = a .allowed .eighteen in omega (arith, length-drop m bs)) in
     let s = subst (λ (k : ℕ). natAbs (running-sum t (take 6 (drop m bs))) + total-limit ≤ total-limit * tau-limit ^ k) n r in
     limit (natAbs (running-sum t (take 6 (drop m bs)))) s
   where

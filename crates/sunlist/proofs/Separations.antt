@@ -33,7 +33,7 @@ use Rattle.separation.proofs.Places.{placed}
 use Rattle.separation.proofs.Closeness.{sun-long}
 use Rattle.separation.proofs.Angles.{one-far}
 use Rattle.separation.proofs.Joined.{figures}
-use Rattle.sunlist.proofs.Limits.{both}
+use Rattle.integers.proofs.Tests.{both}
 
 -- ---- The threshold.
 

@@ -16,7 +16,7 @@ use Rattle.vectors.specs.declared.Vector.{Vector}
 use Rattle.vectors.specs.Vectors.{geocentric, sun, squared, length, unit, radius-usable, usable}
 use Rattle.vectors.specs.Rectangular.{place, distance, places-usable}
 use Rattle.vectors.specs.Sizes.{Components}
-use Rattle.vectors.proofs.Cells.{Cell, cell}
+use Rattle.arith.proofs.Cells.{Cell, cell}
 use Rattle.vectors.proofs.Places.{sine-size, place-size, smaller}
 use Rattle.vectors.proofs.Usable.{radius-size}
 use Rattle.separation.specs.Listed.{squared-separation, threshold, listed}

@@ -13,7 +13,7 @@ use mir.Val.{SFits}
 use Rattle.integers.proofs.Order.{natAbs-+, fits}
 use Rattle.units.specs.Units.{t-limit}
 use Rattle.units.specs.declared.Refusal.the-variants.{NoRoom}
-use Rattle.vectors.proofs.Cells.{Cell, cell}
+use Rattle.arith.proofs.Cells.{Cell, cell}
 use Rattle.sunlist.specs.declared.ListAnswer.the-variants.{Runs, NoList}
 use Rattle.sunlist.specs.SunList.{numbers, answered, written}
 

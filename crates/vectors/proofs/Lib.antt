@@ -1,4 +1,3 @@
 -- Laws of the vectors: sizes of components, lengths, usable figures.
-pub mod Cells
 pub mod Places
 pub mod Usable

@@ -23,7 +23,7 @@ use Rattle.vectors.specs.declared.Vector.{Vector}
 use Rattle.vectors.specs.Rectangular.{rectangular, place}
 use Rattle.vectors.specs.Vectors.{geocentric, sun, squared, length, unit}
 use Rattle.vectors.specs.Sizes.{Components}
-use Rattle.vectors.proofs.Cells.{Cell, cell, held-le}
+use Rattle.arith.proofs.Cells.{Cell, cell, held-le}
 
 pub cosine-size : (x : ℤ) → natAbs (cosine x) ≤ U
 cosine-size x = let r = cosine-range x in natAbs-le (cosine x) U (r .least) (r .most)

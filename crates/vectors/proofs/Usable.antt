@@ -5,25 +5,17 @@ use mathlib.Core.List.{[], _∷_}
 use Prim.Native.Nat.{ℕ, _+_, _*_, _^_, _≤_, _<_}
 use native.Mathlib.Omega.{arith}
 use borrow.Author.Tests.{le-leb, lt-leb}
-use lib.Dec.{T}
 use lib.IntN.{ℤ, pos, natAbs, _+ℤ_}
 use lib.Signed.{leZ}
 use mir.Syntax.{w64}
 use mir.Val.{SFits}
 use Rattle.integers.specs.Order.{_≼_}
+use Rattle.integers.proofs.Tests.{both, at-most}
 use Rattle.integers.proofs.Auto.{polys, cert!, gap, _⊞_}
 use Rattle.integers.proofs.Order.{natAbs-le, natAbs-+, fits}
 use Rattle.units.specs.Units.{parts}
 use Rattle.vectors.specs.Vectors.{radius-usable, usable}
-use Rattle.vectors.proofs.Cells.{Cell, cell}
-
-both : (x y : Bool) → (x && y) ≡ true → (x ≡ true) × (y ≡ true)
-both true true e = (refl, refl)
-both true false e = (refl, e)
-both false y e = absurd (let z : T false = subst T (sym e) tt in z)
-
-at-most : (x y : ℤ) → leZ x y ≡ true → x ≼ y
-at-most x y e = record { le = subst T (sym e) tt }
+use Rattle.arith.proofs.Cells.{Cell, cell}
 
 -- a usable R
 pub radius-least : (r : ℤ) → radius-usable r ≡ true → pos 10000000000 ≼ r

@@ -10,7 +10,8 @@ use lib.ListN.{length}
 use mir.Syntax.{w64}
 use mir.Val.{toZ}
 use Rattle.packed.specs.Tables.{table-blocks}
-use Rattle.series.proofs.Blocks.{Running, running-start, running-next, running-whole, running-within, table-length}
+use Rattle.series.proofs.Blocks.{Running, running-start, running-next, running-whole, running-within}
+use Rattle.series.proofs.Accepted.{allowed-inside}
 use Rattle.series.proofs.inner.coordinate.Statement.{statement}
 use Rattle.series.proofs.inner.coordinate.Tie as tie
 
@@ -25,7 +26,7 @@ abbrev blocks-of : tie.Start Inv-loop μ-loop → List (List Term)
 blocks-of c = table-blocks (c .args .a .now) (c .args .b .now) (c .args .c .now) (c .args .ends .now)
 
 enough : (c : tie.Start Inv-loop μ-loop) → c .args .first + 6 ≤ length (blocks-of c)
-enough c = let n = table-length (c .args .a .now) (c .args .b .now) (c .args .c .now) (c .args .ends .now) in let m = c .pre .2 .many in let l = c .pre .3 in omega arith
+enough c = let n = c .pre .2 .allowed .eighteen in let l = c .pre .3 in omega arith
 
 loop-holds : tie.Need-loop-holds Inv-loop μ-loop
 loop-holds c = running-start (c .args .p .t) (blocks-of c) (c .args .first) (enough c)
@@ -41,7 +42,7 @@ with-block-requires c κs =
     let s = c .before .before in
     let f = c .before .loop .inv .few in
     let l = s .pre .3 in
-    (s .pre .0, s .pre .1, s .pre .2, omega arith, running-within (s .args .p .t) (table-blocks (s .args .a .now) (s .args .b .now) (s .args .c .now) (s .args .ends .now)) (s .args .first) (enough s) (s .pre .1) (s .pre .2 .inside) (toZ w64 (c .before .loop .v)) (c .before .loop .k) (c .loop-test .taken) (c .before .loop .inv))
+    (s .pre .0, s .pre .1, s .pre .2, omega arith, running-within (s .args .p .t) (table-blocks (s .args .a .now) (s .args .b .now) (s .args .c .now) (s .args .ends .now)) (s .args .first) (enough s) (s .pre .1) (allowed-inside (blocks-of s) (s .pre .2 .allowed)) (toZ w64 (c .before .loop .v)) (c .before .loop .k) (c .loop-test .taken) (c .before .loop .inv))
 
 sub-k : tie.Need-sub-k Inv-loop μ-loop
 sub-k c = omega arith

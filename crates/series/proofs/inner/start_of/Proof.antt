@@ -1,12 +1,10 @@
 -- `series::inner::start_of` meets its contract. Assumes nothing.
-use Rattle.series.specs.Tables.{start-of}
 use Rattle.series.proofs.Blocks.{start-later}
 use borrow.Author.Needs.{needs}
 use Rattle.series.proofs.inner.start_of.Statement.{statement}
 use Rattle.series.proofs.inner.start_of.Tie as tie
 
 returns : tie.Need-returns
-unfolding start-of
 returns c = rw (c .if1 .taken)
 
 sub-result : tie.Need-sub-result

@@ -1,7 +1,7 @@
 -- `vectors::inner::from_angles` meets its contract. Assumes nothing.
 use Prim.Native.Nat.{_<_, _^_}
 use lib.IntN.{pos, natAbs}
-use Rattle.vectors.proofs.Cells.{held-lt}
+use Rattle.arith.proofs.Cells.{held-lt}
 use Rattle.vectors.proofs.Places.{cosine-cell, sine-cell, flat-in, from-angles-is}
 use borrow.Author.Needs.{needs}
 use Rattle.vectors.proofs.inner.from_angles.Statement.{statement}

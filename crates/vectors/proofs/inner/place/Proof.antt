@@ -1,6 +1,6 @@
 -- `vectors::inner::place` meets its contract. Assumes nothing.
 use mathlib.Core.Path.{_≡_}
-use Rattle.vectors.proofs.Cells.{Cell, held-lt}
+use Rattle.arith.proofs.Cells.{Cell, held-lt}
 use Rattle.vectors.proofs.Places.{residue-small, place-is}
 use borrow.Author.Needs.{needs}
 use Rattle.vectors.proofs.inner.place.Statement.{statement}
