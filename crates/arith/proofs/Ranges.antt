@@ -1,19 +1,12 @@
 -- How large a rounded quotient is. Assumes nothing.
-use mathlib.Core.Path.{_≡_, refl, sym, ap, _∙_, subst}
-use mathlib.Core.Bool.{Bool, true, false}
-use Prim.Native.Nat.{ℕ, zero, suc, _*_, _≤_, _<_}
+use mathlib.Core.Path.{_≡_, sym, ap, _∙_, subst}
+use Prim.Native.Nat.{ℕ, _*_, _≤_, _<_}
 use native.Mathlib.Nat.{mul-le-mul}
 use lib.IntN.{ℤ, natAbs, _*ℤ_}
 use Rattle.integers.specs.Division.{rounded}
-use Rattle.integers.specs.Signs.{negative, sgn, near}
+use Rattle.integers.specs.Signs.{negative, near}
 use Rattle.integers.proofs.Division.{rounded-by, near-most, near-le}
-use Rattle.integers.proofs.Order.{natAbs-*}
-
-pub natAbs-sgn : (s : Bool) (m : ℕ) → natAbs (sgn s m) ≡ m
-unfolding sgn
-natAbs-sgn false m = refl
-natAbs-sgn true zero = refl
-natAbs-sgn true (suc m) = refl
+use Rattle.integers.proofs.Order.{natAbs-*, natAbs-sgn}
 
 pub natAbs-rounded : (n : ℤ) (d : ℕ) → 0 < d → natAbs (rounded n d) ≡ near (negative n) (natAbs n) d
 natAbs-rounded n d h = ap natAbs (rounded-by n d h) ∙ natAbs-sgn (negative n) (near (negative n) (natAbs n) d)

@@ -7,10 +7,11 @@ use native.Mathlib.Nat.{mul-le-mul, div-add-mod', lt-of-le-of-lt}
 use native.Mathlib.Decide.{decLe}
 use borrow.Author.Tests.{lt-ltb, le-ltb}
 use lib.Dec.{T, lit<, ltb, ltb→lt}
-use lib.IntN.{ℤ, pos, negsuc, natAbs, _+ℤ_, _*ℤ_}
+use lib.IntN.{ℤ, natAbs, _+ℤ_, _*ℤ_}
 use Rattle.integers.specs.Root.{root}
 use Rattle.integers.proofs.Root.{root-is}
 use Rattle.integers.proofs.Tests.{false-true}
+use Rattle.integers.proofs.Order.{square-natAbs}
 use Rattle.arith.proofs.Long.{Divided}
 
 -- x·x from its halves, S the base of a half limb
@@ -95,11 +96,7 @@ root-from n g h k = root-is n g (record { low = h; high = k })
 
 -- ---- the sum of three squares of whole numbers
 pub squares-value : (x y z : ℤ) → natAbs (x *ℤ x +ℤ y *ℤ y +ℤ z *ℤ z) ≡ natAbs x * natAbs x + natAbs y * natAbs y + natAbs z * natAbs z
-squares-value x y z = ap natAbs (ap₂ _+ℤ_ (ap₂ _+ℤ_ (sq x) (sq y)) (sq z))
-  where
-    sq : (z : ℤ) → z *ℤ z ≡ pos (natAbs z * natAbs z)
-    sq (pos n) = refl
-    sq (negsuc n) = refl
+squares-value x y z = ap natAbs (ap₂ _+ℤ_ (ap₂ _+ℤ_ (square-natAbs x) (square-natAbs y)) (square-natAbs z))
 
 -- three components of at most b: the sum is at most 3·b·b
 pub squares-within : (x y z : ℤ) (b : ℕ) → natAbs x ≤ b → natAbs y ≤ b → natAbs z ≤ b → natAbs (x *ℤ x +ℤ y *ℤ y +ℤ z *ℤ z) ≤ 3 * (b * b)

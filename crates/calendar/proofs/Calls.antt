@@ -1,5 +1,5 @@
 -- What the code's calls ask and give, over plain values. Assumes nothing.
-use mathlib.Core.Path.{_≡_, refl, sym, ap, _∙_, subst}
+use mathlib.Core.Path.{_≡_, refl, sym, ap, _∙_}
 use mathlib.Core.Bool.{true, false, false≢true, true≢false}
 use Prim.Native.Nat.{ℕ, _+_, _-_, _≤_, _<_, _^_}
 use native.Mathlib.Decide.{decLe}
@@ -10,8 +10,8 @@ use lib.IntN.{ℤ, pos, negsuc, natAbs, _-ℤ_}
 use mir.Syntax.{w64}
 use mir.Val.{SFits, toZ, ofZ}
 use Rattle.integers.specs.Signs.{negative}
-use Rattle.integers.proofs.Pairs.{Is, View, above, below, view, nat, _-ᵢ_}
-use Rattle.integers.proofs.Order.{fits}
+use Rattle.integers.proofs.Pairs.{Is, below, nat}
+use Rattle.integers.proofs.Order.{fits, nat-difference-fits}
 use Rattle.units.specs.declared.Refusal.the-variants.{NoSuchDate}
 use Rattle.arith.specs.Signed.{naturalOr}
 use Rattle.arith.proofs.Signs.{back}
@@ -49,22 +49,15 @@ index-too-high (negsuc k) n s e h = absurd (true≢false s)
 index-too-high (pos k) n s e h = rw (lt-leb k 9999 (omega arith))
 
 -- ---- a difference of two naturals, by machine numbers
-sub-fits : (a b : ℕ) → a < 2 ^ 63 → b < 2 ^ 63 → SFits w64 (pos a -ℤ pos b)
-sub-fits a b p q = fits (pos a -ℤ pos b) (subst (λ (z : ℤ). natAbs z < 2 ^ 63) (sym ((nat a -ᵢ nat b) .is)) (go (view (a + 0) (0 + b))))
-  where
-    go : {z : ℤ} → View (a + 0) (0 + b) z → natAbs z < 2 ^ 63
-    go (above n e f) = rw f (omega arith)
-    go (below n e f) = rw f (omega arith)
-
 module _ (w : ℤ) (n k : ℕ) (e : w ≡ pos n) (p : n < 2 ^ 63) (q : k < 2 ^ 63) where
   wide-back : toZ w64 (ofZ w64 w) ≡ pos n
   wide-back = ap (λ (x : ℤ). toZ w64 (ofZ w64 x)) e ∙ back (pos n) (fits (pos n) p)
 
   pub sub-asked : SFits w64 (toZ w64 (ofZ w64 w) -ℤ pos k)
-  sub-asked = rw wide-back (sub-fits n k p q)
+  sub-asked = rw wide-back (nat-difference-fits n k p q)
 
   pub sub-back : (r : ℤ) → r ≡ toZ w64 (ofZ w64 w) -ℤ pos k → toZ w64 (ofZ w64 r) ≡ pos n -ℤ pos k
-  sub-back r f = ap (λ (x : ℤ). toZ w64 (ofZ w64 x)) (f ∙ ap (λ (x : ℤ). x -ℤ pos k) wide-back) ∙ back (pos n -ℤ pos k) (sub-fits n k p q)
+  sub-back r f = ap (λ (x : ℤ). toZ w64 (ofZ w64 x)) (f ∙ ap (λ (x : ℤ). x -ℤ pos k) wide-back) ∙ back (pos n -ℤ pos k) (nat-difference-fits n k p q)
 
 pub natural-back : (w : ℤ) (n : ℕ) → w ≡ pos n → n < 2 ^ 63 → toZ w64 (ofZ w64 w) ≡ pos n
 natural-back w n e p = wide-back w n 0 e p (lit< tt)

@@ -4,12 +4,12 @@ use mathlib.Core.List.{List, [], _∷_}
 use Prim.Native.Nat.{ℕ, zero, suc, _*_, _+_, _/_, _%_, _≤_, _<_}
 use native.Mathlib.Omega.{arith}
 use native.Mathlib.Nat.{div-add-mod, mod-lt}
-use lib.Dec.{T, le→leb}
+use lib.Dec.{T}
 use lib.IntN.{ℤ, pos, _+ℤ_, _-ℤ_, _*ℤ_, negℤ}
 use Rattle.integers.specs.Order.{_≼_, _≺_}
 use Rattle.integers.proofs.Pairs.{nonneg, *ℤ-assoc}
 use Rattle.integers.proofs.Auto.{ring!, cert!, cert<!, polys, gap, gap<, gap≡, _⊞_, _⊛_, _·_, sqr}
-use Rattle.integers.proofs.Order.{≺-≼}
+use Rattle.integers.proofs.Order.{≺-≼, ≼-nat}
 
 -- the lower number, and the upper one
 unfoldable pub low : ℤ → List ℕ → ℤ
@@ -25,9 +25,6 @@ up D Z (d ∷ ds) = pos d *ℤ D *ℤ low D ds -ℤ Z *ℤ up D Z ds
 abbrev pub Good : List ℕ → Type 0
 Good [] = Unit
 Good (d ∷ ds) = (0 < d) × Good ds
-
-pub ≼-nat : (m n : ℕ) → m ≤ n → pos m ≼ pos n
-≼-nat m n h = record { le = le→leb m n h }
 
 -- ---- the range
 

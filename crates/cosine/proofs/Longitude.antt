@@ -7,12 +7,12 @@ use lib.IntN.{ℤ, pos, natAbs, _+ℤ_, _-ℤ_, _*ℤ_, negℤ}
 use Rattle.integers.specs.Order.{_≼_, _≺_}
 use Rattle.integers.proofs.Pairs.{nonneg}
 use Rattle.integers.proofs.Auto.{cert!, cert<!, polys, gap, gap<, _⊞_, _⊛_, _·_}
-use Rattle.integers.proofs.Order.{natAbs-low, natAbs-high, ≺-≼}
+use Rattle.integers.proofs.Order.{natAbs-low, natAbs-high, ≺-≼, ≺-nat}
 use Rattle.integers.specs.Division.{rounded}
 use Rattle.units.specs.Units.{U, quarter, angle-step, angle-per-part}
 use Rattle.cosine.specs.Cosine.{q-of, cosine, sine}
 use Rattle.cosine.specs.Reference.{two-pi as A, four as F, reference-cosine, reference-sine, Within}
-use Rattle.cosine.proofs.Work.{≺-nat, rounded-most, rounded-least}
+use Rattle.cosine.proofs.Work.{rounded-most, rounded-least}
 use Rattle.cosine.proofs.Reduce.{Y, B}
 use Rattle.cosine.proofs.Any.{Turn, Close-angles, all-errors}
 use Rattle.cosine.proofs.Within.{within-any, within-any-sine, the-turn, G}

@@ -1,16 +1,14 @@
 -- The working cosine in natural numbers: the working angle as v = w + U, and each rounded quotient as one quotient of naturals. Assumes nothing.
 use mathlib.Core.Path.{_≡_, refl, sym, ap, ap₂, _∙_, subst}
 use mathlib.Core.List.{List, [], _∷_}
-use Prim.Native.Nat.{ℕ, zero, suc, _+_, _*_, _-_, _/_, _%_, _^_, _≤_, _<_}
+use Prim.Native.Nat.{ℕ, zero, suc, _+_, _*_, _-_, _/_, _%_, _≤_, _<_}
 use native.Mathlib.Omega.{arith}
 use native.Mathlib.Nat.{mul-le-mul, mul-le-mul-right, div-div-eq-div-mul, div-le-of-le-mul}
 use lib.IntN.{ℤ, pos, negℤ, _+ℤ_, _-ℤ_, _*ℤ_}
 use Rattle.integers.specs.Order.{_≼_, _≺_}
 use Rattle.integers.specs.Division.{floor, rounded}
-use mir.Syntax.{w64}
-use mir.Val.{SFits}
-use Rattle.integers.proofs.Order.{natAbs-le, fits}
-use Rattle.integers.proofs.Pairs.{nat, int, negᵢ, same, less, less⁻¹, _+ᵢ_, _-ᵢ_, _*ᵢ_}
+use Rattle.integers.proofs.Order.{fits}
+use Rattle.integers.proofs.Pairs.{nat, int, same, less, less⁻¹, _+ᵢ_, _-ᵢ_, _*ᵢ_}
 use Rattle.integers.proofs.Auto.{polys, ring!, cert!, gap, sqr}
 use Rattle.integers.proofs.Division.{rounded-add}
 use Rattle.units.specs.Units.{U, quarter, angle-step}
@@ -25,11 +23,6 @@ rounded-nat n d = ap pos (sym (div-div-eq-div-mul (2 * n + d) 2 d) ∙ ap (λ t.
 
 pub minus-nat : (a b : ℕ) → b ≤ a → pos (a - b) ≡ pos a -ℤ pos b
 minus-nat a b h = same (nat (a - b)) (nat a -ᵢ nat b) (omega arith)
-
-pub difference-fits : (a b : ℕ) → a < 2 ^ 63 → b < 2 ^ 63 → SFits w64 (pos a -ℤ pos b)
-difference-fits a b h k =
-    let l = natAbs-le (pos a -ℤ pos b) 9223372036854775807 (less (negᵢ (nat 9223372036854775807)) (nat a -ᵢ nat b) (omega arith)) (less (nat a -ᵢ nat b) (nat 9223372036854775807) (omega arith)) in
-    fits (pos a -ℤ pos b) (omega arith)
 
 -- ---- the quarter and the working angle
 

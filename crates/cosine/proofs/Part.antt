@@ -8,7 +8,7 @@ use Rattle.integers.specs.Order.{_≼_, _≺_}
 use Rattle.integers.proofs.Pairs.{nonneg}
 use Rattle.integers.proofs.Auto.{ring!, cert!, cert<!, polys, gap, gap<, gap≡, _⊞_, _⊛_, _·_, sqr}
 use Rattle.integers.proofs.Order.{≺-≼, cert*!, product-pos}
-use Rattle.cosine.proofs.Horner.{low, up, lam, lip, Good, Range, range′, Small, small-le, ≼-nat}
+use Rattle.cosine.proofs.Horner.{low, up, lam, lip, Good, Range, range′, Small, small-le}
 use Rattle.cosine.specs.Cosine.{evens, odds, cosine-by}
 use Rattle.cosine.proofs.Lists.{more-evens, more-odds, all-evens, all-odds, low-by-quarter}
 use Rattle.integers.proofs.Near.{Near, near-sym, near-neg, near-trans, near-coarse, near-weaken, near-times}
@@ -132,7 +132,7 @@ half-S n N m K f g x y hf h =
     let c = near-coarse (pos 3927 *ℤ pos (lam all-odds)) (pos 2702) (pos 2500000000) (pos 10000) g f (record { lt = tt }) (record { le = tt }) hf (r .above) (r′ .above) lam-odds (near-h all-odds good-odds n N m K f g x y hf h) in
     half-sin n N m K (up (N *ℤ N) (n *ℤ n) all-odds) (low (N *ℤ N) all-odds) (up (K *ℤ K) (m *ℤ m) all-odds) (low (K *ℤ K) all-odds) f g x y (r .least) (r .most) (≺-≼ (r′ .above)) hf (h .hi) (c .hi) (c .lo)
 
-turn-about : (g f a A b B : ℤ) → g *ℤ (b *ℤ A -ℤ a *ℤ B) ≼ f *ℤ (B *ℤ A) → g *ℤ (b *ℤ A -ℤ a *ℤ B) ≼ f *ℤ (A *ℤ B)
+pub turn-about : (g f a A b B : ℤ) → g *ℤ (b *ℤ A -ℤ a *ℤ B) ≼ f *ℤ (B *ℤ A) → g *ℤ (b *ℤ A -ℤ a *ℤ B) ≼ f *ℤ (A *ℤ B)
 turn-about g f a A b B h = cert! (g ∷ f ∷ a ∷ A ∷ b ∷ B ∷ []) 0 (gap h) (search polys depth 60 fits 100000) (search polys depth 60 fits 100000) (search polys depth 60 fits 100000) tt
 
 pub near-S : (n N m K f g : ℤ) → Angle n N → Angle m K → pos 0 ≼ f → Near g f n N m K → Near (pos 50 *ℤ g) (pos 61 *ℤ f) (S-up n N) (S-low N) (S-up m K) (S-low K)

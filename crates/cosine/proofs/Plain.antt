@@ -8,10 +8,9 @@ use lib.IntN.{ℤ, pos, negℤ, _+ℤ_, _*ℤ_}
 use Rattle.integers.specs.Order.{_≺_}
 use Rattle.integers.specs.Fractions.{Fraction, _*ᶠ_, _+ᶠ_, overᶠ, wholeᶠ, powerᶠ, _≈ᶠ_}
 use Rattle.integers.proofs.Auto.{polys, ring! }
-use Rattle.integers.proofs.Order.{product-pos}
+use Rattle.integers.proofs.Order.{product-pos, ≺-nat}
 use Rattle.integers.proofs.Fractions.{Over, over-+}
 use Rattle.cosine.specs.Reference.{power, factorial, sum, alternate, even-series, odd-series}
-use Rattle.cosine.proofs.Work.{≺-nat}
 
 -- t 0 + t 1 + .. + t m
 unfoldable pub total : ℕ → (ℕ → Fraction) → Fraction

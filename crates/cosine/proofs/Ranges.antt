@@ -7,7 +7,7 @@ use lib.IntN.{ℤ, pos, _+ℤ_, _-ℤ_, _*ℤ_, negℤ}
 use Rattle.integers.specs.Order.{_≼_, _≺_}
 use Rattle.integers.proofs.Pairs.{nonneg}
 use Rattle.integers.proofs.Auto.{ring!, cert!, cert<!, polys, gap, gap<, gap≡, _⊞_, _⊛_, _·_, sqr}
-use Rattle.integers.proofs.Order.{≺-≼, cert*! }
+use Rattle.integers.proofs.Order.{≺-≼, cert*!, ≺-nat}
 use Rattle.integers.specs.Division.{rounded, modulo}
 use Rattle.integers.specs.Fractions.{Fraction}
 use Rattle.units.specs.Units.{U}
@@ -17,7 +17,7 @@ use Rattle.cosine.proofs.Lists.{low-by-quarter, all-evens, all-odds}
 use Rattle.cosine.proofs.Horner.{low, up, Good, Range, range′, Small}
 use Rattle.integers.proofs.Order.{product-pos}
 use Rattle.cosine.proofs.Part.{Angle, angle-small, C-up, C-low, S-up, S-low, f-up, f-low, C-low-pos, S-low-pos, good-evens, good-odds}
-use Rattle.cosine.proofs.Work.{≺-nat, rounded-most, rounded-least, Unit-range, horner-range, y-range, working}
+use Rattle.cosine.proofs.Work.{rounded-most, rounded-least, Unit-range, horner-range, y-range, working}
 use Rattle.cosine.proofs.Reduce.{R′-angle}
 use Rattle.cosine.proofs.Any.{Turn, ref-most, ref-least, w-angle}
 use Rattle.cosine.proofs.Within.{the-turn}

@@ -5,11 +5,12 @@ use Prim.Native.Nat.{ℕ, zero, suc, _+_, _*_, _-_, _/_, _%_, _^_, _≤_, _<_}
 use native.Mathlib.Omega.{arith}
 use native.Mathlib.Nat.{div-add-mod, mod-lt}
 use lib.IntN.{ℤ, pos, negℤ, natAbs, _+ℤ_, _-ℤ_, _*ℤ_}
-use Rattle.integers.specs.Order.{_≼_, _≺_}
+use Rattle.integers.specs.Order.{_≺_}
 use Rattle.integers.specs.Division.{floor, rounded, modulo}
-use Rattle.integers.proofs.Pairs.{nonneg, nat, same, less, _+ᵢ_, _-ᵢ_, _*ᵢ_}
+use Rattle.integers.proofs.Pairs.{nonneg, nat, same, _-ᵢ_}
 use Rattle.integers.proofs.Auto.{polys, ring!, cert!, cert<!, gap, gap<, gap≡, _⊞_, _⊛_, _·_}
 use Rattle.integers.proofs.Division.{floor-is, modulo-shift}
+use Rattle.integers.proofs.Order.{≼-nat}
 use Rattle.units.specs.Units.{millennium as T, turn as P, angle-per-part}
 use Rattle.cosine.specs.Terms.{term-angle}
 use Rattle.cosine.specs.Prepared.{Residue}
@@ -75,11 +76,8 @@ rounded-residue n q r a =
     let u : r < T * e + T = omega arith in
     let ρ = n ∷ k ∷ pos q ∷ pos r ∷ pos e ∷ [] in
     floor-is (pos 2 *ℤ n +ℤ pos T) (pos P *ℤ k +ℤ pos (q + e)) (2 * T) (omega arith)
-    (cert! ρ 0 (2 · gap≡ (sym (a .is)) ⊞ 2 · gap (nat≼ (T * e) r l)) (search polys depth 60 fits 100000) (search polys depth 60 fits 100000) (search polys depth 60 fits 100000) tt)
-    (cert<! ρ 0 (2 · gap≡ (a .is) ⊞ 2 · gap (nat≼ (r + 1) (T * e + T) (omega arith))) (search polys depth 60 fits 100000) (search polys depth 60 fits 100000) (search polys depth 60 fits 100000) tt)
-  where
-    nat≼ : (x y : ℕ) → x ≤ y → pos x ≼ pos y
-    nat≼ x y h = less (nat x) (nat y) (omega arith)
+    (cert! ρ 0 (2 · gap≡ (sym (a .is)) ⊞ 2 · gap (≼-nat (T * e) r l)) (search polys depth 60 fits 100000) (search polys depth 60 fits 100000) (search polys depth 60 fits 100000) tt)
+    (cert<! ρ 0 (2 · gap≡ (a .is) ⊞ 2 · gap (≼-nat (r + 1) (T * e + T) (omega arith))) (search polys depth 60 fits 100000) (search polys depth 60 fits 100000) (search polys depth 60 fits 100000) tt)
 
 -- so the term's angle is q + r/T + 100b, but for whole turns
 pub angle-of : (b : ℕ) (c t : ℤ) (q r : ℕ) → Residue (pos 15778800000000 +ℤ pos angle-per-part *ℤ c *ℤ t) q r → modulo (pos (q + r / T + 100 * b)) P ≡ term-angle b c t

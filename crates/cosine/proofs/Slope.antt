@@ -13,7 +13,7 @@ use Rattle.integers.proofs.Near.{Near, near-sym, near-neg, near-coarse, near-as
 use Rattle.cosine.proofs.Lists.{all-evens, all-odds, more-odds, low-by-quarter}
 use Rattle.cosine.proofs.Horner.{low, up, lam, lip, Good, Range, range′, Small}
 use Rattle.cosine.specs.Cosine.{cosine-by}
-use Rattle.cosine.proofs.Part.{Angle, angle-small, good-evens, good-odds, lam-odds, near-h, C-up, C-low, S-up, S-low, f-up, f-low}
+use Rattle.cosine.proofs.Part.{Angle, angle-small, good-evens, good-odds, lam-odds, near-h, C-up, C-low, S-up, S-low, f-up, f-low, turn-about}
 
 -- Z/D at most Z′/D′ gives Z·h at most Z′·h′, with P = Z′D, R = ZD′, a = u′l, b = ul′, E = DD′, M = ll′ and k the Lipschitz bound of h
 fall-core : (P R a b E M k : ℤ) → pos 0 ≼ R → pos 0 ≺ E → pos 0 ≼ M → pos 0 ≼ k → R ≼ P → pos 1000 *ℤ R ≼ pos 617 *ℤ E
@@ -132,13 +132,10 @@ half-S n N m K f g x y hf hg e = go (≼-or-≺ (m *ℤ N) (n *ℤ K))
         cases (inl a) f g = f a
         cases (inr b) f g = g b
 
-turned : (g f a A b B : ℤ) → g *ℤ (b *ℤ A -ℤ a *ℤ B) ≼ f *ℤ (B *ℤ A) → g *ℤ (b *ℤ A -ℤ a *ℤ B) ≼ f *ℤ (A *ℤ B)
-turned g f a A b B h = cert! (g ∷ f ∷ a ∷ A ∷ b ∷ B ∷ []) 0 (gap h) (search polys depth 60 fits 100000) (search polys depth 60 fits 100000) (search polys depth 60 fits 100000) tt
-
 near-S : (n N m K f g : ℤ) → Angle n N → Angle m K → pos 0 ≼ f → pos 0 ≼ g → Near g f n N m K → Near g f (S-up n N) (S-low N) (S-up m K) (S-low K)
 near-S n N m K f g x y hf hg h = record {
   hi = half-S n N m K f g x y hf hg h;
-  lo = turned g f (S-up n N) (S-low N) (S-up m K) (S-low K) (half-S m K n N f g y x hf hg (near-sym h));
+  lo = turn-about g f (S-up n N) (S-low N) (S-up m K) (S-low K) (half-S m K n N f g y x hf hg (near-sym h));
 }
 
 -- ---- the cosine, and both at any quarter

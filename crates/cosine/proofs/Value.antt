@@ -8,14 +8,13 @@ use lib.IntN.{ℤ, pos, _+ℤ_, _-ℤ_, _*ℤ_, negℤ}
 use Rattle.integers.specs.Order.{_≼_, _≺_}
 use Rattle.integers.proofs.Pairs.{nonneg}
 use Rattle.integers.proofs.Auto.{ring!, cert!, polys, gap, gap<, gap≡, _⊞_, _⊛_, _·_}
-use Rattle.integers.proofs.Order.{≺-≼, ≼-or-≺, ≼-antisym}
+use Rattle.integers.proofs.Order.{≺-≼, ≼-or-≺, ≼-antisym, ≺-nat}
 use Rattle.integers.specs.Division.{rounded, modulo}
 use Rattle.integers.proofs.Division.{rounded-low, rounded-high}
 use Rattle.integers.specs.Fractions.{Fraction, _≈ᶠ_}
 use Rattle.cosine.specs.Reference.{two-pi as A, four as F, ref-q, ref-r, reference-cosine, reference-sine}
 use Rattle.integers.proofs.Near.{Near}
 use Rattle.cosine.proofs.Part.{Angle, f-up, f-low, near-f}
-use Rattle.cosine.proofs.Work.{≺-nat}
 use Rattle.cosine.proofs.Reduce.{R′-angle}
 use Rattle.cosine.proofs.Any.{ref-most, ref-least}
 use Rattle.cosine.proofs.Nested.{nested, reference-is, reference-sine-is}

@@ -7,13 +7,13 @@ use lib.IntN.{ℤ, pos, natAbs, _+ℤ_, _-ℤ_, _*ℤ_, negℤ, +ℤ-idr, zero-*
 use Rattle.integers.specs.Order.{_≼_, _≺_}
 use Rattle.integers.proofs.Pairs.{nonneg}
 use Rattle.integers.proofs.Auto.{ring!, cert!, cert<!, polys, gap, gap<, gap≡, _⊞_, _⊛_, _·_, sqr}
-use Rattle.integers.proofs.Order.{≺-≼, cert*!, product-pos}
+use Rattle.integers.proofs.Order.{≺-≼, cert*!, product-pos, ≺-nat}
 use Rattle.integers.specs.Division.{modulo}
 use Rattle.units.specs.Units.{U, quarter, angle-step}
 use Rattle.cosine.specs.Cosine.{q-of, w-of, working-cosine, working-sine}
 use Rattle.cosine.specs.Reference.{four as F, ref-q, ref-r, reference-cosine, reference-sine, Within}
 use Rattle.cosine.proofs.Part.{f-up, f-low, f-low-pos}
-use Rattle.cosine.proofs.Work.{≺-nat, working}
+use Rattle.cosine.proofs.Work.{working}
 use Rattle.cosine.proofs.Reduce.{Y, B}
 use Rattle.cosine.proofs.Any.{Turn, Close-angles, whole, all-errors, near-any}
 use Rattle.cosine.proofs.Nested.{cosine-is, sine-is, reference-is, reference-sine-is}

@@ -6,22 +6,19 @@ use native.Mathlib.Omega.{arith}
 use native.Mathlib.Nat.{div-add-mod, mod-lt}
 use lib.IntN.{ℤ, pos, _+ℤ_, _-ℤ_, _*ℤ_, negℤ}
 use Rattle.integers.specs.Order.{_≼_, _≺_}
-use Rattle.integers.proofs.Pairs.{nonneg, suc-<ℤ}
+use Rattle.integers.proofs.Pairs.{nonneg}
 use Rattle.integers.proofs.Auto.{ring!, cert!, cert<!, polys, gap, gap<, gap≡, _⊞_, _⊛_, _·_, sqr}
-use Rattle.integers.proofs.Order.{≺-≼, cert*! }
+use Rattle.integers.proofs.Order.{≺-≼, cert*!, ≼-nat, ≺-nat}
 use Rattle.integers.specs.Division.{rounded}
 use Rattle.integers.proofs.Division.{rounded-low, rounded-high}
 use Rattle.units.specs.Units.{U}
 use Rattle.cosine.specs.Cosine.{horner, y-of, even-part, odd-part, evens, odds, cosine-by}
 use Rattle.cosine.proofs.Lists.{more-evens, more-odds, all-evens, all-odds, low-by-quarter}
-use Rattle.cosine.proofs.Horner.{low, up, lam, lip, Good, Range, range′, Small, small-le, ≼-nat}
+use Rattle.cosine.proofs.Horner.{low, up, lam, lip, Good, Range, range′, Small, small-le}
 use Rattle.integers.proofs.Near.{Near, near-sym, near-neg, near-trans, near-coarse, near-weaken, near-times}
 use Rattle.cosine.proofs.Part.{Angle, angle-small, C-up, C-low, S-up, S-low, f-up, f-low, good-evens, good-odds}
 
 -- ---- a bound by a whole number survives rounding
-
-pub ≺-nat : (n : ℕ) → 0 < n → pos 0 ≺ pos n
-≺-nat n h = suc-<ℤ (pos 0) (pos n) (≼-nat 1 n h)
 
 halves : (i j : ℤ) → pos 2 *ℤ i ≼ pos 2 *ℤ j +ℤ pos 1 → i ≼ j
 halves i j h = cert! (i ∷ j ∷ []) 1 (gap h) (search polys depth 60 fits 100000) (search polys depth 60 fits 100000) (search polys depth 60 fits 100000) tt

@@ -7,7 +7,7 @@ use Prim.Native.Nat.{ℕ, zero, suc, _+_, _*_, _^_, _≤_, _<_}
 use native.Mathlib.Omega.{arith}
 use native.Mathlib.Decide.{decLe}
 use borrow.Author.Tests.{le-leb}
-use lib.Dec.{T, leb, lit<, le→leb, leb→le}
+use lib.Dec.{T, leb, lit<, leb→le}
 use lib.IntN.{ℤ, pos, _+ℤ_, _*ℤ_}
 use lib.Signed.{leZ, ≤ℤ-refl}
 use Rattle.integers.specs.Order.{_≼_, _≺_}
@@ -20,12 +20,10 @@ use Rattle.cosine.proofs.Ranges.{cosine-range, sine-range}
 use Rattle.direction.specs.Angles.{units-angle}
 use Rattle.direction.specs.Direction.{quarter-steps, turn-steps, steps-angle, not-past, greatest, in-quarter}
 use Rattle.integers.proofs.Rounding.{rounded-mono, rounded-zero}
+use Rattle.integers.proofs.Order.{≼-nat}
 use Rattle.direction.proofs.Quarter.{Opens, quarter-opens}
 
 -- ---- the angles of the steps rise from 0 to a quarter
-≼-nat : (m n : ℕ) → m ≤ n → pos m ≼ pos n
-≼-nat m n h = record { le = le→leb m n h }
-
 steps-rise : (j k : ℕ) → j ≤ k → steps-angle (pos j) ≼ steps-angle (pos k)
 unfolding steps-angle units-angle
 steps-rise j k l =

@@ -7,6 +7,7 @@ use borrow.Author.Tests.{lt-ltb, le-leb, ne-eqb, eq-eqb}
 use lib.Dec.{T}
 use lib.IntN.{ℤ, pos, negsuc, negℤ, natAbs}
 use Rattle.integers.specs.Signs.{negative, sgn}
+use Rattle.integers.proofs.Order.{natAbs-neg}
 use Rattle.direction.specs.Direction.{quarter-steps, in-quarter, first-quarter, turned-in, direction}
 
 -- ---- one step of the definition
@@ -33,10 +34,6 @@ turn-below t n (pos m) = either (lib.Dec.ltb 0 m)
     either false = refl
 turn-below t n (negsuc m) = refl
 
-abs-neg : (m : ℕ) → natAbs (negℤ (pos m)) ≡ m
-abs-neg zero = refl
-abs-neg (suc m) = refl
-
 -- ---- the four quarters; 0 has either sign
 pub no-turn : (x y : ℕ) → 0 < x → direction (sgn false x) (sgn false y) ≡ 0 * quarter-steps + in-quarter (pos x) (pos y)
 unfolding sgn
@@ -49,7 +46,7 @@ one-turn x y h = no-origin (negℤ (pos x)) (pos y) (omega arith) ∙ turn-neg 2
 pub two-turns : (x y : ℕ) → 0 < x → direction (sgn true x) (sgn true y) ≡ 2 * quarter-steps + in-quarter (pos x) (pos y)
 unfolding sgn
 two-turns x y h =
-    no-origin (negℤ (pos x)) (negℤ (pos y)) (omega (arith, abs-neg x)) ∙ turn-neg 2 x (negℤ (pos y)) ∙ omega (arith, turn-neg 1 y (pos x), stop 1 x y h)
+    no-origin (negℤ (pos x)) (negℤ (pos y)) (omega (arith, natAbs-neg (pos x))) ∙ turn-neg 2 x (negℤ (pos y)) ∙ omega (arith, turn-neg 1 y (pos x), stop 1 x y h)
 
 pub three-turns : (x y : ℕ) → 0 < y → direction (sgn false x) (sgn true y) ≡ 3 * quarter-steps + in-quarter (pos y) (pos x)
 unfolding sgn

@@ -1,17 +1,19 @@
 -- The order of ℤ beyond what a certificate proves: cases, antisymmetry, cancelling a positive factor, magnitudes, and the range of an i64. Assumes nothing.
 use mathlib.Core.Path.{_≡_, refl, sym, ap, ap₂, _∙_, subst, subst₂}
+use mathlib.Core.Bool.{Bool, true, false}
 use mathlib.Core.List.{List, [], _∷_}
 use mathlib.Core.Logic.{_⊎_, inl, inr}
 use Prim.Native.Nat.{ℕ, zero, suc, _+_, _-_, _*_, _^_, _≤_, _<_}
 use native.Mathlib.Omega.{arith, by-contra}
 use native.Mathlib.Decide.{decLe}
 use native.Mathlib.Nat.{mul-le-mul-left}
-use lib.Dec.{T}
+use lib.Dec.{T, le→leb}
 use lib.IntN.{ℤ, pos, negsuc, negℤ, natAbs, subℕ, _+ℤ_, _-ℤ_, _*ℤ_}
 use lib.Signed.{_≤ℤ_, _<ℤ_, mag}
 use mir.Syntax.{w64}
 use mir.Val.{SFits}
 use Rattle.integers.specs.Order.{_≼_, _≺_}
+use Rattle.integers.specs.Signs.{sgn}
 use Rattle.integers.proofs.Pairs.{up, dn, int, nat, negᵢ, _+ᵢ_, _-ᵢ_, _*ᵢ_, same, less, less⁻¹, <ℤ-suc, suc-<ℤ, ≤ℤ-trans, nonneg, from-nonneg}
 use Rattle.integers.proofs.Ring.{#, _⊕_, _⊖_, _⊗_, norm, nonn, zer}
 use Rattle.integers.proofs.Auto.{Poly, polys, ring!, cert!, cert<!, gap, gap<, gap≡, _⊞_, _⊛_, _·_, sqr}
@@ -74,19 +76,32 @@ squares-le x y hy h = go (≼-or-≺ x y)
 
 -- ---- magnitudes
 
+pub ≼-nat : (m n : ℕ) → m ≤ n → pos m ≼ pos n
+≼-nat m n h = record { le = le→leb m n h }
+
+pub ≺-nat : (n : ℕ) → 0 < n → pos 0 ≺ pos n
+≺-nat n h = record { lt = le→leb 1 n h }
+
+pub natAbs-neg : (x : ℤ) → natAbs (negℤ x) ≡ natAbs x
+natAbs-neg (pos zero) = refl
+natAbs-neg (pos (suc n)) = refl
+natAbs-neg (negsuc n) = refl
+
 pub natAbs-* : (x y : ℤ) → natAbs (x *ℤ y) ≡ natAbs x * natAbs y
 natAbs-* (pos a) (pos b) = refl
-natAbs-* (pos a) (negsuc b) = abs-neg (a * suc b)
-  where
-    abs-neg : (n : ℕ) → natAbs (negℤ (pos n)) ≡ n
-    abs-neg zero = refl
-    abs-neg (suc n) = refl
-natAbs-* (negsuc a) (pos b) = abs-neg (suc a * b)
-  where
-    abs-neg : (n : ℕ) → natAbs (negℤ (pos n)) ≡ n
-    abs-neg zero = refl
-    abs-neg (suc n) = refl
+natAbs-* (pos a) (negsuc b) = natAbs-neg (pos (a * suc b))
+natAbs-* (negsuc a) (pos b) = natAbs-neg (pos (suc a * b))
 natAbs-* (negsuc a) (negsuc b) = refl
+
+pub square-natAbs : (x : ℤ) → x *ℤ x ≡ pos (natAbs x * natAbs x)
+square-natAbs (pos n) = refl
+square-natAbs (negsuc n) = refl
+
+pub natAbs-sgn : (s : Bool) (m : ℕ) → natAbs (sgn s m) ≡ m
+unfolding sgn
+natAbs-sgn false m = refl
+natAbs-sgn true zero = refl
+natAbs-sgn true (suc m) = refl
 
 -- |x| ≤ b is −b ≼ x ≼ b
 pub natAbs-low : (x : ℤ) (b : ℕ) → natAbs x ≤ b → negℤ (pos b) ≼ x
@@ -109,11 +124,6 @@ natAbs-+ x y =
     (let a = natAbs-high x (natAbs x) (omega arith) in let b = natAbs-high y (natAbs y) (omega arith) in
     cert! (x ∷ y ∷ pos (natAbs x) ∷ pos (natAbs y) ∷ []) 0 (gap a ⊞ gap b) (search polys depth 30) (search polys depth 30) (search polys depth 30) tt)
 
-pub natAbs-neg : (x : ℤ) → natAbs (negℤ x) ≡ natAbs x
-natAbs-neg (pos zero) = refl
-natAbs-neg (pos (suc n)) = refl
-natAbs-neg (negsuc n) = refl
-
 pub natAbs-sub : (x y : ℤ) → natAbs (x -ℤ y) ≤ natAbs x + natAbs y
 natAbs-sub x y = subst (λ (n : ℕ). natAbs (x -ℤ y) ≤ natAbs x + n) (natAbs-neg y) (natAbs-+ x (negℤ y))
 
@@ -122,3 +132,8 @@ natAbs-sub x y = subst (λ (n : ℕ). natAbs (x -ℤ y) ≤ natAbs x + n) (natAb
 pub fits : (x : ℤ) → natAbs x < 2 ^ 63 → SFits w64 x
 fits (pos n) h = record { sfits = h }
 fits (negsuc n) h = record { sfits = let k : suc n < 2 ^ 63 = h in omega arith }
+
+pub nat-difference-fits : (a b : ℕ) → a < 2 ^ 63 → b < 2 ^ 63 → SFits w64 (pos a -ℤ pos b)
+nat-difference-fits a b h k =
+    let l = natAbs-le (pos a -ℤ pos b) 9223372036854775807 (less (negᵢ (nat 9223372036854775807)) (nat a -ᵢ nat b) (omega arith)) (less (nat a -ᵢ nat b) (nat 9223372036854775807) (omega arith)) in
+    fits (pos a -ℤ pos b) (omega arith)

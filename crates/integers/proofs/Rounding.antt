@@ -5,13 +5,12 @@ use mathlib.Core.Logic.{_⊎_, inl, inr}
 use Prim.Native.Nat.{ℕ, zero, suc, _*_, _+_, _≤_, _<_}
 use native.Mathlib.Omega.{arith}
 use native.Mathlib.Nat.{mul-pos}
-use lib.Dec.{le→leb}
 use lib.IntN.{ℤ, pos, _+ℤ_, _-ℤ_, _*ℤ_}
 use Rattle.integers.specs.Order.{_≼_, _≺_}
 use Rattle.integers.specs.Division.{floor, rounded}
 use Rattle.integers.proofs.Pairs.{nonneg}
 use Rattle.integers.proofs.Auto.{ring!, cert!, cert<!, polys, gap, gap<, _⊞_, _⊛_, _·_}
-use Rattle.integers.proofs.Order.{≼-or-≺}
+use Rattle.integers.proofs.Order.{≼-or-≺, ≼-nat}
 use Rattle.integers.proofs.Division.{floor-is, rounded-low, rounded-high}
 
 -- ---- rounding keeps the order, also past a multiple of the divisor
@@ -34,17 +33,11 @@ unfolding rounded
 rounded-zero d h =
     floor-is (pos 2 *ℤ pos 0 +ℤ pos d) (pos 0) (2 * d) (omega arith)
     (cert! (pos d ∷ []) 0 (nonneg d) (search polys depth 60 fits 100000) (search polys depth 60 fits 100000) (search polys depth 60 fits 100000) tt)
-    (cert<! (pos d ∷ []) 0 (gap (above d h)) (search polys depth 60 fits 100000) (search polys depth 60 fits 100000) (search polys depth 60 fits 100000) tt)
-  where
-    above : (d : ℕ) → 0 < d → pos 1 ≼ pos d
-    above d h = record { le = le→leb 1 d h }
+    (cert<! (pos d ∷ []) 0 (gap (≼-nat 1 d h)) (search polys depth 60 fits 100000) (search polys depth 60 fits 100000) (search polys depth 60 fits 100000) tt)
 
 -- ---- a factor of both numbers does not count
 pub rounded-scale : (k : ℕ) (n : ℤ) (d : ℕ) → 0 < k → 0 < d → rounded (pos k *ℤ n) (k * d) ≡ rounded n d
 rounded-scale k n d hk h = unfold rounded in
     floor-is (pos 2 *ℤ (pos k *ℤ n) +ℤ pos (k * d)) (rounded n d) (2 * (k * d)) (omega (arith, mul-pos hk h))
     (cert! (pos k ∷ n ∷ pos d ∷ rounded n d ∷ []) 0 (nonneg k ⊛ gap (rounded-low n d h)) (search polys depth 60 fits 100000) (search polys depth 60 fits 100000) (search polys depth 60 fits 100000) tt)
-    (cert<! (pos k ∷ n ∷ pos d ∷ rounded n d ∷ []) 0 ((gap (above-one k hk) ⊞ nonneg 1) ⊛ gap< (rounded-high n d h) ⊞ gap (above-one k hk)) (search polys depth 60 fits 100000) (search polys depth 60 fits 100000) (search polys depth 60 fits 100000) tt)
-  where
-    above-one : (k : ℕ) → 0 < k → pos 1 ≼ pos k
-    above-one k h = record { le = le→leb 1 k h }
+    (cert<! (pos k ∷ n ∷ pos d ∷ rounded n d ∷ []) 0 ((gap (≼-nat 1 k hk) ⊞ nonneg 1) ⊛ gap< (rounded-high n d h) ⊞ gap (≼-nat 1 k hk)) (search polys depth 60 fits 100000) (search polys depth 60 fits 100000) (search polys depth 60 fits 100000) tt)

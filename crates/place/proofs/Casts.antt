@@ -5,7 +5,7 @@ use native.Mathlib.Omega.{arith}
 use lib.Dec.{T, le→leb, lt→ltb}
 use lib.IntN.{ℤ, pos, negsuc, natAbs}
 use lib.Ieee.{Float, binary64, ofInt, ofBits, div, inFloat}
-use Rattle.vectors.proofs.Cells.{Cell, cell}
+use Rattle.arith.proofs.Cells.{Cell, cell}
 use Rattle.place.specs.Mount.{degrees, astronomical-units, mount-place}
 use Rattle.place.specs.declared.Equatorial.{Equatorial}
 use Rattle.place.specs.declared.MountPlace.{MountPlace}

@@ -11,7 +11,7 @@ use Rattle.integers.proofs.Order.{natAbs-sub, natAbs-*, fits}
 use Rattle.arith.proofs.Ranges.{rounded-within}
 use Rattle.units.specs.Units.{t-limit}
 use Rattle.units.specs.declared.Instant.{Instant}
-use Rattle.vectors.proofs.Cells.{Cell, cell}
+use Rattle.arith.proofs.Cells.{Cell, cell}
 use Rattle.place.specs.Apparent.{light-time, earlier}
 
 light-is : (d : ℕ) → rounded (pos 499004781984 *ℤ pos d) (10000000 * 10000000000) ≡ light-time d

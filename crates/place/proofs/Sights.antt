@@ -11,7 +11,7 @@ use Rattle.vectors.specs.declared.Vector.{Vector}
 use Rattle.vectors.specs.Vectors.{geocentric, length, radius-usable, usable}
 use Rattle.vectors.specs.Rectangular.{place, distance, places-usable}
 use Rattle.vectors.specs.Sizes.{Components}
-use Rattle.vectors.proofs.Cells.{Cell, cell}
+use Rattle.arith.proofs.Cells.{Cell, cell}
 use Rattle.vectors.proofs.Places.{place-size, smaller, length-in}
 use Rattle.vectors.proofs.Usable.{radius-size}
 use Rattle.place.specs.declared.Geocentric.{Geocentric}

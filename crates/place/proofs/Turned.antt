@@ -12,7 +12,7 @@ use Rattle.units.specs.Units.{U}
 use Rattle.cosine.specs.Cosine.{cosine, sine}
 use Rattle.vectors.specs.declared.Vector.{Vector}
 use Rattle.vectors.specs.Sizes.{Components}
-use Rattle.vectors.proofs.Cells.{Cell, cell}
+use Rattle.arith.proofs.Cells.{Cell, cell}
 use Rattle.vectors.proofs.Places.{cosine-size, sine-size, scaled-size, three}
 use Rattle.place.specs.Apparent.{turned}
 

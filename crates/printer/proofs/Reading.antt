@@ -7,7 +7,7 @@ use native.Mathlib.Omega.{arith}
 use lib.IntN.{ℤ, pos, negsuc, natAbs}
 use Rattle.integers.specs.Signs.{negative, sgn}
 use Rattle.integers.proofs.Division.{sgn-natAbs}
-use Rattle.arith.proofs.Ranges.{natAbs-sgn}
+use Rattle.integers.proofs.Order.{natAbs-sgn}
 use Rattle.units.specs.Units as units
 use Rattle.packed.specs.declared.Term.{Term}
 use Rattle.text.specs.Grammar.{numeral, Natural, Decimal, size, value, GoodDecimal, CountLine, count, GoodCount, TermLine, GoodTerm, termIn, Block, AllGood}

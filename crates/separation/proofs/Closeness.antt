@@ -3,12 +3,12 @@ use mathlib.Core.Path.{refl, subst}
 use mathlib.Core.List.{[], _∷_}
 use Prim.Native.Nat.{ℕ, _≤_, _<_}
 use native.Mathlib.Omega.{arith}
-use lib.Dec.{le→leb, leb→le}
+use lib.Dec.{leb→le}
 use lib.IntN.{ℤ, pos, negℤ, _+ℤ_, _-ℤ_, _*ℤ_}
 use Rattle.integers.specs.Order.{_≼_, _≺_}
 use Rattle.integers.proofs.Pairs.{nonneg, ≤ℤ-trans}
 use Rattle.integers.proofs.Auto.{polys, ring!, cert!, cert<!, gap, gap<, _⊞_, _⊛_, _·_}
-use Rattle.integers.proofs.Order.{≺-≼, product-pos}
+use Rattle.integers.proofs.Order.{≺-≼, product-pos, ≺-nat}
 use Rattle.integers.proofs.Bounds.{Bd, bd-*, bd-+, bd-neg, bd-self, bd-as}
 use Rattle.units.specs.Units.{U}
 use Rattle.vectors.specs.declared.Vector.{Vector}
@@ -201,9 +201,6 @@ module _ (Q : ℤ) (planet earth planet* earth* : Figures) (sky : Sky Q planet e
   D-pos : 0 < D
   D-pos = at-least 10000000000 D (omega arith) (sky .usable .apart)
 
-  lift< : (n : ℕ) → 0 < n → pos 0 ≺ pos n
-  lift< n h = record { lt = le→leb 1 n h }
-
   pub close : Close (unit (sun (placed earth))) (unit (sub (placed planet) (placed earth))) (sun (whole-place Q earth*)) (sub (whole-place Q planet*) (whole-place Q earth*))
   unfolding unit unit-over
   close =
@@ -214,8 +211,8 @@ module _ (Q : ℤ) (planet earth planet* earth* : Figures) (sky : Sky Q planet e
       (pos 2 *ℤ pos U *ℤ earth .R) (pos 2 *ℤ pos U) (pos 2 *ℤ (pos l *ℤ q) *ℤ earth* .R) (pos 2 *ℤ (pos D *ℤ (Q *ℤ q))) _ _
       (product-pos (pos 2 *ℤ pos U) (earth .R) (record { lt = tt }) (cert<! (earth .R ∷ []) 0 (gap (sky .usable .earth-far)) (search polys depth 60 fits 100000) (search polys depth 60 fits 100000) (search polys depth 60 fits 100000) tt))
       (record { lt = tt })
-      (product-pos (pos 2 *ℤ (pos l *ℤ q)) (earth* .R) (product-pos (pos 2) (pos l *ℤ q) (record { lt = tt }) (product-pos (pos l) q (lift< l l-pos) (product-pos Q Q hQ hQ))) p-pos)
-      (product-pos (pos 2) (pos D *ℤ (Q *ℤ q)) (record { lt = tt }) (product-pos (pos D) (Q *ℤ q) (lift< D D-pos) (product-pos Q q hQ (product-pos Q Q hQ hQ))))
+      (product-pos (pos 2 *ℤ (pos l *ℤ q)) (earth* .R) (product-pos (pos 2) (pos l *ℤ q) (record { lt = tt }) (product-pos (pos l) q (≺-nat l l-pos) (product-pos Q Q hQ hQ))) p-pos)
+      (product-pos (pos 2) (pos D *ℤ (Q *ℤ q)) (record { lt = tt }) (product-pos (pos D) (Q *ℤ q) (≺-nat D D-pos) (product-pos Q q hQ (product-pos Q Q hQ hQ))))
       (sun-near Q hQ l earth earth* l-pos R₀ (≺-≼ p-pos) (sky .earth-faithful))
       (planet-near Q hQ D planet planet* earth earth* D-pos P₀ R₀ (sky .planet-faithful) (sky .earth-faithful))
       (sun-small (pos l) q (earth .R) (earth* .R) (Q₁ ⊛ Q₁) (≺-≼ p-pos) l-long l-least)

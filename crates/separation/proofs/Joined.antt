@@ -1,7 +1,7 @@
 -- The two halves for working coordinates and exact ones, given that the figures made of them are near. Assumes nothing.
 use mathlib.Core.Path.{_≡_, refl, sym, subst}
 use mathlib.Core.List.{[], _∷_}
-use mathlib.Core.Bool.{Bool, true, false, _&&_}
+use mathlib.Core.Bool.{Bool, true, _&&_}
 use Prim.Native.Nat.{ℕ, _+_, _*_, _-_, _/_, _≤_}
 use native.Mathlib.Omega.{arith}
 use lib.Dec.{T, leb}
@@ -18,7 +18,7 @@ use Rattle.vectors.specs.Vectors.{sun, squared, length, unit, radius-usable, us
 use Rattle.vectors.specs.Rectangular.{rectangular, place, distance, places-usable}
 use Rattle.separation.specs.Exact.{Exact-coordinates, exact-sun, exact-geocentric, cosine-of-arcminutes, Within-arcminutes}
 use Rattle.separation.specs.Listed.{squared-separation, threshold, listed}
-use Rattle.integers.proofs.Tests.{and-left, and-right}
+use Rattle.integers.proofs.Tests.{is-true, and-left, and-right}
 use Rattle.separation.proofs.Form.{dot, sub}
 use Rattle.separation.proofs.Row.{Row}
 use Rattle.separation.proofs.Halves.{exact-listed, listed-exact}
@@ -48,10 +48,6 @@ placed-is c = refl
 true-T : (b : Bool) → b ≡ true → T b
 true-T b e = subst (λ (a : Bool). T a) (sym e) tt
 
-T-true : (b : Bool) → T b → b ≡ true
-T-true true t = refl
-T-true false t = absurd t
-
 radius-least : (r : ℤ) → T (radius-usable r) → pos 10000000000 ≼ r
 unfolding radius-usable
 radius-least r t = record { le = and-left (leZ (pos (parts / 10)) r) (leZ r (pos (64 * parts))) t }
@@ -77,7 +73,7 @@ Near-sun k p e = let u = unit (sun (placed (figures e))) in let v = unit (sub (p
 
 listed-of : (k : ℕ) (p e : Coordinates) → Near-sun k p e → listed k p e ≡ true
 unfolding listed squared-separation squared dot placed figures place rectangular
-listed-of k p e h = T-true _ (h .le)
+listed-of k p e h = is-true _ (h .le)
 
 of-listed : (k : ℕ) (p e : Coordinates) → listed k p e ≡ true → Near-sun k p e
 unfolding listed squared-separation squared dot placed figures place rectangular

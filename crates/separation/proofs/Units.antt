@@ -4,13 +4,13 @@ use mathlib.Core.List.{[], _∷_}
 use Prim.Native.Nat.{ℕ, _+_, _*_, _≤_, _<_}
 use native.Mathlib.Omega.{arith}
 use lib.IntN.{ℤ, pos, negsuc, negℤ, natAbs, _+ℤ_, _*ℤ_}
-use lib.Dec.{le→leb, leb→le}
+use lib.Dec.{leb→le}
 use Rattle.integers.specs.Order.{_≼_}
 use Rattle.integers.specs.Division.{rounded}
 use Rattle.integers.specs.Root.{root}
 use Rattle.integers.proofs.Pairs.{nonneg}
 use Rattle.integers.proofs.Auto.{polys, ring!, cert!, cert<!, gap, gap≡, _⊞_, _⊛_, _·_, sqr}
-use Rattle.integers.proofs.Order.{cert*! }
+use Rattle.integers.proofs.Order.{cert*!, ≼-nat}
 use Rattle.integers.proofs.Root.{root-spec}
 use Rattle.integers.proofs.Bounds.{bd-rounded}
 use Rattle.units.specs.Units.{U}
@@ -33,19 +33,16 @@ natAbs-of : (z : ℤ) → pos 0 ≼ z → pos (natAbs z) ≡ z
 natAbs-of (pos n) h = refl
 natAbs-of (negsuc n) h = absurd (h .le)
 
-lift≤ : (m n : ℕ) → m ≤ n → pos m ≼ pos n
-lift≤ m n h = record { le = le→leb m n h }
-
 pub length-low² : (a : Vector) → pos (length a) *ℤ pos (length a) ≼ dot a a
 unfolding length squared dot
-length-low² a = subst (λ (t : ℤ). pos (root (natAbs (dot a a)) * root (natAbs (dot a a))) ≼ t) (natAbs-of (dot a a) (square-nonneg a)) (lift≤ _ _ (root-spec (natAbs (dot a a)) .low))
+length-low² a = subst (λ (t : ℤ). pos (root (natAbs (dot a a)) * root (natAbs (dot a a))) ≼ t) (natAbs-of (dot a a) (square-nonneg a)) (≼-nat _ _ (root-spec (natAbs (dot a a)) .low))
 
 pub length-high² : (a : Vector) → dot a a ≼ pos (length a) *ℤ pos (length a) +ℤ pos 2 *ℤ pos (length a)
 unfolding length squared dot
 length-high² a =
     let r = root (natAbs (dot a a)) in
     let h : natAbs (dot a a) ≤ r * r + 2 * r = below r (natAbs (dot a a)) (root-spec (natAbs (dot a a)) .high) in
-    subst (λ (t : ℤ). t ≼ pos (r * r + 2 * r)) (natAbs-of (dot a a) (square-nonneg a)) (lift≤ _ _ h)
+    subst (λ (t : ℤ). t ≼ pos (r * r + 2 * r)) (natAbs-of (dot a a) (square-nonneg a)) (≼-nat _ _ h)
   where
     below : (r n : ℕ) → n < (r + 1) * (r + 1) → n ≤ r * r + 2 * r
     below r n h = omega arith

@@ -1,25 +1,25 @@
 -- P2's ladder: a term, a block and the running sum against the exact ones. Assumes nothing.
-use mathlib.Core.Path.{_≡_, refl, sym, ap, ap₂, _∙_, subst, subst₂}
+use mathlib.Core.Path.{_≡_, refl, sym, ap, _∙_, subst, subst₂}
 use mathlib.Core.Bool.{Bool, true, false, cond}
 use mathlib.Core.List.{List, [], _∷_}
-use Prim.Native.Nat.{ℕ, zero, suc, _+_, _*_, _^_, _≤_, _<_}
+use Prim.Native.Nat.{ℕ, zero, suc, _+_, _*_, _^_, _≤_}
 use native.Mathlib.Omega.{arith}
 use borrow.Author.Tests.{eqb-true}
 use lib.Dec.{eqb}
-use lib.IntN.{ℤ, pos, negsuc, natAbs, _+ℤ_, _-ℤ_, _*ℤ_, zero-*ℤ}
-use Rattle.integers.specs.Order.{_≼_, _≺_}
+use lib.IntN.{ℤ, pos, negsuc, natAbs, _+ℤ_, _*ℤ_, zero-*ℤ}
+use Rattle.integers.specs.Order.{_≺_}
 use Rattle.integers.specs.Division.{floor, rounded, modulo}
-use Rattle.integers.specs.Fractions.{Fraction, _*ᶠ_, _+ᶠ_, wholeᶠ, overᶠ, powerᶠ}
-use Rattle.integers.proofs.Auto.{polys, ring!, cert!, gap, gap≡, _⊞_, _⊛_, _·_}
+use Rattle.integers.specs.Fractions.{Fraction, _*ᶠ_, _+ᶠ_, wholeᶠ, powerᶠ}
+use Rattle.integers.proofs.Auto.{polys, ring!, cert!, gap}
 use Rattle.integers.proofs.Pairs.{nonneg}
-use Rattle.integers.proofs.Order.{natAbs-low, natAbs-high, ≼-antisym, cancel}
+use Rattle.integers.proofs.Order.{natAbs-low, natAbs-high, ≼-antisym}
 use Rattle.integers.proofs.Division.{rounded-add}
 use Rattle.integers.proofs.Tests.{both}
-use Rattle.integers.proofs.Bounds.{Bd, bd-rounded, bd-neg, bd-as}
+use Rattle.integers.proofs.Bounds.{Bd, bd-rounded}
 use Rattle.units.specs.Units.{U, millennium, t-limit, tau-limit}
 use Rattle.cosine.specs.Cosine.{cosine}
 use Rattle.cosine.specs.Reference.{Within}
-use Rattle.cosine.specs.Terms.{Allowed, term-angle, term-cosine, term-value, term-reference}
+use Rattle.cosine.specs.Terms.{term-angle, term-cosine, term-value, term-reference}
 use Rattle.cosine.proofs.Promise.{P1, P1-constant}
 use Rattle.cosine.proofs.Figures.{figures}
 use Rattle.packed.specs.declared.Term.{Term}

@@ -1,21 +1,21 @@
 -- From the error of the running sum to a distance in parts, for each coordinate of an accepted series. Assumes nothing.
-use mathlib.Core.Path.{_≡_, refl, sym, ap, _∙_, subst}
+use mathlib.Core.Path.{ap}
 use mathlib.Core.List.{List, [], _∷_}
-use Prim.Native.Nat.{ℕ, zero, suc, _+_, _*_, _^_, _≤_}
+use Prim.Native.Nat.{ℕ, _+_, _*_, _≤_}
 use native.Mathlib.Omega.{arith}
 use lib.Dec.{le→leb}
-use lib.IntN.{ℤ, pos, natAbs, negℤ, _+ℤ_, _-ℤ_, _*ℤ_}
+use lib.IntN.{ℤ, pos, natAbs}
 use lib.ListN.{take}
-use Rattle.integers.specs.Order.{_≼_, _≺_}
-use Rattle.integers.specs.Fractions.{Fraction, _*ᶠ_, _+ᶠ_, negᶠ, wholeᶠ, overᶠ, powerᶠ, Apart}
-use Rattle.integers.proofs.Auto.{polys, cert!, gap, _⊞_, _⊛_, _·_}
+use Rattle.integers.specs.Order.{_≼_}
+use Rattle.integers.specs.Fractions.{Fraction, _+ᶠ_, negᶠ, wholeᶠ, powerᶠ, Apart}
+use Rattle.integers.proofs.Auto.{polys, cert!, gap, _⊞_, _⊛_}
 use Rattle.integers.proofs.Order.{≺-≼}
-use Rattle.units.specs.Units.{U, t-limit, tau-limit}
+use Rattle.units.specs.Units.{U, t-limit}
 use Rattle.packed.specs.declared.Term.{Term}
 use Rattle.packed.specs.Limits.{coarse-base, coarse-limit}
 use Rattle.packed.specs.Allowed.{coarseness}
 use Rattle.series.specs.Sums.{running-sum}
-use Rattle.series.specs.Exact.{tau, exact-sum}
+use Rattle.series.specs.Exact.{exact-sum}
 use Rattle.series.proofs.Close.{Close}
 use Rattle.series.proofs.Accepted.{Blocks-in, in-take}
 use Rattle.series.proofs.Accuracy.{roundings, sum-close}

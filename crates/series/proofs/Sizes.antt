@@ -1,10 +1,9 @@
 -- How large a term's value, a block's sum and the running sum can be; with them every step stays within 64 bits. Assumes nothing.
-use mathlib.Core.Path.{_≡_, refl, sym, ap, _∙_, subst}
 use mathlib.Core.List.{List, [], _∷_}
-use Prim.Native.Nat.{ℕ, zero, suc, _+_, _*_, _-_, _^_, _≤_, _<_}
+use Prim.Native.Nat.{ℕ, suc, _+_, _*_, _^_, _≤_}
 use native.Mathlib.Omega.{arith, pow-step}
-use native.Mathlib.Nat.{mul-le-mul-left, le-refl}
-use lib.IntN.{ℤ, pos, natAbs, _+ℤ_, _*ℤ_}
+use native.Mathlib.Nat.{mul-le-mul-left}
+use lib.IntN.{ℤ, pos, natAbs, _*ℤ_}
 use lib.ListN.{length}
 use Rattle.integers.specs.Division.{rounded}
 use Rattle.integers.proofs.Order.{natAbs-*, natAbs-+, natAbs-le}

@@ -4,11 +4,11 @@ use mathlib.Core.Bool.{Bool, true, false, cond, _&&_}
 use Prim.Native.Nat.{ℕ, _+_, _*_, _^_, _≤_, _<_}
 use native.Mathlib.Omega.{arith}
 use native.Mathlib.Nat.{mul-le-mul}
-use lib.IntN.{ℤ, pos, negsuc, natAbs, negℤ, _+ℤ_, _-ℤ_, _*ℤ_}
+use lib.IntN.{ℤ, pos, natAbs, negℤ, _+ℤ_, _-ℤ_, _*ℤ_}
 use lib.Signed.{leZ}
 use mir.Syntax.{w64}
 use mir.Val.{SFits}
-use Rattle.integers.proofs.Order.{natAbs-sub, natAbs-neg, fits}
+use Rattle.integers.proofs.Order.{natAbs-sub, natAbs-neg, fits, square-natAbs}
 use Rattle.units.specs.Units.{U}
 use Rattle.units.specs.declared.Coordinates.{Coordinates}
 use Rattle.cosine.specs.Cosine.{sine}
@@ -57,10 +57,6 @@ threshold-size k = let s = sine (pos (half-angle k)) in subst (λ (t : ℤ). nat
 
 -- ---- separation
 
-square-is : (x : ℤ) → x *ℤ x ≡ pos (natAbs x * natAbs x)
-square-is (pos n) = refl
-square-is (negsuc n) = refl
-
 pub geocentric-size : (k : ℕ) (a b : Vector) → Components k a → Components k b → Components (k + k) (geocentric a b)
 unfolding geocentric
 geocentric-size k a b h g = record { x-in = one (a .x) (b .x) (h .x-in) (g .x-in); y-in = one (a .y) (b .y) (h .y-in) (g .y-in); z-in = one (a .z) (b .z) (h .z-in) (g .z-in) }
@@ -90,7 +86,7 @@ module _ (u v w : Vector) (hu : Components U u) (hv : Components U v) (hs : natA
   part-is : (x p : ℤ) → natAbs x ≤ U + U → p ≡ Cell x *ℤ Cell x → Cell p ≡ pos (natAbs x * natAbs x)
   part-is x p h e =
       let f : p ≡ x *ℤ x = e ∙ ap (λ (t : ℤ). t *ℤ t) (cell x (omega arith)) in
-      cell p (subst (λ (t : ℤ). natAbs t < 2 ^ 63) (sym f) (let s = square-size x (U + U) h in omega arith)) ∙ f ∙ square-is x
+      cell p (subst (λ (t : ℤ). natAbs t < 2 ^ 63) (sym f) (let s = square-size x (U + U) h in omega arith)) ∙ f ∙ square-natAbs x
 
   pub x-fits : SFits w64 (Cell (w .x) *ℤ Cell (w .x))
   x-fits = part-fits (w .x) (w-in .x-in)
@@ -103,7 +99,7 @@ module _ (u v w : Vector) (hu : Components U u) (hv : Components U v) (hs : natA
 
   squared-is : squared w ≡ pos (natAbs (w .x) * natAbs (w .x) + natAbs (w .y) * natAbs (w .y) + natAbs (w .z) * natAbs (w .z))
   unfolding squared
-  squared-is = rw (square-is (w .x), square-is (w .y), square-is (w .z))
+  squared-is = rw (square-natAbs (w .x), square-natAbs (w .y), square-natAbs (w .z))
 
   total-in : natAbs (w .x) * natAbs (w .x) + natAbs (w .y) * natAbs (w .y) + natAbs (w .z) * natAbs (w .z) < 2 ^ 63
   total-in = subst (λ (t : ℤ). natAbs t < 2 ^ 63) squared-is whole-in

@@ -1,12 +1,13 @@
 -- The judgement of a line's numbers over their magnitudes: what each test of the code says of the definitions. Assumes nothing.
 use mathlib.Core.Path.{_≡_, refl, sym, _∙_}
 use mathlib.Core.Bool.{Bool, true, false, cond}
-use Prim.Native.Nat.{ℕ, zero, suc, _+_, _*_, _%_, _^_, _≤_, _<_}
+use Prim.Native.Nat.{ℕ, _+_, _*_, _%_, _^_, _≤_, _<_}
 use native.Mathlib.Omega.{arith}
 use borrow.Author.Tests.{ltb-true, leb-true, eqb-true, le-leb, lt-leb, eq-eqb, ne-eqb}
 use lib.Dec.{leb, ltb, eqb}
 use lib.IntN.{ℤ, pos, natAbs}
 use Rattle.integers.specs.Signs.{sgn}
+use Rattle.integers.proofs.Order.{natAbs-sgn}
 use Rattle.packed.specs.declared.Sums.{Sums}
 use Rattle.packed.specs.Limits.{opened, added, factor, constant, weight, count-fits, a-fits, b-fits, c-fits, total-fits, coarse-fits}
 use Rattle.text.specs.declared.Line.{Line}
@@ -17,15 +18,9 @@ pub by-cases : {P : Type 0} (t : Bool) → (t ≡ true → P) → (t ≡ false �
 by-cases true f g = f refl
 by-cases false f g = g refl
 
-pub abs-sgn : (s : Bool) (m : ℕ) → natAbs (sgn s m) ≡ m
-unfolding sgn
-abs-sgn false m = refl
-abs-sgn true zero = refl
-abs-sgn true (suc m) = refl
-
 pub abs-signed : (minus value : ℕ) → natAbs (signed minus value) ≡ value
 unfolding signed
-abs-signed minus value = abs-sgn (ltb 0 minus) value
+abs-signed minus value = natAbs-sgn (ltb 0 minus) value
 
 pub factor-at : (k i : ℕ) → k % 6 ≡ i → factor k ≡ 2 ^ i
 unfolding factor

@@ -2,7 +2,7 @@
 use mathlib.Core.Path.{_≡_, refl, sym, ap, _∙_}
 use mathlib.Core.Bool.{Bool, true, false, cond}
 use mathlib.Core.List.{List, [], _∷_, _++_}
-use Prim.Native.Nat.{ℕ, zero, suc, _+_, _*_, _-_, _/_, _≤_, _<_}
+use Prim.Native.Nat.{ℕ, zero, suc, _+_, _*_, _-_, _≤_, _<_}
 use native.Mathlib.Nat.{add-zero, add-assoc}
 use native.Mathlib.Omega.{arith}
 use borrow.Author.Tests.{le-ltb, lt-ltb, le-leb, lt-leb}
@@ -10,12 +10,11 @@ use lib.Dec.{ltb}
 use lib.ListN.{length, set, length-append}
 use lib.Seq.{sets}
 use Rattle.integers.specs.Signs.{sgn}
-use Rattle.packed.specs.Numbers.{folded, groups, encode}
+use Rattle.packed.specs.Numbers.{folded, encode}
 use Rattle.packed.specs.declared.Term.{Term}
 use Rattle.packed.specs.declared.numbers.Put.the-variants.{Next, NoRoom}
 use Rattle.packed.specs.Series.{pack-term}
 use Rattle.text.specs.Judge.{signed}
-use Rattle.text.proofs.Judging.{by-cases}
 use Rattle.text.specs.Reader.{fits, putBytes}
 
 pub sets-append : (xs ys l : List ℕ) (i : ℕ) → sets l i (xs ++ ys) ≡ sets (sets l i xs) (i + length xs) ys
@@ -76,16 +75,3 @@ module _ (t : Term) (at : ℕ) (out : List ℕ) where
     where
       three : (x y z : List ℕ) → sets out at (x ++ y ++ z) ≡ sets (sets (sets out at x) (at + length x) y) (at + length x + length y) z
       three x y z = sets-append (x ++ y) z out at ∙ (rw (sets-append x y out at, length-append x y, add-assoc at (length x) (length y)))
-
--- A packed number has at most ten groups.
-groups-few : (n v : ℕ) → length (groups n v) ≤ n
-unfolding groups
-groups-few zero v = omega arith
-groups-few (suc n) v =
-    by-cases (ltb v 128)
-    (λ p. rw p (omega arith))
-    (λ p. rw p (omega (arith, groups-few n (v / 128))))
-
-pub encode-few : (v : ℕ) → length (encode v) ≤ 10
-unfolding encode
-encode-few v = groups-few 10 v

@@ -1,15 +1,15 @@
 -- The figures that the functions work out are those of the definitions, and no component is larger than R. Assumes nothing.
-use mathlib.Core.Path.{_≡_, refl, sym, ap, ap₂, _∙_, subst, subst₂}
+use mathlib.Core.Path.{_≡_, sym, ap, ap₂, _∙_, subst, subst₂}
 use Prim.Native.Nat.{ℕ, _+_, _-_, _*_, _^_, _≤_, _<_}
 use native.Mathlib.Omega.{arith, by-contra}
 use native.Mathlib.Nat.{mul-le-mul, le-trans}
 use mathlib.Core.List.{[], _∷_}
 use mir.Syntax.{w64}
 use mir.Val.{SFits}
-use lib.IntN.{ℤ, pos, negsuc, natAbs, negℤ, _+ℤ_, _-ℤ_, _*ℤ_}
+use lib.IntN.{ℤ, pos, natAbs, negℤ, _+ℤ_, _-ℤ_, _*ℤ_}
 use Rattle.integers.specs.Division.{rounded, modulo}
 use Rattle.integers.specs.Root.{root}
-use Rattle.integers.proofs.Order.{natAbs-le, natAbs-*, natAbs-+, natAbs-neg, natAbs-sub, fits}
+use Rattle.integers.proofs.Order.{natAbs-le, natAbs-*, natAbs-+, natAbs-neg, natAbs-sub, fits, square-natAbs}
 use Rattle.integers.proofs.Auto.{polys, ring! }
 use Rattle.integers.proofs.Division.{modulo-lt}
 use Rattle.integers.proofs.Root.{root-spec}
@@ -153,13 +153,9 @@ component x y z =
     next : (r x : ℕ) → r < x → r + 1 ≤ x
     next r x g = omega arith
 
-square-is : (x : ℤ) → x *ℤ x ≡ pos (natAbs x * natAbs x)
-square-is (pos n) = refl
-square-is (negsuc n) = refl
-
 squared-is : (v : Vector) → natAbs (squared v) ≡ natAbs (v .x) * natAbs (v .x) + natAbs (v .y) * natAbs (v .y) + natAbs (v .z) * natAbs (v .z)
 unfolding squared
-squared-is v = rw (square-is (v .x), square-is (v .y), square-is (v .z))
+squared-is v = rw (square-natAbs (v .x), square-natAbs (v .y), square-natAbs (v .z))
 
 pub within-length : (v : Vector) → Components (length v) v
 unfolding length

@@ -1,8 +1,8 @@
 -- When R and D are usable, in the order of the tests. Assumes nothing.
-use mathlib.Core.Path.{_≡_, refl, sym, ap, ap₂, _∙_, subst}
+use mathlib.Core.Path.{_≡_, sym, ap, ap₂, _∙_, subst}
 use mathlib.Core.Bool.{Bool, true, false, _&&_}
 use mathlib.Core.List.{[], _∷_}
-use Prim.Native.Nat.{ℕ, _+_, _*_, _^_, _≤_, _<_}
+use Prim.Native.Nat.{ℕ, _*_, _^_, _≤_, _<_}
 use native.Mathlib.Omega.{arith}
 use borrow.Author.Tests.{le-leb, lt-leb}
 use lib.IntN.{ℤ, pos, natAbs, _+ℤ_}
@@ -11,9 +11,8 @@ use mir.Syntax.{w64}
 use mir.Val.{SFits}
 use Rattle.integers.specs.Order.{_≼_}
 use Rattle.integers.proofs.Tests.{both, at-most}
-use Rattle.integers.proofs.Auto.{polys, cert!, gap, _⊞_}
+use Rattle.integers.proofs.Auto.{polys, cert!, gap}
 use Rattle.integers.proofs.Order.{natAbs-le, natAbs-+, fits}
-use Rattle.units.specs.Units.{parts}
 use Rattle.vectors.specs.Vectors.{radius-usable, usable}
 use Rattle.arith.proofs.Cells.{Cell, cell}
 

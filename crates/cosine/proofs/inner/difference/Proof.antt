@@ -5,7 +5,7 @@ use mir.Syntax.{w64}
 use mir.Val.{SFits, toZ, ofZ}
 use borrow.Author.Needs.{needs}
 use Rattle.arith.proofs.Signs.{back, ok}
-use Rattle.cosine.proofs.Natural.{difference-fits}
+use Rattle.integers.proofs.Order.{nat-difference-fits}
 use Rattle.cosine.proofs.inner.difference.Statement.{statement}
 use Rattle.cosine.proofs.inner.difference.Tie as tie
 
@@ -20,7 +20,7 @@ given : (c : tie.After-wide2) → toZ w64 (ofZ w64 (c .before .wide .result)) -�
 given c = ap₂ _-ℤ_ (back (c .before .wide .result) (ok (c .before .wide .ok)) ∙ c .before .wide .ensures) (back (c .wide2 .result) (ok (c .wide2 .ok)) ∙ c .wide2 .ensures)
 
 sub-requires : tie.Need-sub-requires
-sub-requires c κs = subst (λ t. SFits w64 t) (sym (given c)) (difference-fits _ _ (c .before .before .pre .0) (c .before .before .pre .1))
+sub-requires c κs = subst (λ t. SFits w64 t) (sym (given c)) (nat-difference-fits _ _ (c .before .before .pre .0) (c .before .before .pre .1))
 
 returns : tie.Need-returns
 returns c = back (c .sub .result) (ok (c .sub .ok)) ∙ c .sub .ensures ∙ given (c .before)

@@ -2,7 +2,7 @@
 use Prim.Native.Nat.{_<_, _^_}
 use native.Mathlib.Omega.{arith}
 use lib.IntN.{natAbs}
-use Rattle.vectors.proofs.Cells.{held-lt}
+use Rattle.arith.proofs.Cells.{held-lt}
 use Rattle.vectors.proofs.Places.{cosine-cell, sine-cell}
 use Rattle.place.proofs.Turned.{y-asks, z-asks, turned-is}
 use borrow.Author.Needs.{needs}

@@ -4,12 +4,13 @@ use Prim.Native.Nat.{ℕ, _+_, _≤_}
 use native.Mathlib.Omega.{arith}
 use borrow.Author.Needs.{needs}
 use lib.ListN.{length}
-use Rattle.text.proofs.Writing.{length-term, put-full, put-three, stored-three, encode-few}
+use Rattle.text.proofs.Writing.{length-term, put-full, put-three, stored-three}
 use Rattle.packed.specs.Numbers.{folded, encode}
 use Rattle.packed.specs.Series.{pack-term}
 use Rattle.text.specs.Judge.{termOf}
 use Rattle.text.proofs.writer.put_term.Statement.{statement}
 use Rattle.text.proofs.writer.put_term.Tie as tie
+use Rattle.packed.proofs.Encode.{encode-short}
 
 first : (c : tie.After-groups-of) → let l = c .before .before .before .before .args .l in c .groups-of .result ≡ length (encode (folded (termOf l .a)))
 first c = c .groups-of .ensures ∙ ap (λ (v : ℕ). length (encode v)) (c .before .before .fold .ensures)
@@ -19,9 +20,9 @@ last c = c .groups-of3 .ensures ∙ ap (λ (v : ℕ). length (encode v)) (c .bef
 
 few : (c : tie.After-groups-of3) → (c .before .before .groups-of .result ≤ 10) × (c .before .groups-of2 .result ≤ 10) × (c .groups-of3 .result ≤ 10)
 few c = (
-  rw (c .before .before .groups-of .ensures) (encode-few _),
-  rw (c .before .groups-of2 .ensures) (encode-few _),
-  rw (c .groups-of3 .ensures) (encode-few _),
+  rw (c .before .before .groups-of .ensures) (encode-short _),
+  rw (c .before .groups-of2 .ensures) (encode-short _),
+  rw (c .groups-of3 .ensures) (encode-short _),
 )
 
 total : (c : tie.After-groups-of3) → let a = c .before .before .before .before .before .before .args in
@@ -45,7 +46,7 @@ groups-of-requires-2 c κs = search needs
 add-n : tie.Need-add-n
 add-n c =
     let a = c .before .before .before .before .before .args in
-    omega (arith, encode-few (c .before .before .before .fold .result), encode-few (a .l .b), c .before .groups-of .ensures, c .groups-of2 .ensures)
+    omega (arith, encode-short (c .before .before .before .fold .result), encode-short (a .l .b), c .before .groups-of .ensures, c .groups-of2 .ensures)
 
 groups-of-requires-3 : tie.Need-groups-of-requires-3
 groups-of-requires-3 c κs = search needs
