@@ -11,10 +11,10 @@ use mir.Val.{SFits}
 use Rattle.integers.specs.Division.{rounded, modulo}
 use Rattle.integers.specs.Root.{root}
 use Rattle.integers.specs.Signs.{negative, sgn}
-use Rattle.integers.proofs.Order.{natAbs-+, natAbs-*, fits}
+use Rattle.integers.proofs.Order.{natAbs-+, natAbs-*, fits, natAbs-sgn}
 use Rattle.integers.proofs.Division.{modulo-lt, modulo-add}
 use Rattle.integers.proofs.Root.{root-spec}
-use Rattle.arith.proofs.Ranges.{natAbs-sgn, rounded-within}
+use Rattle.arith.proofs.Ranges.{rounded-within}
 use Rattle.units.specs.Units.{turn, t-limit}
 use Rattle.units.specs.declared.Instant.{Instant}
 use Rattle.cosine.proofs.Turns.{cosine-mod, sine-mod}
@@ -22,7 +22,7 @@ use Rattle.vectors.specs.declared.Vector.{Vector}
 use Rattle.vectors.specs.Vectors.{length, squared}
 use Rattle.vectors.specs.Rectangular.{rectangular}
 use Rattle.vectors.specs.Sizes.{Components}
-use Rattle.vectors.proofs.Cells.{Cell, cell, held-le, held-lt}
+use Rattle.arith.proofs.Cells.{Cell, cell, held-le, held-lt}
 use Rattle.vectors.proofs.Places.{squared-size, reduced, residue-small, smaller, rectangular-size}
 use Rattle.direction.specs.Angles.{units-angle}
 use Rattle.direction.specs.Direction.{quarter-steps, turn-steps, steps-angle, greatest, in-quarter, first-quarter, turned-in, direction, latitude}

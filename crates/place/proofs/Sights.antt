@@ -1,47 +1,25 @@
 -- What a sight asks on its way and answers, and the sizes of a usable one. Assumes nothing.
 use mathlib.Core.Path.{_≡_, refl, sym, ap, ap₂, _∙_, subst}
-use mathlib.Core.Bool.{Bool, true, false, cond, _&&_}
-use Prim.Native.Nat.{ℕ, _+_, _*_, _^_, _≤_, _<_}
+use mathlib.Core.Bool.{Bool, true, false}
+use Prim.Native.Nat.{ℕ, _^_, _<_}
 use native.Mathlib.Omega.{arith}
 use lib.Dec.{T}
-use lib.IntN.{ℤ, pos, natAbs, _-ℤ_}
-use Rattle.integers.proofs.Order.{natAbs-sub}
+use Rattle.integers.proofs.Tests.{both}
 use Rattle.units.specs.declared.Coordinates.{Coordinates}
 use Rattle.vectors.specs.declared.Vector.{Vector}
 use Rattle.vectors.specs.Vectors.{geocentric, length, radius-usable, usable}
 use Rattle.vectors.specs.Rectangular.{place, distance, places-usable}
 use Rattle.vectors.specs.Sizes.{Components}
 use Rattle.arith.proofs.Cells.{Cell, cell}
-use Rattle.vectors.proofs.Places.{place-size, smaller, length-in}
-use Rattle.vectors.proofs.Usable.{radius-size}
+use Rattle.vectors.proofs.Places.{smaller, length-in}
+use Rattle.vectors.proofs.Radii.{geocentric-size, place-in, radius-in}
 use Rattle.place.specs.declared.Geocentric.{Geocentric}
 use Rattle.place.specs.declared.Sight.{Sight}
 use Rattle.place.specs.declared.Sight.the-variants.{Usable, Unusable}
 use Rattle.place.specs.Apparent.{sight}
 use Rattle.place.specs.Sizes.{reach, Clear}
 
-both : (x y : Bool) → (x && y) ≡ true → (x ≡ true) × (y ≡ true)
-both true true e = (refl, refl)
-both true false e = (refl, e)
-both false y e = absurd (let z : T false = subst T (sym e) tt in z)
-
-geocentric-size : (k : ℕ) (a b : Vector) → Components k a → Components k b → Components (k + k) (geocentric a b)
-unfolding geocentric
-geocentric-size k a b h g = record { x-in = one (a .x) (b .x) (h .x-in) (g .x-in); y-in = one (a .y) (b .y) (h .y-in) (g .y-in); z-in = one (a .z) (b .z) (h .z-in) (g .z-in) }
-  where
-    one : (x y : ℤ) → natAbs x ≤ k → natAbs y ≤ k → natAbs (x -ℤ y) ≤ k + k
-    one x y h g = let s = natAbs-sub x y in omega arith
-
-place-in : (c : Coordinates) → radius-usable (c .radius) ≡ true → Components 6400000000000 (place c)
-place-in c h = smaller (natAbs (c .radius)) 6400000000000 (place c) (radius-size (c .radius) h) (place-size c)
-
-pub radius-in : (r : ℤ) → radius-usable r ≡ true → natAbs r < 2 ^ 63
-radius-in r h = let s = radius-size r h in omega arith
-
 -- The tests of both R.
-pub tested : (r : ℤ) (b : Bool) → Cell r ≡ r → b ≡ radius-usable (Cell r) → b ≡ true → radius-usable r ≡ true
-tested r b e f h = ap radius-usable (sym e) ∙ sym f ∙ h
-
 pub planet-refused : (planet earth : Coordinates) (b : Bool) → Cell (planet .radius) ≡ planet .radius → b ≡ radius-usable (Cell (planet .radius)) → b ≡ false → Unusable ≡ sight planet earth
 unfolding sight places-usable usable
 planet-refused planet earth b e f h = let g : radius-usable (planet .radius) ≡ false = ap radius-usable (sym e) ∙ sym f ∙ h in rw g

@@ -13,7 +13,7 @@ use Rattle.units.specs.declared.Instant.{Instant}
 use Rattle.units.specs.declared.Refusal.{Refusal}
 use Rattle.units.specs.declared.Refusal.the-variants.{PastLimit, BadWindow}
 use Rattle.packed.specs.Series.{parse}
-use Rattle.vectors.proofs.Cells.{Cell}
+use Rattle.arith.proofs.Cells.{Cell}
 use Rattle.sunlist.specs.declared.ListAnswer.{ListAnswer}
 use Rattle.sunlist.specs.declared.ListAnswer.the-variants.{NoList}
 use Rattle.sunlist.specs.SunList.{minute, window-fits, Outcome, no-numbers, of-series, outcome, answered, written, sun-list, sun-list-out}

@@ -1,14 +1,13 @@
 -- What the functions of one minute ask of each other and answer, from the bits of their numbers. Assumes nothing.
 use mathlib.Core.Path.{_≡_, refl, sym, ap, ap₂, _∙_, subst}
-use mathlib.Core.Bool.{Bool, true, false, cond, _&&_}
+use mathlib.Core.Bool.{Bool, true, false}
 use Prim.Native.Nat.{ℕ, _+_, _*_, _^_, _≤_, _<_}
 use native.Mathlib.Omega.{arith}
-use native.Mathlib.Nat.{mul-le-mul}
-use lib.IntN.{ℤ, pos, natAbs, negℤ, _+ℤ_, _-ℤ_, _*ℤ_}
+use lib.IntN.{ℤ, pos, natAbs, negℤ, _+ℤ_, _*ℤ_}
 use lib.Signed.{leZ}
 use mir.Syntax.{w64}
 use mir.Val.{SFits}
-use Rattle.integers.proofs.Order.{natAbs-sub, natAbs-neg, fits, square-natAbs}
+use Rattle.integers.proofs.Order.{natAbs-neg, fits, square-natAbs}
 use Rattle.units.specs.Units.{U}
 use Rattle.units.specs.declared.Coordinates.{Coordinates}
 use Rattle.cosine.specs.Cosine.{sine}
@@ -17,11 +16,10 @@ use Rattle.vectors.specs.Vectors.{geocentric, sun, squared, length, unit, radiu
 use Rattle.vectors.specs.Rectangular.{place, distance, places-usable}
 use Rattle.vectors.specs.Sizes.{Components}
 use Rattle.arith.proofs.Cells.{Cell, cell}
-use Rattle.vectors.proofs.Places.{sine-size, place-size, smaller}
-use Rattle.vectors.proofs.Usable.{radius-size}
+use Rattle.vectors.proofs.Places.{sine-size, smaller}
+use Rattle.vectors.proofs.Radii.{geocentric-size, place-in, radius-in}
 use Rattle.separation.specs.Listed.{squared-separation, threshold, listed}
 use Rattle.sunlist.specs.declared.Figures.{Figures}
-use Rattle.sunlist.specs.declared.Decision.{Decision}
 use Rattle.sunlist.specs.declared.Decision.the-variants.{Listed, Clear, Unusable}
 use Rattle.sunlist.specs.Minute.{figures, decide}
 use Rattle.sunlist.proofs.Separations.{half-angle, threshold-is, square-size, four-size, unit-size, sun-far, Usable, usable-is, separation-size}
@@ -56,13 +54,6 @@ threshold-size : (k : ℕ) → natAbs (threshold k) ≤ 4 * (U * U)
 threshold-size k = let s = sine (pos (half-angle k)) in subst (λ (t : ℤ). natAbs t ≤ 4 * (U * U)) (threshold-is k s refl) (four-size s (sine-size (pos (half-angle k))))
 
 -- ---- separation
-
-pub geocentric-size : (k : ℕ) (a b : Vector) → Components k a → Components k b → Components (k + k) (geocentric a b)
-unfolding geocentric
-geocentric-size k a b h g = record { x-in = one (a .x) (b .x) (h .x-in) (g .x-in); y-in = one (a .y) (b .y) (h .y-in) (g .y-in); z-in = one (a .z) (b .z) (h .z-in) (g .z-in) }
-  where
-    one : (x y : ℤ) → natAbs x ≤ k → natAbs y ≤ k → natAbs (x -ℤ y) ≤ k + k
-    one x y h g = let s = natAbs-sub x y in omega arith
 
 pub sun-size : (k : ℕ) (a : Vector) → Components k a → Components k (sun a)
 unfolding sun
@@ -125,12 +116,6 @@ module _ (u v w : Vector) (hu : Components U u) (hv : Components U v) (hs : natA
 
 -- ---- figures
 
-pub place-in : (c : Coordinates) → radius-usable (c .radius) ≡ true → Components 6400000000000 (place c)
-place-in c h = smaller (natAbs (c .radius)) 6400000000000 (place c) (radius-size (c .radius) h) (place-size c)
-
-pub radius-in : (r : ℤ) → radius-usable r ≡ true → natAbs r < 2 ^ 63
-radius-in r h = let s = radius-size r h in omega arith
-
 -- What is learnt of planet and Earth on the way to the figures.
 module _ (k : ℕ) (planet earth : Coordinates) (ok : places-usable planet earth ≡ true) (e g : Vector) (d : ℕ) (pe : e ≡ place earth) (pg : g ≡ geocentric (place planet) (place earth)) (pd : d ≡ distance planet earth) where
   far : Usable planet earth
@@ -184,9 +169,6 @@ module _ (k : ℕ) (planet earth : Coordinates) (ok : places-usable planet earth
           rw (a, b, pd, cell (planet .radius) (radius-in (planet .radius) (far .planet-radius)), cell (earth .radius) (radius-in (earth .radius) (far .earth-radius)))
 
 -- ---- decide
-
-pub tested : (r : ℤ) (b : Bool) → Cell r ≡ r → b ≡ radius-usable (Cell r) → b ≡ true → radius-usable r ≡ true
-tested r b e f h = ap radius-usable (sym e) ∙ sym f ∙ h
 
 pub planet-refused : (k : ℕ) (planet earth : Coordinates) (b : Bool) → Cell (planet .radius) ≡ planet .radius → b ≡ radius-usable (Cell (planet .radius)) → b ≡ false → Unusable ≡ decide k planet earth
 unfolding decide places-usable usable

@@ -7,6 +7,7 @@ use borrow.Author.Tests.{ltb-true, leb-true, eqb-true, le-leb, lt-leb, eq-eqb, n
 use lib.Dec.{leb, ltb, eqb}
 use lib.IntN.{ℤ, pos, natAbs}
 use Rattle.integers.specs.Signs.{sgn}
+use Rattle.integers.proofs.Tests.{false-true}
 use Rattle.integers.proofs.Order.{natAbs-sgn}
 use Rattle.packed.specs.declared.Sums.{Sums}
 use Rattle.packed.specs.Limits.{opened, added, factor, constant, weight, count-fits, a-fits, b-fits, c-fits, total-fits, coarse-fits}
@@ -104,16 +105,13 @@ pub record Small (l : Line) : Type 0 where
 pub small : (l : Line) → numbersFit (l .minusb) (termOf l) ≡ true → Small l
 small l e = go (sym (numbers-are l) ∙ e)
   where
-    never : false ≡ true → ⊥
-    never h = let z : _≡_ {A = ℕ} 0 1 = cc in omega arith
-
     go : cond (eqb (l .minusb) 0) (cond (ltb (l .a) 10000000000000000) (cond (ltb (l .b) 1000000000000) (ltb (l .value) 100000000000000000) false) false) false ≡ true → Small l
     go h =
         by-cases (eqb (l .minusb) 0) (λ p. by-cases (ltb (l .a) 10000000000000000) (λ q. by-cases (ltb (l .b) 1000000000000)
         (λ r. record { plain = eqb-true _ _ p; a = ltb-true _ _ q; b = ltb-true _ _ r; c = ltb-true _ _ (rw (p, q, r) at h) })
-        (λ r. absurd (never (rw (p, q, r) at h))))
-        (λ q. absurd (never (rw (p, q) at h))))
-        (λ p. absurd (never (rw p at h)))
+        (λ r. absurd (false-true (rw (p, q, r) at h))))
+        (λ q. absurd (false-true (rw (p, q) at h))))
+        (λ p. absurd (false-true (rw p at h)))
 
 pub small-of : (f : ℕ) (s : Sums) (l : Line) → termRefusal f s (l .minusb) (termOf l) ≡ 0 → Small l
 unfolding termRefusal

@@ -4,7 +4,8 @@ use mathlib.Core.Bool.{true}
 use borrow.Author.Needs.{needs}
 use borrow.Author.Tests.{not-true, not-false}
 use Rattle.vectors.specs.Vectors.{radius-usable}
-use Rattle.place.proofs.Sights.{radius-in, tested, planet-refused, earth-refused, places-ask, length-asks, distance-asks, distance-refused, sight-told}
+use Rattle.vectors.proofs.Radii.{radius-in, tested}
+use Rattle.place.proofs.Sights.{planet-refused, earth-refused, places-ask, length-asks, distance-asks, distance-refused, sight-told}
 use Rattle.place.proofs.inner.sight.Statement.{statement}
 use Rattle.place.proofs.inner.sight.Tie as tie
 

@@ -1,6 +1,6 @@
 -- `place::inner::to_equator` meets its contract. Assumes nothing.
 use Rattle.arith.proofs.Signs.{back}
-use Rattle.vectors.proofs.Cells.{Cell}
+use Rattle.arith.proofs.Cells.{Cell}
 use Rattle.place.proofs.Rebuilt.{turn-asks, equator-is}
 use borrow.Author.Needs.{needs}
 use Rattle.place.proofs.inner.to_equator.Statement.{statement}

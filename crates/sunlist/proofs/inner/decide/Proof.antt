@@ -4,7 +4,8 @@ use mathlib.Core.Bool.{true, false}
 use Rattle.vectors.specs.Vectors.{radius-usable}
 use Rattle.vectors.specs.Rectangular.{places-usable}
 use borrow.Author.Tests.{not-true, not-false}
-use Rattle.sunlist.proofs.Working.{radius-in, tested, planet-refused, earth-refused, places-ask, seen-is, length-asks, distance-is, radii-ask, usable-told, distance-refused, listed-told, clear-told}
+use Rattle.vectors.proofs.Radii.{radius-in, tested}
+use Rattle.sunlist.proofs.Working.{planet-refused, earth-refused, places-ask, seen-is, length-asks, distance-is, radii-ask, usable-told, distance-refused, listed-told, clear-told}
 use borrow.Author.Needs.{needs}
 use Rattle.sunlist.proofs.inner.decide.Statement.{statement}
 use Rattle.sunlist.proofs.inner.decide.Tie as tie
