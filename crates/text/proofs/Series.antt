@@ -1,6 +1,6 @@
 -- The packed form of an accepted text is an accepted packed series, of the same blocks: the text's limits are those of the packed series. Assumes nothing.
 use mathlib.Core.Path.{_≡_, refl, sym, ap, _∙_}
-use mathlib.Core.Bool.{Bool, true, false, _&&_}
+use mathlib.Core.Bool.{true, false}
 use mathlib.Core.List.{List, [], _∷_}
 use Prim.Native.Nat.{ℕ, suc, _+_, _≤_}
 use native.Mathlib.Omega.{arith}
@@ -8,6 +8,7 @@ use borrow.Author.Tests.{lt-ltb, le-leb, ltb-true, leb-true}
 use lib.Dec.{leb}
 use lib.ListN.{length, take, drop}
 use lib.Seq.{sets, sets-eq, take-append-seam}
+use Rattle.integers.proofs.Tests.{both}
 use Rattle.packed.specs.declared.Term.{Term}
 use Rattle.packed.specs.declared.Sums.{Sums}
 use Rattle.packed.specs.Limits.{block-limit, series-limit, block-count, factor, no-sums, opened, added, count-fits, a-fits, b-fits, c-fits, total-fits, coarse-fits}
@@ -45,10 +46,6 @@ module _ (f : ℕ) (s : Sums) (l : TermLine) where
         total = le-leb _ _ (g .good-a .total);
         coarse = le-leb _ _ (g .good-c .coarse);
       }
-
-both : (a b : Bool) → (a && b) ≡ true → (a ≡ true) × (b ≡ true)
-both true b e = (refl, e)
-both false b e = let z : _≡_ {A = ℕ} 0 1 = cc in absurd (omega arith)
 
 count-out : (s : Sums) (n : ℕ) → count-fits s n ≡ true → (n ≤ block-limit) × (s .terms + n ≤ series-limit)
 unfolding count-fits
