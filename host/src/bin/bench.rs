@@ -1,8 +1,8 @@
 //! The benchmark: the proved library, the plain exact implementation and plain f64, interleaved in one run.
 //!
-//! `cargo run --release --bin bench` takes about two minutes; `-- --quick` a quarter of it; other words choose the lines that
-//! have them. Output buffers are not cleared
-//! between calls, times are of the processor. The f64 program works from tables that are unpacked beforehand; the two others get packed bytes.
+//! `cargo run --release --bin bench` takes half a minute; `-- --quick` a quarter of it; other words choose the lines that
+//! have them. Output buffers are not cleared between calls, times are of the processor. The f64 program works from tables that are
+//! unpacked beforehand; the two others get packed bytes.
 
 use std::hint::black_box;
 use stephylax::floating::{self, Tables};
