@@ -1,2 +1,3 @@
--- Laws of the flattened answers.
+-- The marked figures of document 01, and the laws of the flattened answers.
+pub mod Figures
 mod Flat
