@@ -1,4 +1,4 @@
-//! A C program against include/stephylax.h: it compiles without a warning and runs.
+//! A C program against include/stephylax.h: it compiles without a warning and runs, and the README shows it.
 
 mod common;
 
@@ -18,4 +18,11 @@ fn example() {
     let run = Command::new(&program).current_dir(repository("")).output().expect("the program runs");
     assert_eq!(String::from_utf8_lossy(&run.stdout), "shut from minute 296 to 1439\n");
     assert_eq!(run.status.code(), Some(0));
+}
+
+#[test]
+fn shown_in_the_readme() {
+    let [readme, program] =
+        ["README.md", "host/tests/c/example.c"].map(|name| std::fs::read_to_string(repository(name)).unwrap());
+    assert!(readme.contains(&program));
 }
