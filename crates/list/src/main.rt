@@ -2,43 +2,24 @@
 //     list PLANET EARTH YEAR MONTH DAY HOUR MINUTE MINUTES KEEP-OUT
 // PLANET and EARTH are files of packed series of up to 24,576 bytes each, the date and time are TD, the keep-out is in arcminutes.
 // A run is one line: its first and last minute, then their clock times. A refusal is its number and its words.
-mod words;
-
 ghost use Prim.Native.Nat.{_≤_};
 use arith::signed::natural_or;
 use arith::signed::wide;
 use calendar::InstantAnswer;
 use sunlist::ListAnswer;
 use units::Instant;
+use words::Contents;
 use words::Figure;
-use words::argument;
 use words::explain;
-use words::two_digits;
+use words::number_argument;
+use words::read_file;
 
-// How a file was read.
-enum Series {
-    Bytes(usize),
-    TooLong,
-    NoFile,
-}
-
-// Reads the file that argument i names; one byte more than is taken shows that it is too long.
-fn read_series(i: usize, into: &mut [u8]) -> Series {
-    let mut path = [0u8; 4096];
-    let n = os::arg(i, &mut path);
-    if os::errno() != 0 {
-        return Series::NoFile;
+// A number below a hundred as two digits.
+fn two_digits(n: u64) {
+    if n < 10 {
+        io::write_all(1, b"0");
     }
-    let fd = os::open_read(&path[..n]);
-    if fd < 0 {
-        return Series::NoFile;
-    }
-    let got = io::read_full(fd, into);
-    libc::close(fd);
-    if 24576 < got {
-        return Series::TooLong;
-    }
-    Series::Bytes(got)
+    io::print_decimal(1, n);
 }
 
 // The clock time of minute j, where minute 0 is at this minute of the day.
@@ -117,25 +98,25 @@ enum Asked {
 
 // The arguments from YEAR on.
 fn arguments() -> Asked {
-    let Figure::Number(year) = argument(3) else {
+    let Figure::Number(year) = number_argument(3) else {
         return Asked::Unclear;
     };
-    let Figure::Number(month) = argument(4) else {
+    let Figure::Number(month) = number_argument(4) else {
         return Asked::Unclear;
     };
-    let Figure::Number(day) = argument(5) else {
+    let Figure::Number(day) = number_argument(5) else {
         return Asked::Unclear;
     };
-    let Figure::Number(hour) = argument(6) else {
+    let Figure::Number(hour) = number_argument(6) else {
         return Asked::Unclear;
     };
-    let Figure::Number(minute) = argument(7) else {
+    let Figure::Number(minute) = number_argument(7) else {
         return Asked::Unclear;
     };
-    let Figure::Number(minutes) = argument(8) else {
+    let Figure::Number(minutes) = number_argument(8) else {
         return Asked::Unclear;
     };
-    let Figure::Number(keep_out) = argument(9) else {
+    let Figure::Number(keep_out) = number_argument(9) else {
         return Asked::Unclear;
     };
     let start = minute_of_day(hour, minute);
@@ -162,19 +143,19 @@ fn answer(planet: &[u8], earth: &[u8], n: Numbers) {
     }
 }
 
-// Earth's file, read into the room lent for it.
+// Earth's file, read into the room lent for it, which is a byte longer than any file that is taken.
 fn earth_in(planet: &[u8], room: &mut [u8], n: Numbers) {
-    let e = read_series(2, room);
+    let e = read_file(2, room);
     match e {
-        Series::Bytes(length) => {
+        Contents::Bytes(length) => {
             if length <= room.len() {
                 answer(planet, &room[..length], n);
             }
         }
-        Series::TooLong => {
+        Contents::TooLong => {
             io::write_all(1, b"too long\n");
         }
-        Series::NoFile => {
+        Contents::NoFile => {
             io::write_all(1, b"no file for Earth\n");
         }
     }
@@ -185,19 +166,19 @@ fn with_earth(planet: &[u8], n: Numbers) {
     earth_in(planet, &mut room, n);
 }
 
-// The planet's file, read into the room lent for it.
+// The planet's file, read into the room lent for it, likewise.
 fn planet_in(room: &mut [u8], n: Numbers) {
-    let p = read_series(1, room);
+    let p = read_file(1, room);
     match p {
-        Series::Bytes(length) => {
+        Contents::Bytes(length) => {
             if length <= room.len() {
                 with_earth(&room[..length], n);
             }
         }
-        Series::TooLong => {
+        Contents::TooLong => {
             io::write_all(1, b"too long\n");
         }
-        Series::NoFile => {
+        Contents::NoFile => {
             io::write_all(1, b"no file for the planet\n");
         }
     }

@@ -5,8 +5,8 @@ use borrow.Author.Needs.{needs}
 use Rattle.list.proofs.earth_in.Statement.{statement}
 use Rattle.list.proofs.earth_in.Tie as tie
 
-read-series-requires : tie.Need-read-series-requires
-read-series-requires c κs = search needs
+read-file-requires : tie.Need-read-file-requires
+read-file-requires c κs = search needs
 
 enum-known-e : tie.Need-enum-known-e
 enum-known-e c = search needs
@@ -66,7 +66,7 @@ pub earth-in-spec : {M : Type 1} → statement M
 earth-in-spec =
     tie.close
     (tie.spec
-    read-series-requires
+    read-file-requires
     enum-known-e
     slice-reshare-prefix-answer
     slice-aggregate-answer

@@ -5,8 +5,8 @@ use borrow.Author.Needs.{needs}
 use Rattle.list.proofs.planet_in.Statement.{statement}
 use Rattle.list.proofs.planet_in.Tie as tie
 
-read-series-requires : tie.Need-read-series-requires
-read-series-requires c κs = search needs
+read-file-requires : tie.Need-read-file-requires
+read-file-requires c κs = search needs
 
 enum-known-p : tie.Need-enum-known-p
 enum-known-p c = search needs
@@ -66,7 +66,7 @@ pub planet-in-spec : {M : Type 1} → statement M
 planet-in-spec =
     tie.close
     (tie.spec
-    read-series-requires
+    read-file-requires
     enum-known-p
     slice-reshare-prefix-with-earth
     slice-aggregate-with-earth
