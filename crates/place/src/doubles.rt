@@ -1,4 +1,4 @@
-// The mount's figures from whole numbers.
+// The mount's figures from whole numbers. All of this is for lib.rt.
 ghost use mathlib.Core.Path.{_≡_};
 ghost use Prim.Native.Nat.{_≤_, _^_};
 ghost use lib.IntN.{natAbs};
@@ -25,6 +25,7 @@ pub fn units_of_distance(d: i64) -> f64
     d as f64 / 1e11
 }
 
+// Both angles and the distance of a place.
 pub fn figures(p: Equatorial) -> MountPlace
     requires { ⌜ Small p ⌝ }
     ensures { λ r. ⌜ r ≡ mount-place p ⌝ }

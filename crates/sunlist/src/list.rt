@@ -1,4 +1,4 @@
-// The list of a window from two packed series, the planet's and Earth's, each decoded once into a term table.
+// The list of a window from two packed series, the planet's and Earth's, each decoded once into a term table. For lib.rt.
 ghost use mathlib.Core.Path.{_≡_};
 ghost use Prim.Native.Nat.{suc, _≤_};
 ghost use lib.ListN.{length};

@@ -1,4 +1,4 @@
-// The window of a list: its limits, the flags of its minutes, and the numbers written from them.
+// The window of a list: its limits, the flags of its minutes, and the numbers written from them. For this crate alone.
 ghost use mathlib.Core.Path.{_≡_};
 ghost use Prim.Native.Nat.{_*_, _≤_, _<_};
 ghost use lib.IntN.{pos, natAbs, _+ℤ_};
