@@ -141,33 +141,44 @@ fn shortened(planet: &Planet, share: f64) -> Planet {
 }
 
 const T: i64 = 157_809_600_000;
+const DAY: i64 = 86_400_000;
 const NS: f64 = 1e9;
 const US: f64 = 1e6;
 const MS: f64 = 1e3;
 
-fn coordinates(p: &Planet) -> Measurement<'_> {
-    Measurement {
-        name: format!("coordinates, {}, a term", p.name),
-        units: terms(p),
-        unit: "ns",
-        per: NS,
-        library: Some(Box::new(|| used(stephylax::coordinates_at(&p.packed, black_box(T))))),
-        plain: Some(Box::new(|| used(plain::series::coordinates_at(&p.packed, black_box(T))))),
-        floating: Some(Box::new(|| used(p.tables.coordinates(black_box(T))))),
+/// The instants of successive calls, one step after another. With no step every call asks for the same instant, whose every
+/// branch the processor soon knows by heart.
+fn instants(step: i64) -> impl FnMut() -> i64 {
+    let mut t = T - step;
+    move || {
+        t += step;
+        black_box(t)
     }
 }
 
-fn place<'a>(p: &'a Planet, e: &'a Planet) -> Measurement<'a> {
+fn coordinates(name: String, p: &Planet, step: i64) -> Measurement<'_> {
+    let (mut library, mut plain, mut floating) = (instants(step), instants(step), instants(step));
     Measurement {
-        name: format!("apparent place, {}", p.name),
+        name,
+        units: terms(p),
+        unit: "ns",
+        per: NS,
+        library: Some(Box::new(move || used(stephylax::coordinates_at(&p.packed, library())))),
+        plain: Some(Box::new(move || used(plain::series::coordinates_at(&p.packed, plain())))),
+        floating: Some(Box::new(move || used(p.tables.coordinates(floating())))),
+    }
+}
+
+fn place<'a>(name: String, p: &'a Planet, e: &'a Planet, step: i64) -> Measurement<'a> {
+    let (mut library, mut plain, mut floating) = (instants(step), instants(step), instants(step));
+    Measurement {
+        name,
         units: 1.0,
         unit: "us",
         per: US,
-        library: Some(Box::new(|| used(stephylax::apparent_place(&p.packed, &e.packed, black_box(T))))),
-        plain: Some(Box::new(|| {
-            used(plain::place::apparent_place(&p.packed, &e.packed, black_box(T)));
-        })),
-        floating: Some(Box::new(|| used(floating::place(&p.tables, &e.tables, black_box(T))))),
+        library: Some(Box::new(move || used(stephylax::apparent_place(&p.packed, &e.packed, library())))),
+        plain: Some(Box::new(move || used(plain::place::apparent_place(&p.packed, &e.packed, plain())))),
+        floating: Some(Box::new(move || used(floating::place(&p.tables, &e.tables, floating())))),
     }
 }
 
@@ -269,8 +280,10 @@ fn main() {
         "medians", "unit", "library", "plain", "f64", "to plain", "to f64"
     );
     for p in [&mercury, &venus] {
-        coordinates(p).run(rounds);
-        place(p, &earth).run(rounds);
+        coordinates(format!("coordinates, {}, a term", p.name), p, DAY).run(rounds);
+        coordinates(format!("  the same instant again, {}", p.name), p, 0).run(rounds);
+        place(format!("apparent place, {}", p.name), p, &earth, DAY).run(rounds);
+        place(format!("  the same place again, {}", p.name), p, &earth, 0).run(rounds);
         list(format!("day's list, {}", p.name), p, &earth, 1440).run(list_rounds);
         read_whole(p).run(rounds);
         read_pieces(p).run(rounds);
