@@ -12,7 +12,7 @@ use Rattle.units.specs.Units.{U}
 use Rattle.units.specs.declared.Coordinates.{Coordinates}
 use Rattle.cosine.specs.Cosine.{sine}
 use Rattle.vectors.specs.declared.Vector.{Vector}
-use Rattle.vectors.specs.Vectors.{geocentric, sun, squared, length, unit, radius-usable, usable}
+use Rattle.vectors.specs.Vectors.{geocentric, sun, squared, length, unit, usable}
 use Rattle.vectors.specs.Rectangular.{place, distance, places-usable}
 use Rattle.vectors.specs.Sizes.{Components}
 use Rattle.arith.proofs.Cells.{Cell, cell}
@@ -170,47 +170,9 @@ module _ (k : ℕ) (planet earth : Coordinates) (ok : places-usable planet earth
 
 -- ---- decide
 
-pub planet-refused : (k : ℕ) (planet earth : Coordinates) (b : Bool) → Cell (planet .radius) ≡ planet .radius → b ≡ radius-usable (Cell (planet .radius)) → b ≡ false → Unusable ≡ decide k planet earth
-unfolding decide places-usable usable
-planet-refused k planet earth b e f h = let g : radius-usable (planet .radius) ≡ false = ap radius-usable (sym e) ∙ sym f ∙ h in rw g
-
-pub earth-refused : (k : ℕ) (planet earth : Coordinates) (b : Bool) → radius-usable (planet .radius) ≡ true → Cell (earth .radius) ≡ earth .radius → b ≡ radius-usable (Cell (earth .radius)) → b ≡ false → Unusable ≡ decide k planet earth
-unfolding decide places-usable usable
-earth-refused k planet earth b p e f h = let g : radius-usable (earth .radius) ≡ false = ap radius-usable (sym e) ∙ sym f ∙ h in rw (p, g)
-
--- Both R are usable; the places e and p, the vector g, its length d.
-module _ (k : ℕ) (planet earth : Coordinates) (hp : radius-usable (planet .radius) ≡ true) (he : radius-usable (earth .radius) ≡ true) (e p g : Vector) (d : ℕ) (pe : e ≡ place earth) (pp : p ≡ place planet) where
-  pub places-ask : Components (2 ^ 61) p × Components (2 ^ 61) e
-  places-ask = (
-    subst (Components (2 ^ 61)) (sym pp) (smaller 6400000000000 (2 ^ 61) (place planet) (omega arith) (place-in planet hp)),
-    subst (Components (2 ^ 61)) (sym pe) (smaller 6400000000000 (2 ^ 61) (place earth) (omega arith) (place-in earth he)),
-  )
-
-  module _ (pg : g ≡ geocentric p e) where
-    pub seen-is : g ≡ geocentric (place planet) (place earth)
-    seen-is = pg ∙ ap₂ geocentric pp pe
-
-    pub length-asks : Components (2 ^ 45) g
-    length-asks =
-        subst (Components (2 ^ 45)) (sym seen-is)
-        (smaller (6400000000000 + 6400000000000) (2 ^ 45) _ (omega arith) (geocentric-size 6400000000000 (place planet) (place earth) (place-in planet hp) (place-in earth he)))
-
-    module _ (pd : d ≡ length g) where
-      pub distance-is : d ≡ distance planet earth
-      unfolding distance
-      distance-is = pd ∙ ap length seen-is
-
-      pub radii-ask : (radius-usable (Cell (planet .radius)) ≡ true) × (radius-usable (Cell (earth .radius)) ≡ true)
-      radii-ask = (ap radius-usable (cell (planet .radius) (radius-in (planet .radius) hp)) ∙ hp, ap radius-usable (cell (earth .radius) (radius-in (earth .radius) he)) ∙ he)
-
-      module _ (b : Bool) (f : b ≡ usable (Cell (planet .radius)) (Cell (earth .radius)) d) where
-        pub usable-told : b ≡ places-usable planet earth
-        unfolding places-usable
-        usable-told = f ∙ rw (cell (planet .radius) (radius-in (planet .radius) hp), cell (earth .radius) (radius-in (earth .radius) he), distance-is)
-
-        pub distance-refused : b ≡ false → Unusable ≡ decide k planet earth
-        unfolding decide
-        distance-refused h = let z : places-usable planet earth ≡ false = sym usable-told ∙ h in rw z
+pub refused : (k : ℕ) (planet earth : Coordinates) → places-usable planet earth ≡ false → Unusable ≡ decide k planet earth
+unfolding decide
+refused k planet earth h = rw h
 
 -- The answer from the figures of usable places.
 module _ (k : ℕ) (planet earth : Coordinates) (ok : places-usable planet earth ≡ true) (f : Figures) (pf : f ≡ figures k planet earth) (b : Bool)

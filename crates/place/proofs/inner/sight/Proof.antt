@@ -1,11 +1,12 @@
 -- `place::inner::sight` meets its contract. Assumes nothing.
-use mathlib.Core.Path.{_≡_}
+use mathlib.Core.Path.{_≡_, sym, _∙_}
 use mathlib.Core.Bool.{true}
 use borrow.Author.Needs.{needs}
 use borrow.Author.Tests.{not-true, not-false}
 use Rattle.vectors.specs.Vectors.{radius-usable}
 use Rattle.vectors.proofs.Radii.{radius-in, tested}
-use Rattle.place.proofs.Sights.{planet-refused, earth-refused, places-ask, length-asks, distance-asks, distance-refused, sight-told}
+use Rattle.vectors.proofs.Seen.{planet-unusable, earth-unusable, radii-ask, places-ask, seen-is, length-asks, distance-is, usable-told}
+use Rattle.place.proofs.Sights.{refused, sight-told}
 use Rattle.place.proofs.inner.sight.Statement.{statement}
 use Rattle.place.proofs.inner.sight.Tie as tie
 
@@ -20,13 +21,13 @@ usable-radius-requires : tie.Need-usable-radius-requires
 usable-radius-requires c κs = search needs
 
 returns : tie.Need-returns
-returns c = let s = c .before .before .before in planet-refused (s .args .planet) (s .args .earth) (c .before .usable-radius .result) (search needs) (c .before .usable-radius .ensures) (not-true _ (c .if1 .taken))
+returns c = let s = c .before .before .before in refused _ _ (planet-unusable (s .args .planet) (s .args .earth) (c .before .usable-radius .result) (search needs) (c .before .usable-radius .ensures) (not-true _ (c .if1 .taken)))
 
 usable-radius-requires-2 : tie.Need-usable-radius-requires-2
 usable-radius-requires-2 c κs = search needs
 
 returns-2 : tie.Need-returns-2
-returns-2 c = let a = c .before .before .before in let s = a .before .before .before in earth-refused (s .args .planet) (s .args .earth) (c .before .usable-radius2 .result) (planet-good a) (search needs) (c .before .usable-radius2 .ensures) (not-true _ (c .if2 .taken))
+returns-2 c = let a = c .before .before .before in let s = a .before .before .before in refused _ _ (earth-unusable (s .args .planet) (s .args .earth) (c .before .usable-radius2 .result) (planet-good a) (search needs) (c .before .usable-radius2 .ensures) (not-true _ (c .if2 .taken)))
 
 place-requires : tie.Need-place-requires
 place-requires c κs = radius-in _ (earth-good c)
@@ -57,7 +58,8 @@ usable-distance-requires c κs =
     let a = m .before in
     let b = a .before in
     let s = b .before .before .before .before .before .before in
-    distance-asks (s .args .planet) (s .args .earth) (planet-good (b .before .before .before)) (earth-good b) (a .place .result) (m .place2 .result) (a .place .ensures) (m .place2 .ensures) (g .geocentric .result) (g .geocentric .ensures) (l .length .result) (l .length .ensures .1)
+    let r = radii-ask (s .args .planet) (s .args .earth) (planet-good (b .before .before .before)) (earth-good b) in
+    (r .0, r .1, l .length .ensures .1)
 
 returns-3 : tie.Need-returns-3
 returns-3 c =
@@ -68,7 +70,7 @@ returns-3 c =
     let a = m .before in
     let b = a .before in
     let s = b .before .before .before .before .before .before in
-    distance-refused (s .args .planet) (s .args .earth) (planet-good (b .before .before .before)) (earth-good b) (a .place .result) (m .place2 .result) (a .place .ensures) (m .place2 .ensures) (g .geocentric .result) (g .geocentric .ensures) (l .length .result) (l .length .ensures .0) (u .usable-distance .result) (u .usable-distance .ensures) (not-true _ (c .if3 .taken))
+    refused _ _ (sym (usable-told (s .args .planet) (s .args .earth) (planet-good (b .before .before .before)) (earth-good b) (a .place .result) (m .place2 .result) (a .place .ensures) (m .place2 .ensures) (g .geocentric .result) (g .geocentric .ensures) (l .length .result) (l .length .ensures .0) (u .usable-distance .result) (u .usable-distance .ensures)) ∙ not-true _ (c .if3 .taken))
 
 returns-4 : tie.Need-returns-4
 returns-4 c =
@@ -79,7 +81,7 @@ returns-4 c =
     let a = m .before in
     let b = a .before in
     let s = b .before .before .before .before .before .before in
-    sight-told (s .args .planet) (s .args .earth) (planet-good (b .before .before .before)) (earth-good b) (a .place .result) (m .place2 .result) (a .place .ensures) (m .place2 .ensures) (g .geocentric .result) (g .geocentric .ensures) (l .length .result) (l .length .ensures .0) (u .usable-distance .result) (u .usable-distance .ensures) (not-false _ (c .if3 .left))
+    sight-told _ _ _ _ (sym (usable-told (s .args .planet) (s .args .earth) (planet-good (b .before .before .before)) (earth-good b) (a .place .result) (m .place2 .result) (a .place .ensures) (m .place2 .ensures) (g .geocentric .result) (g .geocentric .ensures) (l .length .result) (l .length .ensures .0) (u .usable-distance .result) (u .usable-distance .ensures)) ∙ not-false _ (c .if3 .left)) (seen-is (s .args .planet) (s .args .earth) (planet-good (b .before .before .before)) (earth-good b) (a .place .result) (m .place2 .result) (a .place .ensures) (m .place2 .ensures) (g .geocentric .result) (g .geocentric .ensures)) (distance-is (s .args .planet) (s .args .earth) (planet-good (b .before .before .before)) (earth-good b) (a .place .result) (m .place2 .result) (a .place .ensures) (m .place2 .ensures) (g .geocentric .result) (g .geocentric .ensures) (l .length .result) (l .length .ensures .0))
 
 pub sight-spec : {M : Type 1} → statement M
 sight-spec =

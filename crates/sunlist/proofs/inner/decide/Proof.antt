@@ -5,7 +5,8 @@ use Rattle.vectors.specs.Vectors.{radius-usable}
 use Rattle.vectors.specs.Rectangular.{places-usable}
 use borrow.Author.Tests.{not-true, not-false}
 use Rattle.vectors.proofs.Radii.{radius-in, tested}
-use Rattle.sunlist.proofs.Working.{planet-refused, earth-refused, places-ask, seen-is, length-asks, distance-is, radii-ask, usable-told, distance-refused, listed-told, clear-told}
+use Rattle.vectors.proofs.Seen.{planet-unusable, earth-unusable, radii-ask, places-ask, seen-is, length-asks, distance-is, usable-told}
+use Rattle.sunlist.proofs.Working.{refused, listed-told, clear-told}
 use borrow.Author.Needs.{needs}
 use Rattle.sunlist.proofs.inner.decide.Statement.{statement}
 use Rattle.sunlist.proofs.inner.decide.Tie as tie
@@ -26,19 +27,19 @@ places-good c =
     let a = m .before in
     let b = a .before in
     let s = b .before .before .before .before .before .before in
-    sym (usable-told (s .args .k) (s .args .planet) (s .args .earth) (planet-good (b .before .before .before)) (earth-good b) (a .place .result) (m .place2 .result) (g .geocentric .result) (l .length .result) (a .place .ensures) (m .place2 .ensures) (g .geocentric .ensures) (l .length .ensures .0) (u .usable-distance .result) (u .usable-distance .ensures)) ∙ not-false _ (c .if3 .left)
+    sym (usable-told (s .args .planet) (s .args .earth) (planet-good (b .before .before .before)) (earth-good b) (a .place .result) (m .place2 .result) (a .place .ensures) (m .place2 .ensures) (g .geocentric .result) (g .geocentric .ensures) (l .length .result) (l .length .ensures .0) (u .usable-distance .result) (u .usable-distance .ensures)) ∙ not-false _ (c .if3 .left)
 
 usable-radius-requires : tie.Need-usable-radius-requires
 usable-radius-requires c κs = search needs
 
 returns : tie.Need-returns
-returns c = let s = c .before .before .before in planet-refused (s .args .k) (s .args .planet) (s .args .earth) (c .before .usable-radius .result) (search needs) (c .before .usable-radius .ensures) (not-true _ (c .if1 .taken))
+returns c = let s = c .before .before .before in refused _ _ _ (planet-unusable (s .args .planet) (s .args .earth) (c .before .usable-radius .result) (search needs) (c .before .usable-radius .ensures) (not-true _ (c .if1 .taken)))
 
 usable-radius-requires-2 : tie.Need-usable-radius-requires-2
 usable-radius-requires-2 c κs = search needs
 
 returns-2 : tie.Need-returns-2
-returns-2 c = let a = c .before .before .before in let s = a .before .before .before in earth-refused (s .args .k) (s .args .planet) (s .args .earth) (c .before .usable-radius2 .result) (planet-good a) (search needs) (c .before .usable-radius2 .ensures) (not-true _ (c .if2 .taken))
+returns-2 c = let a = c .before .before .before in let s = a .before .before .before in refused _ _ _ (earth-unusable (s .args .planet) (s .args .earth) (c .before .usable-radius2 .result) (planet-good a) (search needs) (c .before .usable-radius2 .ensures) (not-true _ (c .if2 .taken)))
 
 place-requires : tie.Need-place-requires
 place-requires c κs = radius-in _ (earth-good c)
@@ -51,7 +52,7 @@ geocentric-requires c κs =
     let a = c .before in
     let b = a .before in
     let s = b .before .before .before .before .before .before in
-    places-ask (s .args .k) (s .args .planet) (s .args .earth) (planet-good (b .before .before .before)) (earth-good b) (a .place .result) (c .place2 .result) (c .place2 .result) 0 (a .place .ensures) (c .place2 .ensures)
+    places-ask (s .args .planet) (s .args .earth) (planet-good (b .before .before .before)) (earth-good b) (a .place .result) (c .place2 .result) (a .place .ensures) (c .place2 .ensures)
 
 length-requires : tie.Need-length-requires
 length-requires c κs =
@@ -59,7 +60,7 @@ length-requires c κs =
     let a = m .before in
     let b = a .before in
     let s = b .before .before .before .before .before .before in
-    length-asks (s .args .k) (s .args .planet) (s .args .earth) (planet-good (b .before .before .before)) (earth-good b) (a .place .result) (m .place2 .result) (c .geocentric .result) 0 (a .place .ensures) (m .place2 .ensures) (c .geocentric .ensures)
+    length-asks (s .args .planet) (s .args .earth) (planet-good (b .before .before .before)) (earth-good b) (a .place .result) (m .place2 .result) (a .place .ensures) (m .place2 .ensures) (c .geocentric .result) (c .geocentric .ensures)
 
 usable-distance-requires : tie.Need-usable-distance-requires
 usable-distance-requires c κs =
@@ -69,7 +70,7 @@ usable-distance-requires c κs =
     let a = m .before in
     let b = a .before in
     let s = b .before .before .before .before .before .before in
-    let r = radii-ask (s .args .k) (s .args .planet) (s .args .earth) (planet-good (b .before .before .before)) (earth-good b) (a .place .result) (m .place2 .result) (g .geocentric .result) (l .length .result) (a .place .ensures) (m .place2 .ensures) (g .geocentric .ensures) (l .length .ensures .0) in
+    let r = radii-ask (s .args .planet) (s .args .earth) (planet-good (b .before .before .before)) (earth-good b) in
     (r .0, r .1, l .length .ensures .1)
 
 returns-3 : tie.Need-returns-3
@@ -81,7 +82,7 @@ returns-3 c =
     let a = m .before in
     let b = a .before in
     let s = b .before .before .before .before .before .before in
-    distance-refused (s .args .k) (s .args .planet) (s .args .earth) (planet-good (b .before .before .before)) (earth-good b) (a .place .result) (m .place2 .result) (g .geocentric .result) (l .length .result) (a .place .ensures) (m .place2 .ensures) (g .geocentric .ensures) (l .length .ensures .0) (u .usable-distance .result) (u .usable-distance .ensures) (not-true _ (c .if3 .taken))
+    refused _ _ _ (sym (usable-told (s .args .planet) (s .args .earth) (planet-good (b .before .before .before)) (earth-good b) (a .place .result) (m .place2 .result) (a .place .ensures) (m .place2 .ensures) (g .geocentric .result) (g .geocentric .ensures) (l .length .result) (l .length .ensures .0) (u .usable-distance .result) (u .usable-distance .ensures)) ∙ not-true _ (c .if3 .taken))
 
 figures-requires : tie.Need-figures-requires
 figures-requires c κs =
@@ -92,7 +93,7 @@ figures-requires c κs =
     let a = m .before in
     let b = a .before in
     let s = b .before .before .before .before .before .before in
-    (s .pre, places-good c, a .place .ensures, seen-is (s .args .k) (s .args .planet) (s .args .earth) (planet-good (b .before .before .before)) (earth-good b) (a .place .result) (m .place2 .result) (g .geocentric .result) (l .length .result) (a .place .ensures) (m .place2 .ensures) (g .geocentric .ensures), distance-is (s .args .k) (s .args .planet) (s .args .earth) (planet-good (b .before .before .before)) (earth-good b) (a .place .result) (m .place2 .result) (g .geocentric .result) (l .length .result) (a .place .ensures) (m .place2 .ensures) (g .geocentric .ensures) (l .length .ensures .0))
+    (s .pre, places-good c, a .place .ensures, seen-is (s .args .planet) (s .args .earth) (planet-good (b .before .before .before)) (earth-good b) (a .place .result) (m .place2 .result) (a .place .ensures) (m .place2 .ensures) (g .geocentric .result) (g .geocentric .ensures), distance-is (s .args .planet) (s .args .earth) (planet-good (b .before .before .before)) (earth-good b) (a .place .result) (m .place2 .result) (a .place .ensures) (m .place2 .ensures) (g .geocentric .result) (g .geocentric .ensures) (l .length .result) (l .length .ensures .0))
 
 returns-4 : tie.Need-returns-4
 returns-4 c =
