@@ -10,7 +10,7 @@ use lib.IntN.{ℤ, pos, negsuc, natAbs, _-ℤ_}
 use mir.Syntax.{w64}
 use mir.Val.{SFits, toZ, ofZ}
 use Rattle.integers.specs.Signs.{negative}
-use Rattle.integers.proofs.Pairs.{Is, below, nat}
+use Rattle.integers.proofs.Pairs.{Is}
 use Rattle.integers.proofs.Order.{fits, nat-difference-fits}
 use Rattle.units.specs.declared.Refusal.the-variants.{NoSuchDate}
 use Rattle.arith.specs.Signed.{naturalOr}

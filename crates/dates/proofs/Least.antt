@@ -1,9 +1,9 @@
 -- The greatest magnitudes of 64 bits, and the least number, whose magnitude only a minus may have. Assumes nothing.
-use mathlib.Core.Path.{_≡_, refl, ap, _∙_}
+use mathlib.Core.Path.{_≡_}
 use mathlib.Core.Bool.{Bool, true, false}
 use Prim.Native.Nat.{ℕ, _≤_}
 use native.Mathlib.Omega.{arith}
-use lib.IntN.{ℤ, negsuc}
+use lib.IntN.{negsuc}
 use Rattle.integers.specs.Signs.{sgn}
 use Rattle.dates.specs.Lines.{greatest}
 

@@ -1,11 +1,11 @@
 -- The lines' theorems: the input may be cut anywhere; each line has the reply to what it says; three numbers, written as decimals and parted by
 -- single spaces, are read as these numbers; document 01's two lines. Assumes nothing.
 use mathlib.Core.Path.{_≡_, refl, sym, ap, _∙_}
-use mathlib.Core.Bool.{Bool, true, false, cond}
+use mathlib.Core.Bool.{Bool, true, false}
 use mathlib.Core.List.{List, [], _∷_, _++_, append-assoc}
-use Prim.Native.Nat.{ℕ, _+_, _*_, _-_, _≤_, _<_}
+use Prim.Native.Nat.{ℕ, _+_, _*_, _-_, _≤_}
 use native.Mathlib.Omega.{arith}
-use borrow.Author.Tests.{eq-eqb, ne-eqb, lt-ltb, le-ltb}
+use borrow.Author.Tests.{ne-eqb, le-ltb}
 use lib.IntN.{ℤ, pos}
 use Rattle.integers.specs.Division.{floor, modulo}
 use Rattle.integers.specs.Signs.{sgn}

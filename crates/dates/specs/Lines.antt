@@ -1,10 +1,10 @@
 -- Which three numbers a line of the date program has, or what is wrong with it. A number is an optional minus and one or more digits, from
 -- -9,223,372,036,854,775,808 to 9,223,372,036,854,775,807; single spaces part the numbers; nothing else stands on the line. A line is read
 -- byte by byte, and the first fault stays.
-use mathlib.Core.Bool.{Bool, true, false, cond, _&&_, _||_, not}
+use mathlib.Core.Bool.{Bool, true, false, cond}
 use mathlib.Core.List.{List, [], _∷_}
 use Prim.Native.Nat.{ℕ, _+_, _*_, _-_}
-use lib.Dec.{leb, ltb, eqb}
+use lib.Dec.{ltb, eqb}
 use lib.IntN.{ℤ, pos}
 use Rattle.integers.specs.Signs.{sgn}
 use Rattle.dates.specs.declared.reader.Line.{Line}

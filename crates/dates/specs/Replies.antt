@@ -1,9 +1,8 @@
 -- What the date program prints: "the day number or `refused 1`" for each line, and for a line that has not three numbers what is wrong with it.
-use mathlib.Core.Bool.{Bool, true, false, cond}
+use mathlib.Core.Bool.{cond}
 use mathlib.Core.List.{List, [], _∷_, _++_}
 use Prim.Native.Nat.{ℕ, zero, suc, _+_, _/_, _%_}
 use lib.Dec.{ltb, eqb}
-use lib.IntN.{ℤ}
 use Rattle.arith.specs.Signed.{naturalOr}
 use Rattle.calendar.specs.Calendar.{day-of-date}
 use Rattle.calendar.specs.declared.DayAnswer.{DayAnswer}

@@ -1,10 +1,10 @@
 -- A step that is not past, before one that is, is the direction; worked for two vectors. Assumes nothing.
 use mathlib.Core.Path.{_≡_, refl, sym, ap, _∙_}
 use mathlib.Core.Bool.{true, false}
-use Prim.Native.Nat.{ℕ, suc, _+_, _*_, _≤_, _<_}
+use Prim.Native.Nat.{ℕ, _+_, _*_, _≤_, _<_}
 use native.Mathlib.Omega.{arith}
 use lib.Dec.{lit<, lit≤}
-use lib.IntN.{ℤ, pos, negℤ}
+use lib.IntN.{pos}
 use Rattle.integers.specs.Division.{floor, rounded, modulo}
 use Rattle.integers.specs.Signs.{sgn}
 use Rattle.cosine.specs.Cosine.{q-of, r-of, w-of, y-of, horner, even-part, odd-part, cosine-by, sine-by, working-cosine, working-sine, cosine, sine}

@@ -2,17 +2,17 @@
 -- Assumes nothing.
 use mathlib.Core.Path.{_≡_, refl, sym, ap, ap₂, _∙_, subst}
 use mathlib.Core.Bool.{Bool, true, false, cond}
-use mathlib.Core.List.{List, [], _∷_}
+use mathlib.Core.List.{[], _∷_}
 use Prim.Native.Nat.{ℕ, zero, suc, _+_, _*_, _^_, _≤_, _<_}
 use native.Mathlib.Omega.{arith}
 use native.Mathlib.Decide.{decLe}
 use borrow.Author.Tests.{le-leb}
 use lib.Dec.{T, leb, lit<, leb→le}
-use lib.IntN.{ℤ, pos, _+ℤ_, _*ℤ_}
-use lib.Signed.{leZ, ≤ℤ-refl}
-use Rattle.integers.specs.Order.{_≼_, _≺_}
+use lib.IntN.{ℤ, pos, _*ℤ_}
+use lib.Signed.{leZ}
+use Rattle.integers.specs.Order.{_≼_}
 use Rattle.integers.specs.Division.{floor, rounded, modulo}
-use Rattle.integers.proofs.Pairs.{nonneg, ≤ℤ-trans}
+use Rattle.integers.proofs.Pairs.{nonneg}
 use Rattle.integers.proofs.Auto.{cert!, polys, gap, _⊞_, _⊛_, _·_}
 use Rattle.units.specs.Units.{U, quarter, turn}
 use Rattle.cosine.specs.Cosine.{horner, y-of, even-part, odd-part, q-of, r-of, w-of, cosine-by, sine-by, working-cosine, working-sine, cosine, sine}

@@ -1,15 +1,15 @@
 -- From 0 to a quarter turn the working sine never falls and the working cosine never rises. Assumes nothing.
-use mathlib.Core.Path.{_≡_, refl, sym, ap, _∙_, subst, subst₂}
-use mathlib.Core.List.{List, [], _∷_}
-use mathlib.Core.Logic.{_⊎_, inl, inr, ⊎-elim}
-use Prim.Native.Nat.{ℕ, _*_, _<_}
+use mathlib.Core.Path.{_≡_, refl, sym, ap, subst₂}
+use mathlib.Core.List.{[], _∷_}
+use mathlib.Core.Logic.{_⊎_, inl, inr}
+use Prim.Native.Nat.{_*_, _<_}
 use lib.Dec.{lit<}
 use lib.IntN.{ℤ, pos, _+ℤ_, _-ℤ_, _*ℤ_, negℤ}
 use lib.Signed.{≤ℤ-refl}
 use Rattle.integers.specs.Order.{_≼_, _≺_}
 use Rattle.integers.specs.Division.{floor, rounded, modulo}
-use Rattle.integers.proofs.Pairs.{nonneg, ≤ℤ-trans}
-use Rattle.integers.proofs.Auto.{ring!, cert!, cert<!, polys, gap, gap<, _⊞_, _⊛_, _·_}
+use Rattle.integers.proofs.Pairs.{≤ℤ-trans}
+use Rattle.integers.proofs.Auto.{ring!, cert!, cert<!, polys, gap, gap<, _⊞_, _·_}
 use Rattle.integers.proofs.Order.{≼-or-≺}
 use Rattle.integers.proofs.Division.{floor-is, rounded-low, rounded-high}
 use Rattle.integers.proofs.Rounding.{rounded-mono}

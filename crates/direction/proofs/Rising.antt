@@ -1,21 +1,19 @@
 -- From 0 to a quarter turn the working sine never falls and the working cosine never rises. Assumes nothing.
-use mathlib.Core.Path.{_≡_, refl, sym, ap, _∙_, subst, subst₂}
+use mathlib.Core.Path.{_≡_, ap, subst}
 use mathlib.Core.List.{List, [], _∷_}
-use mathlib.Core.Logic.{_⊎_, inl, inr}
-use Prim.Native.Nat.{ℕ, zero, suc, _*_, _+_, _≤_, _<_}
+use Prim.Native.Nat.{ℕ, _*_, _+_, _≤_, _<_}
 use native.Mathlib.Omega.{arith}
 use lib.Dec.{le→leb, lit<, lit≤}
-use lib.IntN.{ℤ, pos, negsuc, _+ℤ_, _-ℤ_, _*ℤ_, negℤ}
+use lib.IntN.{ℤ, pos, _+ℤ_, _-ℤ_, _*ℤ_, negℤ}
 use lib.Signed.{≤ℤ-refl}
-use Rattle.integers.specs.Order.{_≼_, _≺_}
-use Rattle.integers.specs.Division.{floor, rounded, modulo}
-use Rattle.integers.proofs.Pairs.{nonneg, ≤ℤ-trans}
-use Rattle.integers.proofs.Auto.{ring!, cert!, cert<!, polys, gap, gap<, gap≡, _⊞_, _⊛_, _·_}
-use Rattle.integers.proofs.Order.{≼-or-≺, ≺-≼}
+use Rattle.integers.specs.Order.{_≼_}
+use Rattle.integers.specs.Division.{rounded}
+use Rattle.integers.proofs.Pairs.{nonneg}
+use Rattle.integers.proofs.Auto.{ring!, cert!, polys, gap, gap<, _⊞_, _⊛_, _·_}
 use Rattle.integers.proofs.Division.{rounded-low, rounded-high}
 use Rattle.integers.proofs.Rounding.{rounded-le, rounded-mono, rounded-zero}
-use Rattle.units.specs.Units.{U, quarter, angle-step}
-use Rattle.cosine.specs.Cosine.{horner, y-of, even-part, odd-part, evens, odds, q-of, r-of, w-of, cosine-by, sine-by, working-cosine, working-sine, cosine, sine}
+use Rattle.units.specs.Units.{U}
+use Rattle.cosine.specs.Cosine.{horner, y-of, even-part, odd-part, evens, odds}
 
 -- ---- the Horner values fall as y rises, by no more than y rises
 -- y and y′, y the lower one, and a Horner value at each

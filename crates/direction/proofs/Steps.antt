@@ -1,11 +1,10 @@
 -- The angle of a number of steps, worked on naturals. Assumes nothing.
-use mathlib.Core.Path.{_≡_, refl, sym, ap, _∙_}
-use mathlib.Core.Bool.{true, false}
-use Prim.Native.Nat.{ℕ, _+_, _*_, _/_, _≤_, _<_}
+use mathlib.Core.Path.{_≡_, sym, ap, _∙_}
+use mathlib.Core.Bool.{false}
+use Prim.Native.Nat.{ℕ, _+_, _*_, _/_, _<_}
 use native.Mathlib.Omega.{arith}
 use lib.Dec.{lit<}
-use lib.IntN.{ℤ, pos, _*ℤ_}
-use Rattle.integers.specs.Division.{rounded}
+use lib.IntN.{pos}
 use Rattle.integers.specs.Signs.{sgn, near}
 use Rattle.integers.proofs.Division.{rounded-near, near-shift}
 use Rattle.units.specs.Units.{turn}

@@ -1,5 +1,5 @@
 -- Document 01, "Places": the direction of (X, Y) and the latitude of (X, Y, Z), in hundredths of an arcsecond.
-use mathlib.Core.Bool.{Bool, true, false, cond}
+use mathlib.Core.Bool.{Bool, false, cond}
 use Prim.Native.Nat.{ℕ, zero, suc, _+_, _*_}
 use lib.IntN.{ℤ, pos, negℤ, natAbs, _+ℤ_, _*ℤ_}
 use lib.Dec.{eqb}

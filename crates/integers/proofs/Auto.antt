@@ -1,7 +1,7 @@
 -- The ring normaliser with its expressions found by `search polys`: `ring! (a ∷ b ∷ []) (search polys depth 30) (search polys depth 30) tt`,
 -- and inequalities from a certificate, a sum of products of facts `pos 0 ≼ z`. Assumes nothing.
 use mathlib.Core.Path.{_≡_, refl, sym, ap, ap₂, _∙_, subst, subst₂}
-use mathlib.Core.List.{List, [], _∷_}
+use mathlib.Core.List.{List, _∷_}
 use Prim.Native.Nat.{ℕ, zero, suc, _+_, _*_, _≤_}
 use mathlib.Core.Bool.{true}
 use lib.Dec.{T, leb, leb→le, le→leb}
@@ -9,7 +9,7 @@ use lib.IntN.{ℤ, pos, natAbs, _+ℤ_, _-ℤ_, _*ℤ_, negℤ}
 use lib.Signed.{_≤ℤ_, _<ℤ_, ≤ℤ-refl}
 use Rattle.integers.specs.Order.{_≼_, _≺_}
 use Rattle.integers.proofs.Pairs.{diff-of-≤ℤ, <ℤ-suc, suc-<ℤ, nonneg, nonneg-+, nonneg-*, nonneg-sq}
-use Rattle.integers.proofs.Ring.{E, v, #, _⊕_, _⊖_, _⊗_, ⊝, ring, den, nth, zer, nonn, norm, cert, NN}
+use Rattle.integers.proofs.Ring.{E, v, #, _⊕_, _⊖_, _⊗_, ⊝, ring, den, nth, zer, nonn, norm, cert}
 
 -- ---- what z is, over the variables ρ
 

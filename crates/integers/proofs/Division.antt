@@ -1,19 +1,19 @@
 -- Floor division of an integer by a natural, and the nearest integer to a fraction, a tie going up. Assumes nothing.
-use mathlib.Core.Path.{_≡_, refl, sym, ap, ap₂, _∙_, subst, subst₂}
+use mathlib.Core.Path.{_≡_, refl, sym, ap, ap₂, _∙_, subst}
 use mathlib.Core.List.{List, [], _∷_}
-use mathlib.Core.Bool.{Bool, true, false, not}
+use mathlib.Core.Bool.{Bool, true, false}
 use Prim.Native.Nat.{ℕ, zero, suc, _+_, _*_, _-_, _/_, _%_, _≤_, _<_}
 use native.Mathlib.Omega.{arith, by-contra, both-ways}
 use native.Mathlib.Nat.{div-add-mod, mod-lt, mul-le-mul-left}
-use lib.IntN.{ℤ, pos, negsuc, negℤ, natAbs, subℕ, _+ℤ_, _-ℤ_, _*ℤ_}
-use lib.Signed.{_≤ℤ_, _<ℤ_}
-use Rattle.integers.proofs.Pairs.{nonneg, up, dn, Is, int, nat, _+ᵢ_, _-ᵢ_, _*ᵢ_, negᵢ, same, same⁻¹, less, less⁻¹, <ℤ-suc, suc-<ℤ, ≤ℤ-trans}
+use lib.IntN.{ℤ, pos, negsuc, negℤ, natAbs, _+ℤ_, _-ℤ_, _*ℤ_}
+use lib.Signed.{_<ℤ_}
+use Rattle.integers.proofs.Pairs.{nonneg, up, dn, int, nat, _+ᵢ_, _-ᵢ_, _*ᵢ_, negᵢ, same, same⁻¹, less, less⁻¹, <ℤ-suc, suc-<ℤ}
 use Rattle.integers.specs.Order.{_≼_, _≺_}
 use Rattle.integers.specs.Division.{floor, rounded, modulo}
 use Rattle.integers.specs.Signs.{negative, sgn, near, differ, turned}
 use Rattle.integers.proofs.Ring.{v, #, _⊕_, _⊗_, hyp, hyp<, cert, cert<}
 use Rattle.integers.proofs.Order.{≼-antisym}
-use Rattle.integers.proofs.Auto.{polys, ring!, cert!, cert<!, gap, gap<, gap≡, _⊞_, _⊛_, _·_}
+use Rattle.integers.proofs.Auto.{polys, ring!, cert!, cert<!, gap<, gap≡, _⊞_}
 
 -- ---- floor division by its two bounds
 

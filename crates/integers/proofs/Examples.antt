@@ -1,12 +1,12 @@
 -- One or two examples of each tool, to copy from. Assumes nothing.
 use mathlib.Core.Path.{_≡_, refl}
-use mathlib.Core.List.{List, [], _∷_}
+use mathlib.Core.List.{[], _∷_}
 use Prim.Native.Nat.{ℕ, _+_, _*_, _^_, _≤_, _<_}
 use native.Mathlib.Omega.{arith}
-use lib.IntN.{ℤ, pos, negsuc, negℤ, _+ℤ_, _-ℤ_, _*ℤ_}
+use lib.IntN.{ℤ, pos, negsuc, _+ℤ_, _-ℤ_, _*ℤ_}
 use Rattle.integers.specs.Order.{_≼_, _≺_}
 use Rattle.integers.specs.Division.{floor, rounded, modulo}
-use Rattle.integers.proofs.Pairs.{ints, nonneg, add-parts, sub-parts, int, nat, _*ᵢ_, _+ᵢ_, same}
+use Rattle.integers.proofs.Pairs.{ints, nonneg, add-parts, sub-parts, int, _*ᵢ_, _+ᵢ_, same}
 use Rattle.integers.proofs.Auto.{polys, ring!, cert!, gap, gap<, _⊞_, _⊛_, _·_, sqr, nat-ring!, nat-cert!, nat-gap}
 use Rattle.integers.proofs.Order.{cert*! }
 use Rattle.integers.proofs.Division.{rounded-low}

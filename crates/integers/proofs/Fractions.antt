@@ -1,10 +1,10 @@
 -- Fractions with lower numbers of their own, brought to one lower number W: `Over W f n` says that f is n/W. Assumes nothing.
-use mathlib.Core.Path.{_≡_, refl, sym, ap, ap₂, _∙_, subst, subst₂}
-use mathlib.Core.List.{List, [], _∷_}
-use lib.IntN.{ℤ, pos, negℤ, _+ℤ_, _-ℤ_, _*ℤ_}
+use mathlib.Core.Path.{_≡_, sym, ap, ap₂, _∙_, subst, subst₂}
+use mathlib.Core.List.{[], _∷_}
+use lib.IntN.{ℤ, pos, negℤ, _+ℤ_, _*ℤ_}
 use Rattle.integers.specs.Order.{_≼_, _≺_}
 use Rattle.integers.specs.Fractions.{Fraction, _*ᶠ_, _+ᶠ_, negᶠ, _≤ᶠ_}
-use Rattle.integers.proofs.Auto.{polys, ring!, cert!, cert<!, gap, gap<, gap≡, _⊞_, _⊛_}
+use Rattle.integers.proofs.Auto.{polys, ring!, gap, gap≡, _⊞_, _⊛_}
 use Rattle.integers.proofs.Order.{≺-≼, cert*!, product-pos, factor-pos}
 
 -- f is n/W

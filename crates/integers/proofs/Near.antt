@@ -1,11 +1,10 @@
 -- Fractions a/A and b/B that differ by at most f/g, by cross products. Assumes nothing.
-use mathlib.Core.Path.{_≡_, refl, subst}
-use mathlib.Core.List.{List, [], _∷_}
-use Prim.Native.Nat.{ℕ, zero, suc, _*_, _+_, _≤_, _<_}
+use mathlib.Core.Path.{_≡_, subst}
+use mathlib.Core.List.{[], _∷_}
+use Prim.Native.Nat.{_*_, _+_}
 use lib.IntN.{ℤ, pos, _+ℤ_, _-ℤ_, _*ℤ_, negℤ}
 use Rattle.integers.specs.Order.{_≼_, _≺_}
-use Rattle.integers.proofs.Pairs.{nonneg}
-use Rattle.integers.proofs.Auto.{ring!, cert!, cert<!, polys, gap, gap<, gap≡, _⊞_, _⊛_, _·_, sqr}
+use Rattle.integers.proofs.Auto.{cert!, polys, gap, _⊞_, _⊛_}
 use Rattle.integers.proofs.Order.{≺-≼, cert*! }
 
 pub record Near (g f a A b B : ℤ) : Type 0 where

@@ -1,22 +1,21 @@
 -- The order of ℤ beyond what a certificate proves: cases, antisymmetry, cancelling a positive factor, magnitudes, and the range of an i64. Assumes nothing.
-use mathlib.Core.Path.{_≡_, refl, sym, ap, ap₂, _∙_, subst, subst₂}
+use mathlib.Core.Path.{_≡_, refl, ap₂, subst}
 use mathlib.Core.Bool.{Bool, true, false}
 use mathlib.Core.List.{List, [], _∷_}
 use mathlib.Core.Logic.{_⊎_, inl, inr}
 use Prim.Native.Nat.{ℕ, zero, suc, _+_, _-_, _*_, _^_, _≤_, _<_}
-use native.Mathlib.Omega.{arith, by-contra}
+use native.Mathlib.Omega.{arith}
 use native.Mathlib.Decide.{decLe}
-use native.Mathlib.Nat.{mul-le-mul-left}
 use lib.Dec.{T, le→leb}
-use lib.IntN.{ℤ, pos, negsuc, negℤ, natAbs, subℕ, _+ℤ_, _-ℤ_, _*ℤ_}
-use lib.Signed.{_≤ℤ_, _<ℤ_, mag}
+use lib.IntN.{ℤ, pos, negsuc, negℤ, natAbs, _+ℤ_, _-ℤ_, _*ℤ_}
+use lib.Signed.{_<ℤ_}
 use mir.Syntax.{w64}
 use mir.Val.{SFits}
 use Rattle.integers.specs.Order.{_≼_, _≺_}
 use Rattle.integers.specs.Signs.{sgn}
-use Rattle.integers.proofs.Pairs.{up, dn, int, nat, negᵢ, _+ᵢ_, _-ᵢ_, _*ᵢ_, same, less, less⁻¹, <ℤ-suc, suc-<ℤ, ≤ℤ-trans, nonneg, from-nonneg}
-use Rattle.integers.proofs.Ring.{#, _⊕_, _⊖_, _⊗_, norm, nonn, zer}
-use Rattle.integers.proofs.Auto.{Poly, polys, ring!, cert!, cert<!, gap, gap<, gap≡, _⊞_, _⊛_, _·_, sqr}
+use Rattle.integers.proofs.Pairs.{up, dn, int, nat, negᵢ, _+ᵢ_, _-ᵢ_, same, less, less⁻¹, suc-<ℤ}
+use Rattle.integers.proofs.Ring.{#, _⊕_, _⊖_, _⊗_, norm, nonn}
+use Rattle.integers.proofs.Auto.{Poly, polys, cert!, cert<!, gap, gap<, _⊞_, _⊛_, _·_}
 
 pub ≼-or-≺ : (x y : ℤ) → (x ≼ y) ⊎ (y ≺ x)
 ≼-or-≺ x y = go (decLe (up x + dn y) (up y + dn x))

@@ -1,14 +1,13 @@
 -- A ring identity over the integers, proved by computation: `ring ρ e f tt`. Expressions over the variables of a list, their value, and a normal form
 -- in Horner's scheme, with integer coefficients that antt computes. Assumes nothing.
-use mathlib.Core.Path.{_≡_, refl, sym, ap, ap₂, _∙_, subst, subst₂}
+use mathlib.Core.Path.{_≡_, refl, sym, ap, ap₂, _∙_, subst}
 use mathlib.Core.List.{List, [], _∷_}
 use mathlib.Core.Bool.{Bool, true, false}
 use Prim.Native.Nat.{ℕ, zero, suc, _+_, _*_, _≤_, _<_}
-use native.Mathlib.Omega.{arith}
 use lib.Dec.{T, eqb, eqb→eq}
-use lib.IntN.{ℤ, pos, negsuc, negℤ, subℕ, _+ℤ_, _-ℤ_, _*ℤ_, +ℤ-assoc, +ℤ-comm, +ℤ-idl, +ℤ-idr, +ℤ-invr, *ℤ-comm, zero-*ℤ, *ℤ-zero, negℤ-+ℤ, negℤ-negℤ, -ℤ-+ℤ-cancel}
-use lib.Signed.{_≤ℤ_, _<ℤ_, nonNeg, leZ, ≤ℤ-refl}
-use Rattle.integers.proofs.Pairs.{sub-pos, sub-cong, sub-inj, sub-le, sub-le-inv, sub-+, sub-*, sub-neg-swap, up, dn, parts, *ℤ-assoc, *ℤ-+ℤ, +ℤ-*ℤ, negℤ-*ℤ, one-*ℤ, swapℤ, ≤ℤ-of-diff, diff-of-≤ℤ, from-nonneg, nonneg, nonneg-+, nonneg-*, nonneg-sq, ≤ℤ-trans, divided, <ℤ-suc, suc-<ℤ}
+use lib.IntN.{ℤ, pos, negsuc, negℤ, _+ℤ_, _-ℤ_, _*ℤ_, +ℤ-assoc, +ℤ-comm, +ℤ-idl, +ℤ-idr, *ℤ-comm, zero-*ℤ, negℤ-+ℤ, -ℤ-+ℤ-cancel}
+use lib.Signed.{_≤ℤ_, _<ℤ_, nonNeg, ≤ℤ-refl}
+use Rattle.integers.proofs.Pairs.{*ℤ-assoc, *ℤ-+ℤ, +ℤ-*ℤ, negℤ-*ℤ, one-*ℤ, swapℤ, ≤ℤ-of-diff, diff-of-≤ℤ, nonneg, nonneg-+, nonneg-*, nonneg-sq, ≤ℤ-trans, divided, <ℤ-suc, suc-<ℤ}
 
 infixl 6 _⊕_ _⊖_
 infixl 7 _⊗_

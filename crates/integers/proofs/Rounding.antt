@@ -1,15 +1,15 @@
 -- The order of rounded quotients, and a factor of both numbers. Assumes nothing.
 use mathlib.Core.Path.{_≡_}
-use mathlib.Core.List.{List, [], _∷_}
+use mathlib.Core.List.{[], _∷_}
 use mathlib.Core.Logic.{_⊎_, inl, inr}
-use Prim.Native.Nat.{ℕ, zero, suc, _*_, _+_, _≤_, _<_}
+use Prim.Native.Nat.{ℕ, _*_, _+_, _<_}
 use native.Mathlib.Omega.{arith}
 use native.Mathlib.Nat.{mul-pos}
-use lib.IntN.{ℤ, pos, _+ℤ_, _-ℤ_, _*ℤ_}
+use lib.IntN.{ℤ, pos, _+ℤ_, _*ℤ_}
 use Rattle.integers.specs.Order.{_≼_, _≺_}
-use Rattle.integers.specs.Division.{floor, rounded}
+use Rattle.integers.specs.Division.{rounded}
 use Rattle.integers.proofs.Pairs.{nonneg}
-use Rattle.integers.proofs.Auto.{ring!, cert!, cert<!, polys, gap, gap<, _⊞_, _⊛_, _·_}
+use Rattle.integers.proofs.Auto.{cert!, cert<!, polys, gap, gap<, _⊞_, _⊛_, _·_}
 use Rattle.integers.proofs.Order.{≼-or-≺, ≼-nat}
 use Rattle.integers.proofs.Division.{floor-is, rounded-low, rounded-high}
 

@@ -1,6 +1,6 @@
 -- A whole number as a sign (true: negative) and a magnitude, and the rounded quotient and the remainder worked on magnitudes.
 use mathlib.Core.Bool.{Bool, true, false, not}
-use Prim.Native.Nat.{ℕ, zero, suc, _+_, _*_, _-_, _/_, _%_}
+use Prim.Native.Nat.{ℕ, _+_, _*_, _-_, _/_, _%_}
 use lib.IntN.{ℤ, pos, negsuc, negℤ}
 
 unfoldable pub negative : ℤ → Bool

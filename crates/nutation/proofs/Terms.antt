@@ -1,19 +1,19 @@
 -- A row's sum with reduced arguments, its angle, and the sizes of its coefficients and terms. Assumes nothing.
 use mathlib.Core.Path.{_≡_, refl, sym, ap, ap₂, _∙_, subst}
 use mathlib.Core.List.{List, [], _∷_}
-use Prim.Native.Nat.{ℕ, zero, suc, _+_, _*_, _^_, _≤_, _<_}
+use Prim.Native.Nat.{ℕ, _+_, _*_, _^_, _≤_, _<_}
 use native.Mathlib.Omega.{arith}
 use native.Mathlib.Nat.{mul-le-mul}
-use lib.Dec.{lit<, lit≤, le→leb}
-use lib.IntN.{ℤ, pos, natAbs, _+ℤ_, _*ℤ_, negℤ}
+use lib.Dec.{lit<, lit≤}
+use lib.IntN.{ℤ, pos, natAbs, _+ℤ_, _*ℤ_}
 use mir.Syntax.{w64}
 use mir.Val.{SFits}
-use Rattle.integers.specs.Order.{_≼_, _≺_}
-use Rattle.integers.specs.Division.{floor, rounded, modulo}
+use Rattle.integers.specs.Order.{_≼_}
+use Rattle.integers.specs.Division.{floor, rounded}
 use Rattle.integers.proofs.Pairs.{nonneg}
-use Rattle.integers.proofs.Auto.{ring!, cert!, polys, gap, _⊞_, _·_}
+use Rattle.integers.proofs.Auto.{ring!, polys}
 use Rattle.integers.proofs.Order.{natAbs-*, natAbs-+, natAbs-le, fits}
-use Rattle.integers.proofs.Division.{floor-modulo, modulo-lt, modulo-shift, rounded-add}
+use Rattle.integers.proofs.Division.{floor-modulo, modulo-lt, rounded-add}
 use Rattle.integers.proofs.Rounding.{rounded-mono, rounded-zero, rounded-scale}
 use Rattle.arith.proofs.Ranges.{scaled-within}
 use Rattle.units.specs.Units.{U, millennium, turn, t-limit}
@@ -25,9 +25,9 @@ use Rattle.nutation_table.specs.declared.Row.{Row}
 use Rattle.nutation_table.specs.Table.{psi, psi-rate, eps, eps-rate, times-d, times-m, times-m1, times-f, times-node}
 use Rattle.nutation_table.specs.Small.{Small}
 use Rattle.nutation.specs.declared.Arguments.{Arguments}
-use Rattle.nutation.specs.Nutation.{polynomial, argument, mean-elongation, sun-anomaly, moon-anomaly, latitude-argument, moon-node, row-sum, row-angle, argument-turn, coefficient, longitude-term, obliquity-term, add-up}
-use Rattle.nutation.specs.Inner.{By, reach, less-turns, At, combined}
-use Rattle.nutation.proofs.Polynomials.{polynomial-scale, highest-zero, step-bound}
+use Rattle.nutation.specs.Nutation.{polynomial, argument, mean-elongation, sun-anomaly, moon-anomaly, latitude-argument, moon-node, row-sum, row-angle, argument-turn, coefficient, longitude-term, obliquity-term}
+use Rattle.nutation.specs.Inner.{By, less-turns, At, combined}
+use Rattle.nutation.proofs.Polynomials.{polynomial-scale, step-bound}
 
 -- ---- the time
 pub by-time : (t : ℤ) → natAbs t ≤ t-limit → By t 3155760000000

@@ -1,5 +1,5 @@
 -- The size of a row's numbers, for the crate above.
-use Prim.Native.Nat.{ℕ, _≤_}
+use Prim.Native.Nat.{_≤_}
 use lib.IntN.{natAbs}
 use Rattle.nutation_table.specs.declared.Row.{Row}
 use Rattle.nutation_table.specs.Table.{psi, psi-rate, eps, eps-rate, times-d, times-m, times-m1, times-f, times-node}

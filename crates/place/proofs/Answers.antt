@@ -1,11 +1,11 @@
 -- From what is seen to the answers, and that the numbers of a place are whole as doubles. Assumes nothing.
-use mathlib.Core.Path.{_≡_, refl, sym, ap, ap₂, _∙_, subst}
+use mathlib.Core.Path.{_≡_, refl, sym, _∙_, subst}
 use mathlib.Core.Bool.{Bool, true, false, cond}
 use mathlib.Core.List.{List}
 use Prim.Native.Nat.{ℕ, _^_, _≤_, _<_}
 use native.Mathlib.Omega.{arith}
 use borrow.Author.Tests.{leb-true}
-use lib.IntN.{ℤ, pos, natAbs}
+use lib.IntN.{natAbs}
 use Rattle.units.specs.Units.{t-limit, in-limit}
 use Rattle.units.specs.Refusals.{number}
 use Rattle.units.specs.declared.Instant.{Instant}
@@ -25,11 +25,10 @@ use Rattle.place.specs.declared.Sight.the-variants.{Usable, Unusable}
 use Rattle.place.specs.declared.Sighting.{Sighting}
 use Rattle.place.specs.declared.Sighting.the-variants.{Seen, NoSight}
 use Rattle.place.specs.declared.MountPlace.{MountPlace}
-use Rattle.place.specs.declared.Mount.{Mount}
 use Rattle.place.specs.declared.Mount.the-variants.{At, Refused}
 use Rattle.place.specs.declared.PlaceAnswer.{PlaceAnswer}
 use Rattle.place.specs.declared.PlaceAnswer.the-variants.{Place, NoPlace}
-use Rattle.place.specs.Apparent.{sight, earlier, rebuilt, turned, apparent, equatorial}
+use Rattle.place.specs.Apparent.{earlier, apparent, equatorial}
 use Rattle.place.specs.Place.{sight-at, taken-again, taken, of-series, sighting, of-sighting, place-answer}
 use Rattle.place.specs.Mount.{mount-place, mount, mount-answer}
 use Rattle.place.specs.Sizes.{reach, equator-reach, Clear, Small}

@@ -1,17 +1,15 @@
 -- The vector rebuilt from its two angles, as the code works it, and the ranges of directions, latitudes and lengths. Assumes nothing.
-use mathlib.Core.Path.{_≡_, refl, sym, ap, ap₂, _∙_, subst}
+use mathlib.Core.Path.{_≡_, sym, ap, ap₂, _∙_, subst}
 use mathlib.Core.Bool.{Bool, true, false, cond}
 use Prim.Native.Nat.{ℕ, zero, suc, _+_, _-_, _*_, _%_, _^_, _≤_, _<_}
 use native.Mathlib.Omega.{arith, by-contra}
-use native.Mathlib.Nat.{mul-le-mul, le-trans}
+use native.Mathlib.Nat.{mul-le-mul}
 use lib.Dec.{eqb}
 use lib.IntN.{ℤ, pos, negℤ, natAbs, _+ℤ_, _*ℤ_}
-use mir.Syntax.{w64}
-use mir.Val.{SFits}
-use Rattle.integers.specs.Division.{rounded, modulo}
+use Rattle.integers.specs.Division.{modulo}
 use Rattle.integers.specs.Root.{root}
-use Rattle.integers.specs.Signs.{negative, sgn}
-use Rattle.integers.proofs.Order.{natAbs-+, natAbs-*, fits, natAbs-sgn}
+use Rattle.integers.specs.Signs.{negative}
+use Rattle.integers.proofs.Order.{natAbs-+, natAbs-*, natAbs-sgn}
 use Rattle.integers.proofs.Division.{modulo-lt, modulo-add}
 use Rattle.integers.proofs.Root.{root-spec}
 use Rattle.arith.proofs.Ranges.{rounded-within}
@@ -22,7 +20,7 @@ use Rattle.vectors.specs.declared.Vector.{Vector}
 use Rattle.vectors.specs.Vectors.{length, squared}
 use Rattle.vectors.specs.Rectangular.{rectangular}
 use Rattle.vectors.specs.Sizes.{Components}
-use Rattle.arith.proofs.Cells.{Cell, cell, held-le, held-lt}
+use Rattle.arith.proofs.Cells.{Cell, cell}
 use Rattle.vectors.proofs.Places.{squared-size, reduced, residue-small, smaller, rectangular-size}
 use Rattle.direction.specs.Angles.{units-angle}
 use Rattle.direction.specs.Direction.{quarter-steps, turn-steps, steps-angle, greatest, in-quarter, first-quarter, turned-in, direction, latitude}

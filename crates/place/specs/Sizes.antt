@@ -1,5 +1,4 @@
 -- How large the numbers of a usable sight are: what the functions of this crate ask of each other.
-use mathlib.Core.Path.{_≡_}
 use Prim.Native.Nat.{ℕ, _*_, _^_, _≤_, _<_}
 use lib.IntN.{natAbs}
 use Rattle.vectors.specs.Sizes.{Components}

@@ -4,14 +4,14 @@ use mathlib.Core.Bool.{Bool, false}
 use mathlib.Core.List.{List, _∷_}
 use Prim.Native.Nat.{ℕ, suc, _+_, _*_, _/_, _^_, _≤_, _<_}
 use native.Mathlib.Omega.{arith}
-use lib.IntN.{ℤ, natAbs}
+use lib.IntN.{natAbs}
 use lib.ListN.{length, length-append}
 use Rattle.integers.specs.Signs.{negative}
 use Rattle.units.specs.Units.{parts}
 use Rattle.packed.specs.declared.Term.{Term}
 use Rattle.packed.specs.declared.Sums.{Sums}
 use Rattle.packed.specs.Series.{term-count}
-use Rattle.packed.proofs.Accepting.{GoodA, GoodC, GoodTerm}
+use Rattle.packed.proofs.Accepting.{GoodTerm}
 use Rattle.packed.proofs.Limits as limits
 use Rattle.packed.proofs.Judged as judged
 use Rattle.text.specs.Grammar.{sign, countBytes, decimal}

@@ -1,7 +1,6 @@
 -- The plain lines follow the grammar with the numbers that they print, and plain lines are what is printed of their numbers. Assumes nothing.
 use mathlib.Core.Path.{_≡_, refl, sym, ap, _∙_}
 use mathlib.Core.Bool.{Bool, true, false}
-use mathlib.Core.List.{List}
 use Prim.Native.Nat.{ℕ, zero, suc, _*_, _/_, _^_, _<_}
 use native.Mathlib.Omega.{arith}
 use lib.IntN.{ℤ, pos, negsuc, natAbs}
@@ -10,11 +9,11 @@ use Rattle.integers.proofs.Division.{sgn-natAbs}
 use Rattle.integers.proofs.Order.{natAbs-sgn}
 use Rattle.units.specs.Units as units
 use Rattle.packed.specs.declared.Term.{Term}
-use Rattle.text.specs.Grammar.{numeral, Natural, Decimal, size, value, GoodDecimal, CountLine, count, GoodCount, TermLine, GoodTerm, termIn, Block, AllGood}
+use Rattle.text.specs.Grammar.{numeral, Decimal, size, value, GoodDecimal, CountLine, count, GoodCount, TermLine, GoodTerm, termIn}
 use Rattle.printer.specs.Printer.{last-digits, plain-decimal, plain-count, plain-term}
 use Rattle.printer.proofs.Figures.{length-last}
 use Rattle.printer.proofs.Spacing.{PlainLine}
-use Rattle.printer.proofs.Numerals.{all-last, numeral-last, natural-good, natural-value, natural-unique, Unique, Written, written}
+use Rattle.printer.proofs.Numerals.{all-last, numeral-last, natural-good, natural-value, natural-unique, written}
 
 -- A decimal and its number.
 pub size-plain : (minus : Bool) (v : ℕ) → size (plain-decimal minus v) ≡ v

@@ -1,5 +1,5 @@
 -- The plain lines of a whole series: they follow the grammar, stand within the limits, and are what is printed of their numbers. Assumes nothing.
-use mathlib.Core.Path.{_≡_, refl, sym, ap, ap₂, _∙_}
+use mathlib.Core.Path.{_≡_, refl, sym, ap₂, _∙_}
 use mathlib.Core.Bool.{false}
 use mathlib.Core.List.{List, [], _∷_, map}
 use Prim.Native.Nat.{ℕ, _+_}
@@ -9,7 +9,6 @@ use Rattle.packed.specs.declared.Term.{Term}
 use Rattle.packed.specs.declared.Sums.{Sums}
 use Rattle.packed.specs.Limits.{factor, opened, added}
 use Rattle.packed.specs.Series.{after-block}
-use Rattle.packed.proofs.Accepting.{GoodA, GoodC, GoodTerm}
 use Rattle.packed.proofs.Limits as limits
 use Rattle.packed.proofs.Judged as judged
 use Rattle.text.specs.Grammar.{count, TermLine, Block, termIn, termsIn, blocksIn, AllGood, GoodBlocks, TermsInLimits, BlocksInLimits}

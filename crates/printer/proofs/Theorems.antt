@@ -9,14 +9,13 @@ use lib.Seq.{sets}
 use Rattle.packed.specs.declared.Term.{Term}
 use Rattle.packed.specs.Limits.{no-sums}
 use Rattle.packed.specs.Series.{accepted, parse, pack}
-use Rattle.packed.specs.Allowed.{Allowed}
 use Rattle.packed.proofs.Shortest.{AllBytes}
 use Rattle.packed.proofs.Judged.{allowed-good}
 use Rattle.packed.proofs.Theorems.{accepted-allowed, pack-parse, parse-pack}
 use Rattle.text.specs.declared.Outcome.the-variants.{Accepted}
 use Rattle.text.specs.Reader.{told, whole}
 use Rattle.text.specs.Grammar.{Block, blocksBytes, blocksIn, GoodText, InLimits}
-use Rattle.text.proofs.Theorems.{Reads, read-text, accepted-text}
+use Rattle.text.proofs.Theorems.{read-text, accepted-text}
 use Rattle.text.proofs.Series.{front, text-allowed, reads-packed}
 use Rattle.printer.specs.declared.Printed.the-variants.{Length}
 use Rattle.printer.specs.Printer.{plain-block, plain-text, text-fits, printed, printed-out}

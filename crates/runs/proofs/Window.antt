@@ -1,16 +1,15 @@
 -- What one turn of the loops over a window does. Assumes nothing.
-use mathlib.Core.Path.{_≡_, refl, sym, ap, ap₂, _∙_, subst}
+use mathlib.Core.Path.{_≡_, refl, sym, ap, ap₂, _∙_}
 use mathlib.Core.Bool.{Bool, true, false}
-use mathlib.Core.List.{List, [], _∷_, _++_, map}
-use Prim.Native.Nat.{ℕ, zero, suc, _+_, _*_, _≤_, _<_}
+use mathlib.Core.List.{List, [], _∷_, _++_}
+use Prim.Native.Nat.{ℕ, _+_, _*_, _≤_, _<_}
 use native.Mathlib.Omega.{arith}
-use native.Mathlib.Nat.{add-zero}
 use native.Mathlib.Numerals.{add-one}
 use lib.Dec.{eqb}
 use lib.ListN.{length, getD, drop, length-append, drop-of-length-le}
 use lib.Seq.{drop-cons, sets}
 use Rattle.lists.proofs.Sets.{sets-append}
-use Rattle.runs.specs.Runs.{first-listed, marks, runs, flag, flags, run-numbers}
+use Rattle.runs.specs.Runs.{first-listed, marks, runs, flags, run-numbers}
 
 pub listed-at : (w : List ℕ) (i : ℕ) → i < length w → eqb (getD w i 0) 1 ≡ first-listed (flags (drop i w))
 unfolding flags first-listed

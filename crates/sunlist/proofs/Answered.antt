@@ -1,8 +1,8 @@
 -- Where the list is answered, the window fits, both are series, every place is usable, and the numbers are written. Assumes nothing.
-use mathlib.Core.Path.{_≡_, refl, sym, ap, _∙_, subst}
+use mathlib.Core.Path.{_≡_, refl, ap, _∙_, subst}
 use mathlib.Core.Bool.{Bool, true, false, cond}
 use mathlib.Core.List.{List}
-use Prim.Native.Nat.{ℕ, _+_, _-_, _≤_, _<_}
+use Prim.Native.Nat.{ℕ, _-_, _≤_}
 use native.Mathlib.Omega.{arith}
 use borrow.Author.Tests.{leb-true, le-leb, ltb-false}
 use lib.Dec.{leb, ltb}
@@ -16,7 +16,6 @@ use Rattle.units.specs.declared.Refusal.the-variants.{PastLimit, NoRoom, NotUsa
 use Rattle.packed.specs.declared.Term.{Term}
 use Rattle.packed.specs.Series.{Parsed, accepted, refused, parse}
 use Rattle.runs.specs.Runs.{run-numbers}
-use Rattle.sunlist.specs.declared.ListAnswer.{ListAnswer}
 use Rattle.sunlist.specs.declared.ListAnswer.the-variants.{Runs, NoList}
 use Rattle.sunlist.specs.SunList.{minute, window-fits, decision-at, first-bad, window-flags, Outcome, numbers, no-numbers, of-minutes, of-series, outcome, answered, written, sun-list, sun-list-out}
 

@@ -1,9 +1,8 @@
 -- The call's answers in the order of its tests. Assumes nothing.
-use mathlib.Core.Path.{_≡_, refl, sym, ap, ap₂, _∙_, subst}
+use mathlib.Core.Path.{_≡_, refl, sym, ap, ap₂, _∙_}
 use mathlib.Core.Bool.{Bool, true, false}
 use mathlib.Core.List.{List}
-use Prim.Native.Nat.{ℕ, _-_, _≤_, _<_}
-use native.Mathlib.Omega.{arith}
+use Prim.Native.Nat.{ℕ, _-_, _≤_}
 use borrow.Author.Tests.{leb-true}
 use lib.IntN.{ℤ, pos, negsuc, natAbs}
 use lib.ListN.{length}
@@ -18,7 +17,7 @@ use Rattle.sunlist.specs.declared.ListAnswer.{ListAnswer}
 use Rattle.sunlist.specs.declared.ListAnswer.the-variants.{NoList}
 use Rattle.sunlist.specs.SunList.{minute, window-fits, Outcome, no-numbers, of-series, outcome, answered, written, sun-list, sun-list-out}
 use Rattle.sunlist.specs.Working.{Window}
-use Rattle.sunlist.proofs.Limits.{Fits, fits-is, minute-in}
+use Rattle.sunlist.proofs.Limits.{fits-is, minute-in}
 
 -- A negative number is refused as 0 is.
 fits-natural : (minutes keep-out : ℤ) → window-fits minutes keep-out ≡ window-fits (pos (naturalOr minutes 0)) (pos (naturalOr keep-out 0))

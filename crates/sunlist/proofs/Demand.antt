@@ -1,7 +1,7 @@
 -- Demand 3: whatever two byte strings, window and keep-out the list is answered for, and whatever the output held before, the numbers written are what the demand asks. Assumes nothing.
-use mathlib.Core.Path.{_≡_, refl, sym, ap, ap₂, _∙_, subst, subst₂}
+use mathlib.Core.Path.{_≡_, sym, ap, _∙_, subst}
 use mathlib.Core.Bool.{Bool, true}
-use mathlib.Core.List.{List, _++_}
+use mathlib.Core.List.{List}
 use Prim.Native.Nat.{ℕ, suc, _+_, _*_, _≤_, _<_}
 use native.Mathlib.Omega.{arith}
 use lib.IntN.{ℤ, natAbs}
@@ -10,18 +10,15 @@ use lib.Seq.{sets, sets-eq, length-sets}
 use Rattle.units.specs.Units.{t-limit}
 use Rattle.units.specs.declared.Instant.{Instant}
 use Rattle.units.specs.declared.Coordinates.{Coordinates}
-use Rattle.packed.specs.declared.Term.{Term}
 use Rattle.series.specs.Sums.{coordinates}
-use Rattle.vectors.specs.Rectangular.{places-usable}
-use Rattle.separation.specs.Exact.{Within-arcminutes}
 use Rattle.separation.specs.Listed.{listed}
 use Rattle.separation.proofs.Core.{within-is-listed, listed-is-within}
 use Rattle.runs.specs.Runs.{run-numbers, flag, flags}
 use Rattle.runs.proofs.Runs.{Flags-of, runs-are}
-use Rattle.runs.proofs.Maximal.{Runs-of, runs-of, Holds}
+use Rattle.runs.proofs.Maximal.{Runs-of, runs-of}
 use Rattle.sunlist.specs.declared.ListAnswer.the-variants.{Runs}
 use Rattle.sunlist.specs.SunList.{minute, good, flag-of, decision-at, window-flags, sun-list, sun-list-out}
-use Rattle.sunlist.specs.Demand.{exact-coordinates, first-minute, last-minute, In-run, Demand-3}
+use Rattle.sunlist.specs.Demand.{first-minute, last-minute, In-run, Demand-3}
 use Rattle.sunlist.proofs.Limits.{Fits, fits-is, minute-in}
 use Rattle.sunlist.proofs.Answered.{list-of, Answered, answered-is}
 use Rattle.sunlist.proofs.Minutes.{all-good, good-usable, good-flag, flags-are}

@@ -2,12 +2,11 @@
 use mathlib.Core.Path.{_≡_, refl, sym, ap, _∙_, subst}
 use mathlib.Core.Bool.{Bool, true, false, cond}
 use mathlib.Core.List.{List, [], _∷_, _++_, append-assoc, append-nil}
-use Prim.Native.Nat.{ℕ, zero, suc, _+_, _-_, _≤_, _<_}
+use Prim.Native.Nat.{ℕ, suc, _+_, _-_, _≤_, _<_}
 use native.Mathlib.Omega.{arith}
 use native.Mathlib.Numerals.{add-one}
 use lib.ListN.{length, take, set, length-set}
-use lib.Seq.{take-suc-set, take-length, take-all}
-use Rattle.sunlist.specs.declared.Figures.{Figures}
+use lib.Seq.{take-suc-set, take-all}
 use Rattle.sunlist.specs.declared.Decision.{Decision}
 use Rattle.sunlist.specs.declared.Decision.the-variants.{Listed, Clear, Unusable}
 use Rattle.sunlist.specs.SunList.{good, flag-of, first-bad, window-flags}

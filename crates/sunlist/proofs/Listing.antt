@@ -1,25 +1,25 @@
 -- What the functions of the list ask of each other and answer. Assumes nothing.
 use mathlib.Core.Path.{_≡_, refl, sym, ap, ap₂, _∙_, subst}
-use mathlib.Core.Bool.{Bool, true, false, cond, _&&_}
+use mathlib.Core.Bool.{false}
 use mathlib.Core.List.{List, _++_}
 use Prim.Native.Nat.{ℕ, zero, suc, _≤_, _<_}
 use native.Mathlib.Omega.{arith}
-use borrow.Author.Tests.{le-leb, lt-leb, lt-ltb, le-ltb, leb-true}
-use lib.Dec.{leb, ltb}
-use lib.IntN.{ℤ, pos, negsuc, natAbs}
+use borrow.Author.Tests.{le-leb, lt-leb, lt-ltb, le-ltb}
+use lib.Dec.{leb}
+use lib.IntN.{ℤ, pos, natAbs}
 use lib.ListN.{length, take, drop}
 use lib.Seq.{length-take-le, take-at}
-use Rattle.units.specs.Units.{t-limit, in-limit}
+use Rattle.units.specs.Units.{t-limit}
 use Rattle.units.specs.declared.Instant.{Instant}
 use Rattle.units.specs.declared.Coordinates.{Coordinates}
-use Rattle.units.specs.declared.Refusal.the-variants.{NotUsable, PastLimit, BadWindow}
+use Rattle.units.specs.declared.Refusal.the-variants.{NotUsable}
 use Rattle.packed.specs.declared.Term.{Term}
 use Rattle.series.specs.Sums.{coordinates}
 use Rattle.runs.specs.Runs.{run-numbers}
 use Rattle.sunlist.specs.declared.Decision.{Decision}
 use Rattle.sunlist.specs.declared.ListAnswer.the-variants.{NoList}
 use Rattle.sunlist.specs.Minute.{decide}
-use Rattle.sunlist.specs.SunList.{minute, window-fits, decision-at, first-bad, window-flags, numbers, no-numbers, of-minutes, answered, written}
+use Rattle.sunlist.specs.SunList.{minute, window-fits, decision-at, first-bad, window-flags, numbers, of-minutes, answered, written}
 use Rattle.sunlist.specs.Working.{Window, Filled}
 
 -- ---- fits

@@ -1,10 +1,8 @@
 -- Where no minute is bad every place is usable, and a minute's flag says whether it is listed. Assumes nothing.
-use mathlib.Core.Path.{_≡_, refl, sym, ap, _∙_, subst}
+use mathlib.Core.Path.{_≡_, refl, sym, subst}
 use mathlib.Core.Bool.{Bool, true, false, cond}
-use mathlib.Core.List.{List, [], _∷_}
 use Prim.Native.Nat.{ℕ, zero, suc, _+_, _≤_, _<_}
 use native.Mathlib.Omega.{arith}
-use lib.Dec.{eqb}
 use Rattle.units.specs.declared.Coordinates.{Coordinates}
 use Rattle.vectors.specs.Rectangular.{places-usable}
 use Rattle.separation.specs.Listed.{listed}

@@ -1,5 +1,5 @@
 -- The working coordinates of an accepted series are near its exact sums at every instant within the limit. Assumes nothing.
-use mathlib.Core.Path.{_≡_, refl, sym, ap, _∙_, subst}
+use mathlib.Core.Path.{_≡_, sym, ap, _∙_, subst}
 use mathlib.Core.Bool.{Bool, cond}
 use mathlib.Core.List.{List}
 use Prim.Native.Nat.{ℕ, _+_, _*_, _^_, _≤_}
@@ -15,9 +15,8 @@ use Rattle.units.specs.declared.Refusal.the-variants.{PastLimit}
 use Rattle.packed.specs.declared.Term.{Term}
 use Rattle.packed.specs.Limits.{total-limit, powers}
 use Rattle.packed.specs.Series.{parse, accepted}
-use Rattle.series.specs.declared.CoordinatesAnswer.{CoordinatesAnswer}
 use Rattle.series.specs.declared.CoordinatesAnswer.the-variants.{At, NoCoordinates}
-use Rattle.series.specs.Sums.{running-sum, coordinates, longitude-blocks, latitude-blocks, radius-blocks, of-parsed, coordinates-answer}
+use Rattle.series.specs.Sums.{running-sum, coordinates, longitude-blocks, latitude-blocks, of-parsed, coordinates-answer}
 use Rattle.series.proofs.Accepted.{Accepted, accepted-is, in-take, in-drop}
 use Rattle.series.proofs.Promise.{P2, Near-exact}
 use Rattle.series.proofs.Sizes.{running-size}

@@ -1,13 +1,13 @@
 -- The sizes of unit vectors, of their squared separation and of the threshold: all within 64 bits where the places are usable. Assumes nothing.
-use mathlib.Core.Path.{_≡_, refl, sym, ap, ap₂, _∙_, subst}
-use mathlib.Core.Bool.{Bool, true, false, _&&_}
+use mathlib.Core.Path.{_≡_, sym, ap, _∙_, subst}
+use mathlib.Core.Bool.{true, false, _&&_}
 use mathlib.Core.List.{List, [], _∷_}
-use Prim.Native.Nat.{ℕ, _+_, _*_, _/_, _^_, _≤_, _<_}
+use Prim.Native.Nat.{ℕ, _+_, _*_, _/_, _≤_, _<_}
 use native.Mathlib.Omega.{arith}
 use native.Mathlib.Nat.{mul-le-mul}
 use borrow.Author.Tests.{leb-true}
 use lib.Dec.{leb, le→leb, leb→le}
-use lib.IntN.{ℤ, pos, natAbs, negℤ, _+ℤ_, _-ℤ_, _*ℤ_}
+use lib.IntN.{ℤ, pos, natAbs, _+ℤ_, _-ℤ_, _*ℤ_}
 use lib.Signed.{leZ}
 use Rattle.integers.specs.Order.{_≼_}
 use Rattle.integers.specs.Signs.{sgn, near}
@@ -23,7 +23,7 @@ use Rattle.vectors.specs.declared.Vector.{Vector}
 use Rattle.vectors.specs.Vectors.{geocentric, sun, squared, length, unit, radius-usable, usable}
 use Rattle.vectors.specs.Rectangular.{rectangular, place, distance, places-usable}
 use Rattle.vectors.specs.Sizes.{Components}
-use Rattle.vectors.proofs.Places.{sine-size, within-length}
+use Rattle.vectors.proofs.Places.{within-length}
 use Rattle.vectors.proofs.Usable.{radius-least}
 use Rattle.separation.specs.Listed.{squared-separation, threshold}
 use Rattle.separation.proofs.Form.{dot}

@@ -1,7 +1,7 @@
 // The window of a list: its limits, the flags of its minutes, and the numbers written from them. For this crate alone.
 ghost use mathlib.Core.Path.{_≡_};
 ghost use Prim.Native.Nat.{_*_, _≤_, _<_};
-ghost use lib.IntN.{pos, natAbs, _+ℤ_};
+ghost use lib.IntN.{pos, natAbs};
 ghost use lib.ListN.{length};
 ghost use Rattle.units.specs.Units.{t-limit};
 ghost use Rattle.runs.specs.Runs.{run-numbers};

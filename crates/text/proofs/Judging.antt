@@ -6,7 +6,6 @@ use native.Mathlib.Omega.{arith}
 use borrow.Author.Tests.{ltb-true, leb-true, eqb-true, le-leb, lt-leb, eq-eqb, ne-eqb}
 use lib.Dec.{leb, ltb, eqb}
 use lib.IntN.{ℤ, pos, natAbs}
-use Rattle.integers.specs.Signs.{sgn}
 use Rattle.integers.proofs.Tests.{false-true}
 use Rattle.integers.proofs.Order.{natAbs-sgn}
 use Rattle.packed.specs.declared.Sums.{Sums}

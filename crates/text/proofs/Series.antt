@@ -9,9 +9,8 @@ use lib.Dec.{leb}
 use lib.ListN.{length, take, drop}
 use lib.Seq.{sets, sets-eq, take-append-seam}
 use Rattle.integers.proofs.Tests.{both}
-use Rattle.packed.specs.declared.Term.{Term}
 use Rattle.packed.specs.declared.Sums.{Sums}
-use Rattle.packed.specs.Limits.{block-limit, series-limit, block-count, factor, no-sums, opened, added, count-fits, a-fits, b-fits, c-fits, total-fits, coarse-fits}
+use Rattle.packed.specs.Limits.{block-limit, series-limit, factor, no-sums, opened, added, count-fits, a-fits, b-fits, c-fits, total-fits, coarse-fits}
 use Rattle.packed.specs.Series.{accepted, parse, pack, after-block}
 use Rattle.packed.specs.Allowed.{Allowed}
 use Rattle.packed.proofs.Accepting.{GoodTerm}

@@ -2,7 +2,7 @@
 use crate::Line;
 ghost use mathlib.Core.Path.{_≡_};
 ghost use Prim.Native.Nat.{_<_, _-_};
-ghost use Rattle.text.specs.Lexer.{fresh, bad, takesDigit, withDigit, withPoint, withSpace, withMinus, wholeCount, wholeTerm};
+ghost use Rattle.text.specs.Lexer.{fresh, takesDigit, withDigit, withPoint, withSpace, withMinus, wholeCount, wholeTerm};
 
 pub fn fresh_line(spot: u64) -> Line
     ensures { λ r. ⌜ r ≡ fresh spot ⌝ }

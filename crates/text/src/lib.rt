@@ -10,7 +10,7 @@ use crate::steps::refusal_of;
 use crate::steps::take_byte;
 use units::Refusal;
 ghost use mathlib.Core.Path.{_≡_};
-ghost use Rattle.text.specs.Reader.{begun, Run, run, ended, told, whole};
+ghost use Rattle.text.specs.Reader.{begun, run, ended, told, whole};
 
 // A line as far as it is read: where the next byte stands (specs/Lexer.antt), how many decimals stand before this one, the decimal or
 // count so far, with 1 for a minus, and the two decimals before it, in parts.

@@ -1,7 +1,6 @@
 -- Document 01, "Refusals and what they leave": the number of each refusal and the figure that comes with it.
 use Prim.Native.Nat.{ℕ}
 use lib.IntN.{ℤ, pos}
-use Rattle.units.specs.declared.Instant.{Instant}
 use Rattle.units.specs.declared.Refusal.{Refusal}
 use Rattle.units.specs.declared.Refusal.the-variants.{NoSuchDate, PastLimit, BadByte, OverLimit, TotalOverLimit, TooCoarse, NoRoom, EndedEarly, ByteAfterEnd, NotShortest, NotUsable, BadWindow}
 

@@ -1,5 +1,5 @@
 -- The figures that the functions work out are those of the definitions, and no component is larger than R. Assumes nothing.
-use mathlib.Core.Path.{_≡_, sym, ap, ap₂, _∙_, subst, subst₂}
+use mathlib.Core.Path.{_≡_, sym, ap, ap₂, _∙_, subst}
 use Prim.Native.Nat.{ℕ, _+_, _-_, _*_, _^_, _≤_, _<_}
 use native.Mathlib.Omega.{arith, by-contra}
 use native.Mathlib.Nat.{mul-le-mul, le-trans}
@@ -9,7 +9,7 @@ use mir.Val.{SFits}
 use lib.IntN.{ℤ, pos, natAbs, negℤ, _+ℤ_, _-ℤ_, _*ℤ_}
 use Rattle.integers.specs.Division.{rounded, modulo}
 use Rattle.integers.specs.Root.{root}
-use Rattle.integers.proofs.Order.{natAbs-le, natAbs-*, natAbs-+, natAbs-neg, natAbs-sub, fits, square-natAbs}
+use Rattle.integers.proofs.Order.{natAbs-le, natAbs-*, natAbs-+, natAbs-sub, fits, square-natAbs}
 use Rattle.integers.proofs.Auto.{polys, ring! }
 use Rattle.integers.proofs.Division.{modulo-lt}
 use Rattle.integers.proofs.Root.{root-spec}
@@ -21,7 +21,7 @@ use Rattle.cosine.proofs.Ranges.{cosine-range, sine-range}
 use Rattle.cosine.proofs.Turns.{cosine-mod, sine-mod}
 use Rattle.vectors.specs.declared.Vector.{Vector}
 use Rattle.vectors.specs.Rectangular.{rectangular, place}
-use Rattle.vectors.specs.Vectors.{geocentric, sun, squared, length, unit}
+use Rattle.vectors.specs.Vectors.{squared, length}
 use Rattle.vectors.specs.Sizes.{Components}
 use Rattle.arith.proofs.Cells.{Cell, cell, held-le}
 

@@ -1,9 +1,8 @@
 // The vectors of document 01, "Places". For the crates above, which have tested both R.
 ghost use mathlib.Core.Path.{_≡_};
 ghost use mathlib.Core.Bool.{true};
-ghost use Prim.Native.Nat.{_+_, _*_, _<_, _≤_, _^_};
+ghost use Prim.Native.Nat.{_*_, _<_, _^_};
 ghost use lib.IntN.{pos, natAbs};
-ghost use Rattle.units.specs.Units.{parts};
 ghost use Rattle.vectors.specs.Rectangular.{rectangular, place as place-of};
 ghost use Rattle.vectors.specs.Vectors.{geocentric as geocentric-of, sun as sun-of, length as length-of, radius-usable, usable as usable-of, unit as unit-of};
 ghost use Rattle.vectors.specs.Sizes.{Components};

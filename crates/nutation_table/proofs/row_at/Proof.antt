@@ -1,5 +1,5 @@
 -- `nutation_table::row_at` meets its contract. Assumes nothing.
-use mathlib.Core.Path.{_≡_, _∙_}
+use mathlib.Core.Path.{_∙_}
 use native.Mathlib.Omega.{arith}
 use lib.Seq.{getD-take}
 use Rattle.nutation_table.specs.Table.{rows, no-row}

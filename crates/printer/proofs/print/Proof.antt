@@ -5,7 +5,7 @@ use Prim.Native.Nat.{ℕ}
 use Rattle.units.specs.declared.Refusal.{Refusal}
 use Rattle.packed.specs.declared.Checked.the-variants.{NoSeries}
 use Rattle.packed.specs.Series.{checked, parse}
-use Rattle.printer.proofs.Answers.{Opened, opened, print-refused}
+use Rattle.printer.proofs.Answers.{opened, print-refused}
 use borrow.Author.Needs.{needs}
 use Rattle.printer.proofs.print.Statement.{statement}
 use Rattle.printer.proofs.print.Tie as tie

@@ -1,5 +1,5 @@
 -- `read_all` is safe and ends: the measure is the number of turns that are left, and the buffer keeps its length. Assumes nothing.
-use mathlib.Core.Path.{_≡_, refl, _∙_}
+use mathlib.Core.Path.{_≡_, refl}
 use native.Mathlib.Omega.{arith}
 use borrow.Author.Needs.{needs}
 use lib.ListN.{length}

@@ -1,7 +1,7 @@
 -- `direction::inner::after_turns` meets its contract. Assumes nothing.
-use mathlib.Core.Path.{_≡_, _∙_, ap}
+use mathlib.Core.Path.{_∙_, ap}
 use Prim.Native.Nat.{ℕ, _+_, _*_}
-use lib.IntN.{ℤ, pos}
+use lib.IntN.{pos}
 use Rattle.arith.proofs.Signs.{back, ok}
 use borrow.Author.Needs.{needs}
 use Rattle.direction.proofs.inner.after_turns.Statement.{statement}

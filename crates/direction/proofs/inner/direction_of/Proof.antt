@@ -1,10 +1,9 @@
 -- `direction::inner::direction_of` meets its contract. Assumes nothing.
 use mathlib.Core.Path.{_≡_, _∙_, sym, ap, subst}
-use mathlib.Core.Bool.{true, false}
 use Prim.Native.Nat.{ℕ, _^_, _<_}
 use native.Mathlib.Omega.{arith}
 use lib.Dec.{lit<}
-use lib.IntN.{ℤ, pos, natAbs}
+use lib.IntN.{pos, natAbs}
 use borrow.Author.Needs.{needs}
 use Rattle.integers.specs.Signs.{negative}
 use Rattle.arith.proofs.Signs.{back, ok}

@@ -1,6 +1,6 @@
 -- `direction::inner::is_not_past` meets its contract. Assumes nothing.
 use mathlib.Core.Path.{_≡_, _∙_}
-use lib.IntN.{ℤ, pos}
+use lib.IntN.{pos}
 use mir.Val.{toZ, ofZ}
 use mir.Syntax.{w64}
 use borrow.Author.Needs.{needs}

@@ -1,12 +1,11 @@
 -- `direction::inner::latitude_of` meets its contract. Assumes nothing.
-use mathlib.Core.Path.{_≡_, _∙_, sym, ap, ap₂, subst}
-use Prim.Native.Nat.{ℕ, _^_, _≤_, _<_}
+use mathlib.Core.Path.{_≡_, _∙_, sym, ap, subst}
+use Prim.Native.Nat.{ℕ, _^_, _<_}
 use native.Mathlib.Omega.{arith}
-use lib.IntN.{ℤ, pos, natAbs, _+ℤ_, _*ℤ_}
-use lib.Signed.{_≤ℤ_, mag}
+use lib.IntN.{pos, natAbs, _+ℤ_, _*ℤ_}
+use lib.Signed.{mag}
 use borrow.Author.Needs.{needs}
 use Rattle.integers.specs.Root.{root}
-use Rattle.integers.specs.Signs.{negative}
 use Rattle.integers.proofs.Pairs.{nonneg}
 use Rattle.arith.proofs.Signs.{back, ok}
 use Rattle.direction.specs.Direction.{direction}

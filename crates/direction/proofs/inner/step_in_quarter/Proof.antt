@@ -1,6 +1,6 @@
 -- `direction::inner::step_in_quarter` meets its contract. The greatest step that is not past lies from `least` to just below `most`. Assumes nothing.
-use mathlib.Core.Path.{_≡_, _∙_, sym}
-use Prim.Native.Nat.{_+_, _-_, _/_, _≤_, _<_}
+use mathlib.Core.Path.{_∙_, sym}
+use Prim.Native.Nat.{_-_}
 use native.Mathlib.Omega.{arith}
 use Rattle.direction.proofs.Halving.{Between, between-all, between-up, between-down, between-done}
 use Rattle.direction.proofs.inner.step_in_quarter.Statement.{statement}

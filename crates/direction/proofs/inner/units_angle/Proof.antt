@@ -1,6 +1,6 @@
 -- `direction::inner::units_angle` meets its contract. Assumes nothing.
-use mathlib.Core.Path.{_≡_, _∙_}
-use lib.Dec.{lit<, lit≤}
+use mathlib.Core.Path.{_∙_}
+use lib.Dec.{lit≤}
 use Rattle.arith.proofs.Signs.{back, ok}
 use Rattle.direction.specs.Angles.{units-angle}
 use Rattle.direction.proofs.inner.units_angle.Statement.{statement}

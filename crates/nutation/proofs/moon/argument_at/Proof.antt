@@ -1,10 +1,10 @@
 -- `nutation::moon::argument_at` meets its contract. Assumes nothing.
 use mathlib.Core.Path.{_≡_, _∙_, sym, ap, subst}
-use mathlib.Core.List.{List, [], _∷_}
+use mathlib.Core.List.{[], _∷_}
 use Prim.Native.Nat.{ℕ, _^_, _<_}
 use native.Mathlib.Omega.{arith}
 use lib.Dec.{lit<}
-use lib.IntN.{ℤ, pos}
+use lib.IntN.{pos}
 use Rattle.integers.specs.Division.{modulo}
 use Rattle.integers.proofs.Division.{modulo-lt}
 use Rattle.arith.proofs.Signs.{back, ok}

@@ -1,18 +1,16 @@
 -- `nutation::moon::arguments_at` meets its contract. Assumes nothing.
 use mathlib.Core.Path.{_≡_, _∙_, sym, ap, subst}
-use Prim.Native.Nat.{ℕ, _+_, _*_, _^_, _≤_, _<_}
-use native.Mathlib.Omega.{arith}
-use lib.Dec.{lit<, lit≤}
+use Prim.Native.Nat.{_+_, _*_, _≤_, _<_}
+use lib.Dec.{lit<}
 use lib.IntN.{ℤ, pos, negsuc, natAbs, _+ℤ_, _*ℤ_}
 use mir.Syntax.{w64}
 use mir.Val.{toZ, ofZ}
-use borrow.Author.Needs.{needs}
 use Rattle.arith.proofs.Signs.{back, ok}
-use mathlib.Core.List.{List, [], _∷_}
+use mathlib.Core.List.{[], _∷_}
 use Rattle.integers.specs.Division.{rounded}
 use Rattle.units.specs.Units.{millennium}
 use Rattle.nutation.specs.Nutation.{polynomial, mean-elongation, sun-anomaly, moon-anomaly, latitude-argument, moon-node}
-use Rattle.nutation.specs.Inner.{reach, less-turns, At}
+use Rattle.nutation.specs.Inner.{reach, less-turns}
 use Rattle.nutation.proofs.Polynomials.{highest}
 use Rattle.nutation.proofs.moon.arguments_at.Statement.{statement}
 use Rattle.nutation.proofs.moon.arguments_at.Tie as tie

@@ -1,10 +1,10 @@
 -- `nutation::polynomial::polynomial` meets its contract. Assumes nothing.
 use mathlib.Core.Path.{_≡_, _∙_, sym}
-use mathlib.Core.List.{List, [], _∷_}
-use Prim.Native.Nat.{_+_, _*_, _-_, _^_, _<_}
+use mathlib.Core.List.{[], _∷_}
+use Prim.Native.Nat.{_-_, _^_, _<_}
 use Rattle.arith.proofs.Signs.{back, ok}
 use Rattle.nutation.specs.Nutation.{polynomial}
-use Rattle.nutation.specs.Inner.{By, reach}
+use Rattle.nutation.specs.Inner.{reach}
 use Rattle.nutation.proofs.Polynomials.{chain, asks, less-reach, highest}
 use Rattle.nutation.proofs.polynomial.polynomial.Statement.{statement}
 use Rattle.nutation.proofs.polynomial.polynomial.Tie as tie

@@ -1,9 +1,8 @@
 -- `nutation::rows::coefficient_at` meets its contract. Assumes nothing.
-use mathlib.Core.Path.{_≡_, _∙_, sym, ap, subst}
+use mathlib.Core.Path.{_≡_, sym, subst}
 use Prim.Native.Nat.{ℕ, _+_, _*_, _-_, _^_, _≤_, _<_}
 use native.Mathlib.Omega.{arith}
-use lib.IntN.{ℤ, pos, natAbs, _+ℤ_, _*ℤ_}
-use borrow.Author.Needs.{needs}
+use lib.IntN.{pos, natAbs, _+ℤ_, _*ℤ_}
 use Rattle.integers.specs.Division.{rounded}
 use Rattle.integers.proofs.Order.{fits}
 use Rattle.arith.proofs.Signs.{back, ok}

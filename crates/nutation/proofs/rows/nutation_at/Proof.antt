@@ -1,12 +1,11 @@
 -- `nutation::rows::nutation_at` meets its contract. The sums so far, and the terms of the rows that are left, give the whole. Assumes nothing.
-use mathlib.Core.Path.{_≡_, _∙_, sym, subst}
-use Prim.Native.Nat.{ℕ, _+_, _-_, _^_, _≤_, _<_}
+use mathlib.Core.Path.{_≡_, sym, subst}
+use Prim.Native.Nat.{ℕ, _-_, _^_, _≤_}
 use native.Mathlib.Omega.{arith}
-use lib.IntN.{ℤ, natAbs}
+use lib.IntN.{natAbs}
 use mir.Syntax.{w64}
 use mir.Val.{toZ, ofZ}
-use borrow.Author.Needs.{needs}
-use Rattle.arith.proofs.Signs.{back, ok}
+use Rattle.arith.proofs.Signs.{back}
 use Rattle.units.specs.Units.{t-limit}
 use Rattle.nutation.specs.Nutation.{longitude-nutation, obliquity-nutation}
 use Rattle.nutation.proofs.Sums.{Summed, summed-none, summed-more, summed-all, summed-room}

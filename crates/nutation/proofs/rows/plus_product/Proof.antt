@@ -1,15 +1,11 @@
 -- `nutation::rows::plus_product` meets its contract. Assumes nothing.
-use mathlib.Core.Path.{_≡_, _∙_, sym, ap, subst}
-use Prim.Native.Nat.{ℕ, _+_, _*_, _^_, _≤_, _<_}
+use mathlib.Core.Path.{_≡_}
+use Prim.Native.Nat.{ℕ, _+_, _*_, _^_, _≤_}
 use native.Mathlib.Omega.{arith}
-use lib.Dec.{lit<, lit≤}
-use lib.IntN.{ℤ, pos, negsuc, natAbs, _+ℤ_, _*ℤ_}
-use mir.Syntax.{w64}
-use mir.Val.{toZ, ofZ}
-use borrow.Author.Needs.{needs}
+use lib.IntN.{natAbs, _+ℤ_, _*ℤ_}
 use Rattle.arith.proofs.Signs.{back, ok}
 use Rattle.integers.proofs.Order.{fits}
-use Rattle.nutation.proofs.Terms.{product-small, sum-fits, sum-small, same-small}
+use Rattle.nutation.proofs.Terms.{product-small, sum-fits, sum-small}
 use Rattle.nutation.proofs.rows.plus_product.Statement.{statement}
 use Rattle.nutation.proofs.rows.plus_product.Tie as tie
 

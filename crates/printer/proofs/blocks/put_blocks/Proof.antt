@@ -8,7 +8,7 @@ use Rattle.packed.specs.Tables.{blocks-at, table-blocks}
 use Rattle.printer.specs.Printer.{plain-text}
 use Rattle.printer.specs.Writing.{Ordered}
 use Rattle.printer.proofs.Writing.{Left, left-one, left-more, left-empty, left-over, left-room}
-use Rattle.printer.proofs.Tables.{Next, ordered-next, block-left, blocks-over}
+use Rattle.printer.proofs.Tables.{ordered-next, block-left, blocks-over}
 use Rattle.printer.proofs.blocks.put_blocks.Statement.{statement}
 use Rattle.printer.proofs.blocks.put_blocks.Tie as tie
 

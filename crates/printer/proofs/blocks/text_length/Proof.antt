@@ -3,7 +3,7 @@ use Prim.Native.Nat.{_-_}
 use lib.ListN.{getD}
 use mathlib.Core.Path.{refl}
 use native.Mathlib.Omega.{arith}
-use Rattle.printer.proofs.Tables.{Next, ordered-next, Totalled, totalled-none, totalled-more, totalled-last}
+use Rattle.printer.proofs.Tables.{ordered-next, Totalled, totalled-none, totalled-more, totalled-last}
 use Rattle.printer.proofs.blocks.text_length.Statement.{statement}
 use Rattle.printer.proofs.blocks.text_length.Tie as tie
 

@@ -1,7 +1,6 @@
 -- `sunlist::window::minute` meets its contract. Assumes nothing.
-use mathlib.Core.Path.{_≡_, refl, ap}
+use mathlib.Core.Path.{ap}
 use lib.IntN.{ℤ}
-use Rattle.units.specs.declared.Instant.{Instant}
 use Rattle.sunlist.proofs.Written.{minute-fits, minute-is}
 use borrow.Author.Needs.{needs}
 use Rattle.sunlist.proofs.window.minute.Statement.{statement}
