@@ -1,8 +1,8 @@
 -- `read_term_at` meets its contract. Assumes nothing.
 use mathlib.Core.Path.{sym, _∙_}
+use borrow.Author.Needs.{needs}
 use Rattle.packed.proofs.Judging.{term-fit}
 use Rattle.packed.proofs.Accepting.{show-found}
-use borrow.Author.Needs.{needs}
 use Rattle.packed.proofs.inner.read_term_at.Statement.{statement}
 use Rattle.packed.proofs.inner.read_term_at.Tie as tie
 

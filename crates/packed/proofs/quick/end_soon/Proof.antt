@@ -1,8 +1,8 @@
 -- `end_soon` meets its contract. Assumes nothing.
 use native.Mathlib.Nat.{mul-le-mul-right}
 use native.Mathlib.Omega.{arith}
-use Rattle.packed.proofs.Usual.{Ahead, unusual, sizes, x-last, y-last}
 use borrow.Author.Needs.{needs}
+use Rattle.packed.proofs.Usual.{Ahead, unusual, sizes, x-last, y-last}
 use Rattle.packed.proofs.quick.end_soon.Statement.{statement}
 use Rattle.packed.proofs.quick.end_soon.Tie as tie
 

@@ -1,9 +1,9 @@
 -- `first_four` meets its contract. Assumes nothing.
 use mathlib.Core.Path.{refl}
 use native.Mathlib.Omega.{arith}
-use Rattle.packed.proofs.Usual.{unusual, none-begun}
 use borrow.Author.Needs.{needs}
 use borrow.Author.Tests.{not-false}
+use Rattle.packed.proofs.Usual.{unusual, none-begun}
 use Rattle.packed.proofs.quick.first_four.Statement.{statement}
 use Rattle.packed.proofs.quick.first_four.Tie as tie
 

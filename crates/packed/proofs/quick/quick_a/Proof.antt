@@ -1,9 +1,9 @@
 -- `quick_a` meets its contract. Assumes nothing.
 use mathlib.Core.Path.{refl}
 use native.Mathlib.Omega.{arith}
+use borrow.Author.Needs.{needs}
 use Rattle.packed.specs.Usual.{tops}
 use Rattle.packed.proofs.Usual.{first-only, first-begun}
-use borrow.Author.Needs.{needs}
 use Rattle.packed.proofs.quick.quick_a.Statement.{statement}
 use Rattle.packed.proofs.quick.quick_a.Tie as tie
 

@@ -1,10 +1,10 @@
 -- `quick_c` meets its contract. Assumes nothing.
 use mathlib.Core.Path.{refl}
 use native.Mathlib.Omega.{arith}
-use Rattle.packed.specs.Usual.{tops}
-use Rattle.packed.proofs.Usual.{unusual}
 use borrow.Author.Needs.{needs}
 use borrow.Author.Tests.{not-false}
+use Rattle.packed.specs.Usual.{tops}
+use Rattle.packed.proofs.Usual.{unusual}
 use Rattle.packed.proofs.quick.quick_c.Statement.{statement}
 use Rattle.packed.proofs.quick.quick_c.Tie as tie
 

@@ -1,8 +1,8 @@
 -- `quick_term` meets its contract. Assumes nothing.
 use native.Mathlib.Omega.{arith}
-use Rattle.packed.proofs.Usual.{unusual}
 use borrow.Author.Needs.{needs}
 use borrow.Author.Tests.{not-false}
+use Rattle.packed.proofs.Usual.{unusual}
 use Rattle.packed.proofs.quick.quick_term.Statement.{statement}
 use Rattle.packed.proofs.quick.quick_term.Tie as tie
 

@@ -1,7 +1,7 @@
 -- `two_more` meets its contract. Assumes nothing.
 use native.Mathlib.Omega.{arith}
-use Rattle.packed.proofs.Usual.{Ahead, unusual, sizes, both-begun}
 use borrow.Author.Needs.{needs}
+use Rattle.packed.proofs.Usual.{Ahead, unusual, sizes, both-begun}
 use Rattle.packed.proofs.quick.two_more.Statement.{statement}
 use Rattle.packed.proofs.quick.two_more.Tie as tie
 
