@@ -1,4 +1,5 @@
 pub mod Decode
+pub mod Usual
 pub mod Encode
 pub mod Folding
 pub mod Shortest

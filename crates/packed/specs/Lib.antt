@@ -5,3 +5,4 @@ pub mod Series
 pub mod Allowed
 pub mod Tables
 pub mod Answers
+pub mod Usual

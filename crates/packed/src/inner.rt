@@ -5,13 +5,14 @@ use crate::numbers::Number;
 use crate::numbers::magnitude;
 use crate::numbers::number_at;
 use crate::numbers::unfold_number;
+use crate::quick::quick_term;
 use units::Refusal;
 ghost use mathlib.Core.Path.{_≡_};
 ghost use lib.IntN.{natAbs};
 ghost use lib.ListN.{length};
 ghost use Prim.Native.Nat.{_+_, _-_, _<_, _≤_};
 ghost use Rattle.units.specs.Units.{a-limit};
-ghost use Rattle.packed.specs.Limits.{total-limit, coarse-limit, series-limit, block-count, factor, weight, added, opened};
+ghost use Rattle.packed.specs.Limits.{total-limit, coarse-limit, series-limit, block-count, factor, weight, added, opened, term-fits};
 ghost use Rattle.packed.specs.Numbers.{folded, unfolded};
 ghost use Rattle.packed.specs.Series.{read-a, read-b, read-c, read-term, read-terms, summed, read-block, after-block, parse, checked};
 ghost use Rattle.packed.specs.Tables.{Sized, unpacked};
@@ -103,8 +104,8 @@ fn read_c(bytes: &[u8], at: usize, f: u64, sums: Sums, a: u64, b: u64) -> Number
     }
 }
 
-// The term at an offset, in a block with this factor, after these sums.
-fn read_term_at(bytes: &[u8], at: usize, f: u64, sums: Sums) -> TermRead
+// The term at an offset, in a block with this factor, after these sums: a number at a time, of any length.
+fn read_term_slowly(bytes: &[u8], at: usize, f: u64, sums: Sums) -> TermRead
     requires { ⌜ (f ≤ 32) × (sums .total ≤ total-limit) × (sums .coarse ≤ coarse-limit) ⌝ }
     ensures { λ r. ⌜ r ≡ shown-term (at-offset (read-term f sums) at (now (bytes .entry))) ⌝ }
 {
@@ -124,6 +125,51 @@ fn read_term_at(bytes: &[u8], at: usize, f: u64, sums: Sums) -> TermRead
                 }
             }
         }
+    }
+}
+
+// A term may come after these sums, in a block with this factor.
+fn term_fits(f: u64, sums: Sums, a: u64, b: u64, c: u64) -> bool
+    requires { ⌜ (f ≤ 32) × (sums .total ≤ total-limit) × (sums .coarse ≤ coarse-limit) ⌝ }
+    ensures { λ r. ⌜ r ≡ term-fits f sums (term-of a b c) ⌝ }
+{
+    let total = sums.total;
+    let coarse = sums.coarse;
+    let m = magnitude(a);
+    if 10000000000000000 <= m {
+        return false;
+    }
+    if 10000000000000000 < total + m {
+        return false;
+    }
+    if 1000000000000 <= b {
+        return false;
+    }
+    if 100000000000000000 <= magnitude(c) {
+        return false;
+    }
+    if 200000000000000 < coarse + term_weight(f, a, b, c) {
+        return false;
+    }
+    true
+}
+
+// The term at an offset, in a block with this factor, after these sums. The answer of the slow way is made anew, so that
+// the quick one need not be in memory.
+fn read_term_at(bytes: &[u8], at: usize, f: u64, sums: Sums) -> TermRead
+    requires { ⌜ (f ≤ 32) × (sums .total ≤ total-limit) × (sums .coarse ≤ coarse-limit) ⌝ }
+    ensures { λ r. ⌜ r ≡ shown-term (at-offset (read-term f sums) at (now (bytes .entry))) ⌝ }
+{
+    let q = quick_term(bytes, at);
+    if q.usual {
+        if term_fits(f, sums, q.a, q.b, q.c) {
+            return TermRead::Found(q.a, q.b, q.c, q.to);
+        }
+    }
+    let t = read_term_slowly(bytes, at, f, sums);
+    match t {
+        TermRead::Wrong(r) => TermRead::Wrong(r),
+        TermRead::Found(a, b, c, to) => TermRead::Found(a, b, c, to),
     }
 }
 

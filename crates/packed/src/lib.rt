@@ -1,6 +1,7 @@
 // Packed numbers and packed series: document 01, "Series, as text and packed".
 pub mod inner;
 pub mod numbers;
+mod quick;
 
 use inner::unpack;
 use units::Refusal;
