@@ -2,15 +2,19 @@
 // Angles are worked modulo the turn while they are divided by T, so that no product passes 64 bits.
 ghost use mathlib.Core.Path.{_≡_};
 ghost use Prim.Native.Nat.{_+_, _*_, _/_, _%_, _<_, _≤_, _^_};
-ghost use lib.IntN.{ℤ, pos, natAbs, _+ℤ_, _-ℤ_, _*ℤ_};
+ghost use lib.IntN.{ℤ, pos, negℤ, natAbs, _+ℤ_, _-ℤ_, _*ℤ_};
 ghost use Rattle.integers.specs.Division.{rounded, modulo};
 ghost use Rattle.units.specs.Units.{U, millennium, turn, t-limit, a-limit, b-limit, c-limit};
+ghost use Rattle.cosine.specs.Halves.{half-value, InRange};
 ghost use Rattle.cosine.specs.Prepared.{Ready};
 ghost use Rattle.cosine.specs.Terms.{term-angle, term-value};
 use crate::inner::difference;
 use crate::inner::lifted_cosine;
+use crate::inner::offset;
+use crate::inner::quarters;
 use arith::signed::add;
 use arith::signed::low;
+use arith::signed::sub;
 use arith::signed::wide;
 use units::Instant;
 
@@ -32,6 +36,13 @@ pub struct Prepared {
 pub struct Carried {
     pub q: u64,
     pub r: u64,
+}
+
+// specs/Halves.antt says what a term's value is of these.
+pub struct Worked {
+    pub a: i64,
+    pub v: u64,
+    pub odd: u64,
 }
 
 // x + k, which is not negative.
@@ -133,4 +144,26 @@ pub fn term_value(p: Prepared, a: i64, b: u64, c: i64) -> i64
     ensures { λ r. ⌜ r ≡ term-value a b c (p .t) ⌝ }
 {
     scaled(a, lifted_cosine(angle(p, b, c)))
+}
+
+// The amplitude with the sign of the quarter k.
+pub fn turned(a: i64, k: u64) -> i64
+    requires { ⌜ natAbs a < a-limit ⌝ }
+    ensures { λ r. ⌜ (k < 2 → r ≡ a) × (2 ≤ k → r ≡ negℤ a) ⌝ }
+{
+    if k < 2 { a } else { sub(0, a) }
+}
+
+// A term with its angle worked out. With no branch on the quarter, which is as good as random from term to term.
+pub fn worked_term(p: Prepared, a: i64, b: u64, c: i64) -> Worked
+    requires { ⌜ Ready p × (natAbs a < a-limit) × (b < b-limit) × (natAbs c < c-limit) ⌝ }
+    ensures { λ r. ⌜ (half-value (r .odd) (r .a) (r .v) ≡ term-value a b c (p .t)) × (natAbs (r .a) ≡ natAbs a) × (r .odd ≤ 1) × InRange (r .v) ⌝ }
+{
+    let x = angle(p, b, c);
+    let q = quarters(x);
+    Worked {
+        a: turned(a, q % 4),
+        v: offset(x, q),
+        odd: q % 2,
+    }
 }
