@@ -83,16 +83,32 @@ pub fn even_pair(v: Pair) -> Pair
     }
 }
 
-// 10^9 more than the cosines at an odd quarter: 10^9 + h, less the rounded v*h / U.
+// 10^9 less the odd part, which is the rounded v*h / U, less h.
+fn odd_lifted(v: u64, h: u64) -> u64
+    requires { ⌜ InRange v × (pos h ≡ horner (y-of (pos v -ℤ pos U)) odds) × (h ≤ 1000000000) ⌝ }
+    ensures { λ r. ⌜ (pos r ≡ pos U -ℤ odd-part (pos v -ℤ pos U)) × (r ≤ 2000000000) ⌝ }
+{
+    1000000000 + h - (v * h + 500000000) / 1000000000
+}
+
+// 10^9 more than the cosines at an odd quarter, for the sign that the amplitude has.
 pub fn odd_pair(v: Pair) -> Pair
     requires { ⌜ InRange (v .one) × InRange (v .two) ⌝ }
     ensures { λ r. ⌜ (pos (r .one) ≡ pos U -ℤ odd-part (pos (v .one) -ℤ pos U)) × (pos (r .two) ≡ pos U -ℤ odd-part (pos (v .two) -ℤ pos U)) × (r .one ≤ 2000000000) × (r .two ≤ 2000000000) ⌝ }
 {
     let h = odd_series_pair(square_pair(v));
     Pair {
-        one: 1000000000 + h.one - (v.one * h.one + 500000000) / 1000000000,
-        two: 1000000000 + h.two - (v.two * h.two + 500000000) / 1000000000,
+        one: odd_lifted(v.one, h.one),
+        two: odd_lifted(v.two, h.two),
     }
+}
+
+// The sum of two rounded a c / U, for cosines that are 10^9 too great.
+fn scaled_pair(a: i64, b: i64, c: Pair) -> i64
+    requires { ⌜ (natAbs a < a-limit) × (natAbs b < a-limit) × (c .one ≤ 2000000000) × (c .two ≤ 2000000000) ⌝ }
+    ensures { λ r. ⌜ r ≡ rounded (a *ℤ (pos (c .one) -ℤ pos U)) U +ℤ rounded (b *ℤ (pos (c .two) -ℤ pos U)) U ⌝ }
+{
+    add(scaled(a, c.one), scaled(b, c.two))
 }
 
 // The sum of two terms' values, both at an even quarter.
@@ -100,8 +116,7 @@ pub fn even_values(a: i64, b: i64, v: Pair) -> i64
     requires { ⌜ (natAbs a < a-limit) × (natAbs b < a-limit) × InRange (v .one) × InRange (v .two) ⌝ }
     ensures { λ r. ⌜ r ≡ even-value a (v .one) +ℤ even-value b (v .two) ⌝ }
 {
-    let c = even_pair(v);
-    add(scaled(a, c.one), scaled(b, c.two))
+    scaled_pair(a, b, even_pair(v))
 }
 
 // The same, both at an odd quarter.
@@ -109,6 +124,5 @@ pub fn odd_values(a: i64, b: i64, v: Pair) -> i64
     requires { ⌜ (natAbs a < a-limit) × (natAbs b < a-limit) × InRange (v .one) × InRange (v .two) ⌝ }
     ensures { λ r. ⌜ r ≡ odd-value a (v .one) +ℤ odd-value b (v .two) ⌝ }
 {
-    let c = odd_pair(v);
-    add(scaled(a, c.one), scaled(b, c.two))
+    scaled_pair(a, b, odd_pair(v))
 }

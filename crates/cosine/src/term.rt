@@ -149,7 +149,7 @@ pub fn term_value(p: Prepared, a: i64, b: u64, c: i64) -> i64
 // The amplitude with the sign of the quarter k.
 pub fn turned(a: i64, k: u64) -> i64
     requires { ⌜ natAbs a < a-limit ⌝ }
-    ensures { λ r. ⌜ (k < 2 → r ≡ a) × (2 ≤ k → r ≡ negℤ a) ⌝ }
+    ensures { λ r. ⌜ (k < 2 → r ≡ a) × (2 ≤ k → r ≡ negℤ a) × (natAbs r ≡ natAbs a) ⌝ }
 {
     if k < 2 { a } else { sub(0, a) }
 }
