@@ -17,5 +17,6 @@ pub mod Value
 pub mod Natural
 pub mod Residues
 pub mod Places
+pub mod Halves
 pub mod Plain
 pub mod Slope

@@ -11,6 +11,7 @@ use Rattle.integers.proofs.Order.{fits}
 use Rattle.integers.proofs.Pairs.{nat, int, same, less, less⁻¹, _+ᵢ_, _-ᵢ_, _*ᵢ_}
 use Rattle.integers.proofs.Auto.{polys, ring!, cert!, gap, sqr}
 use Rattle.integers.proofs.Division.{rounded-add}
+use Rattle.integers.proofs.Rounding.{rounded-scale}
 use Rattle.units.specs.Units.{U, quarter, angle-step}
 use Rattle.integers.specs.Division.{modulo}
 use Rattle.cosine.proofs.Nested.{sine-turned}
@@ -97,6 +98,18 @@ step-is y h d hy hh hd =
     minus-nat 1000000000 ((y * h + 500000000 * d) / (1000000000 * d)) (step-small y h d hy hh hd)
     ∙ ap (λ t. pos U -ℤ t) (ap (λ t. pos ((y * h + t) / (1000000000 * d))) (sym e) ∙ sym (rounded-nat (y * h) (U * d)))
 
+-- the first step, from h = U, is a quotient by d
+pub first-small : (y d : ℕ) → y ≤ 617000000 → 0 < d → (y + d / 2) / d ≤ 617000001
+first-small y d hy hd = div-le-of-le-mul d (omega arith)
+
+pub first-is : (y d : ℕ) → y ≤ 617000000 → 0 < d → pos (1000000000 - (y + d / 2) / d) ≡ pos U -ℤ rounded (pos y *ℤ pos U) (U * d)
+first-is y d hy hd =
+    minus-nat 1000000000 ((y + d / 2) / d) (let k = first-small y d hy hd in omega arith)
+    ∙ ap (λ t. pos U -ℤ t) (sym (rounded-nat y d) ∙ sym (rounded-scale U (pos y) d (omega arith) hd) ∙ ap (λ t. rounded t (U * d)) (swap (pos U) (pos y)))
+  where
+    swap : (x y : ℤ) → x *ℤ y ≡ y *ℤ x
+    swap x y = ring! (x ∷ y ∷ []) (search polys depth 60 fits 100000) (search polys depth 60 fits 100000) tt
+
 -- ---- the odd part, from the series h at v
 
 pub odd-is : (v h : ℕ) → pos h ≡ horner (y-of (pos v -ℤ pos U)) odds → pos ((v * h + 500000000) / 1000000000) -ℤ pos h ≡ odd-part (pos v -ℤ pos U)
@@ -127,12 +140,15 @@ six y a b c d e f h₆ h₅ h₄ h₃ h₂ h₁ p₆ p₅ p₄ p₃ p₂ p₁ = 
 
 -- ---- by the quarter: what stands for the even part is e, for the odd part o - h
 
+pub series-at : (v y h : ℕ) (ds : List ℕ) → pos y ≡ y-of (pos v -ℤ pos U) → pos h ≡ horner (pos y) ds → pos h ≡ horner (y-of (pos v -ℤ pos U)) ds
+series-at v y h ds p q = q ∙ ap (λ t. horner t ds) p
+
 even-of : (v y e : ℕ) → pos y ≡ y-of (pos v -ℤ pos U) → pos e ≡ horner (pos y) evens → pos e ≡ even-part (pos v -ℤ pos U)
 unfolding even-part
-even-of v y e p q = q ∙ ap (λ t. horner t evens) p
+even-of v y e p q = series-at v y e evens p q
 
 odd-of : (v y h : ℕ) → pos y ≡ y-of (pos v -ℤ pos U) → pos h ≡ horner (pos y) odds → pos ((v * h + 500000000) / 1000000000) -ℤ pos h ≡ odd-part (pos v -ℤ pos U)
-odd-of v y h p q = odd-is v h (q ∙ ap (λ t. horner t odds) p)
+odd-of v y h p q = odd-is v h (series-at v y h odds p q)
 
 flip : (a b : ℤ) → a -ℤ b ≡ negℤ (b -ℤ a)
 flip a b = ring! (a ∷ b ∷ []) (search polys depth 60 fits 100000) (search polys depth 60 fits 100000) tt
@@ -140,6 +156,16 @@ flip a b = ring! (a ∷ b ∷ []) (search polys depth 60 fits 100000) (search po
 -- a number and U more, as the code has it
 lift : (a b : ℕ) → b ≤ 1000000000 + a → pos (1000000000 + a - b) ≡ pos U +ℤ (pos a -ℤ pos b)
 lift a b h = same (nat (1000000000 + a - b)) (nat U +ᵢ (nat a -ᵢ nat b)) (omega arith)
+
+-- the even part and the odd part turned about, U more
+pub even-lifted : (v y e : ℕ) → pos y ≡ y-of (pos v -ℤ pos U) → pos e ≡ horner (pos y) evens → pos (1000000000 + e) ≡ pos U +ℤ even-part (pos v -ℤ pos U)
+even-lifted v y e p q = ap (λ z. pos U +ℤ z) (even-of v y e p q)
+
+pub odd-lifted : (v h : ℕ) → pos h ≡ horner (y-of (pos v -ℤ pos U)) odds → (v * h + 500000000) / 1000000000 ≤ 1000000000 + h
+    → pos (1000000000 + h - (v * h + 500000000) / 1000000000) ≡ pos U -ℤ odd-part (pos v -ℤ pos U)
+odd-lifted v h q l =
+    let o = (v * h + 500000000) / 1000000000 in
+    lift h o l ∙ ap (λ z. pos U +ℤ z) (flip (pos h) (pos o) ∙ ap negℤ (odd-is v h q))
 
 -- the cosine at the quarter k, U more
 abbrev Lifted : ℕ → ℕ → ℕ → Type 0
@@ -151,7 +177,7 @@ at r k m v i h = subst (λ n. Lifted r n v) (sym i) h
 pub in-0 : (k v y e : ℕ) → k ≡ 0 → pos y ≡ y-of (pos v -ℤ pos U) → pos e ≡ horner (pos y) evens
     → pos (1000000000 + e) ≡ pos U +ℤ cosine-by negℤ k (even-part (pos v -ℤ pos U)) (odd-part (pos v -ℤ pos U))
 unfolding cosine-by
-in-0 k v y e i p q = at (1000000000 + e) k 0 v i (ap (λ z. pos U +ℤ z) (even-of v y e p q))
+in-0 k v y e i p q = at (1000000000 + e) k 0 v i (even-lifted v y e p q)
 
 pub in-2 : (k v y e : ℕ) → k ≡ 2 → pos y ≡ y-of (pos v -ℤ pos U) → pos e ≡ horner (pos y) evens → e ≤ 1000000000
     → pos (1000000000 - e) ≡ pos U +ℤ cosine-by negℤ k (even-part (pos v -ℤ pos U)) (odd-part (pos v -ℤ pos U))
@@ -161,9 +187,7 @@ in-2 k v y e i p q l = at (1000000000 - e) k 2 v i (minus-nat 1000000000 e l ∙
 pub in-1 : (k v y h : ℕ) → k ≡ 1 → pos y ≡ y-of (pos v -ℤ pos U) → pos h ≡ horner (pos y) odds → (v * h + 500000000) / 1000000000 ≤ 1000000000 + h
     → pos (1000000000 + h - (v * h + 500000000) / 1000000000) ≡ pos U +ℤ cosine-by negℤ k (even-part (pos v -ℤ pos U)) (odd-part (pos v -ℤ pos U))
 unfolding cosine-by
-in-1 k v y h i p q l =
-    let o = (v * h + 500000000) / 1000000000 in
-    at (1000000000 + h - o) k 1 v i (lift h o l ∙ ap (λ z. pos U +ℤ z) (flip (pos h) (pos o) ∙ ap negℤ (odd-of v y h p q)))
+in-1 k v y h i p q l = at (1000000000 + h - (v * h + 500000000) / 1000000000) k 1 v i (odd-lifted v h (series-at v y h odds p q) l)
 
 pub in-3 : (k v y h : ℕ) → k ≡ 3 → pos y ≡ y-of (pos v -ℤ pos U) → pos h ≡ horner (pos y) odds → h ≤ 1000000000
     → pos (1000000000 + (v * h + 500000000) / 1000000000 - h) ≡ pos U +ℤ cosine-by negℤ k (even-part (pos v -ℤ pos U)) (odd-part (pos v -ℤ pos U))

@@ -3,3 +3,4 @@ pub mod Cosine
 pub mod Reference
 pub mod Terms
 pub mod Prepared
+pub mod Halves

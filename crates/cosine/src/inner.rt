@@ -46,11 +46,19 @@ pub fn step(y: u64, h: u64, d: u64) -> u64
     1000000000 - (y * h + 500000000 * d) / (1000000000 * d)
 }
 
+// The first step, from h = U: y*h / (U*d) is y/d. The quotient of 32 bits is the short one.
+pub fn first(y: u64, d: u64) -> u64
+    requires { ⌜ (y ≤ 617000000) × (0 < d) × (d ≤ 156) ⌝ }
+    ensures { λ r. ⌜ (pos r ≡ pos U -ℤ rounded (pos y *ℤ pos U) (U * d)) × (r ≤ 1000000000) ⌝ }
+{
+    1000000000 - ((y + d / 2) as u32 / d as u32) as u64
+}
+
 pub fn even_series(y: u64) -> u64
     requires { ⌜ y ≤ 617000000 ⌝ }
     ensures { λ r. ⌜ (pos r ≡ horner (pos y) evens) × (r ≤ 1000000000) ⌝ }
 {
-    let h6 = step(y, 1000000000, 132);
+    let h6 = first(y, 132);
     let h5 = step(y, h6, 90);
     let h4 = step(y, h5, 56);
     let h3 = step(y, h4, 30);
@@ -62,7 +70,7 @@ pub fn odd_series(y: u64) -> u64
     requires { ⌜ y ≤ 617000000 ⌝ }
     ensures { λ r. ⌜ (pos r ≡ horner (pos y) odds) × (r ≤ 1000000000) ⌝ }
 {
-    let h6 = step(y, 1000000000, 156);
+    let h6 = first(y, 156);
     let h5 = step(y, h6, 110);
     let h4 = step(y, h5, 72);
     let h3 = step(y, h4, 42);

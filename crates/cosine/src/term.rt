@@ -2,15 +2,19 @@
 // Angles are worked modulo the turn while they are divided by T, so that no product passes 64 bits.
 ghost use mathlib.Core.Path.{_≡_};
 ghost use Prim.Native.Nat.{_+_, _*_, _/_, _%_, _<_, _≤_, _^_};
-ghost use lib.IntN.{ℤ, pos, natAbs, _+ℤ_, _-ℤ_, _*ℤ_};
+ghost use lib.IntN.{ℤ, pos, negℤ, natAbs, _+ℤ_, _-ℤ_, _*ℤ_};
 ghost use Rattle.integers.specs.Division.{rounded, modulo};
 ghost use Rattle.units.specs.Units.{U, millennium, turn, t-limit, a-limit, b-limit, c-limit};
+ghost use Rattle.cosine.specs.Halves.{half-value, InRange};
 ghost use Rattle.cosine.specs.Prepared.{Ready};
 ghost use Rattle.cosine.specs.Terms.{term-angle, term-value};
 use crate::inner::difference;
 use crate::inner::lifted_cosine;
+use crate::inner::offset;
+use crate::inner::quarters;
 use arith::signed::add;
 use arith::signed::low;
+use arith::signed::sub;
 use arith::signed::wide;
 use units::Instant;
 
@@ -32,6 +36,13 @@ pub struct Prepared {
 pub struct Carried {
     pub q: u64,
     pub r: u64,
+}
+
+// specs/Halves.antt says what a term's value is of these.
+pub struct Worked {
+    pub a: i64,
+    pub v: u64,
+    pub odd: u64,
 }
 
 // x + k, which is not negative.
@@ -117,14 +128,35 @@ pub fn angle(p: Prepared, b: u64, c: i64) -> u64
     q + r / 31557600000000 + 100 * b
 }
 
-// a (c - 10^9) / 10^9 rounded, for a cosine that is 10^9 too great; a is split at 10^9, and 10^16 greater until the end.
+// (m - 10^16) (c - 10^9) / 10^9 rounded; m is split at 10^9.
+fn scaled_wide(m: u64, c: u64) -> i64
+    requires { ⌜ (m < 20000000000000000) × (c ≤ 2000000000) ⌝ }
+    ensures { λ r. ⌜ r ≡ rounded ((pos m -ℤ pos 10000000000000000) *ℤ (pos c -ℤ pos U)) U ⌝ }
+{
+    let x = m / 1000000000 * c + (m % 1000000000 * c + 500000000) / 1000000000;
+    difference(x + 10000000000000000, 10000000 * c + m)
+}
+
+// (m - 4*10^9) (c - 10^9) / 10^9 rounded; the product stays below 2^64.
+fn scaled_narrow(m: u64, c: u64) -> i64
+    requires { ⌜ (m ≤ 8000000000) × (c ≤ 2000000000) ⌝ }
+    ensures { λ r. ⌜ r ≡ rounded ((pos m -ℤ pos 4000000000) *ℤ (pos c -ℤ pos U)) U ⌝ }
+{
+    difference((m * c + 500000000) / 1000000000 + 4000000000, 4 * c + m)
+}
+
+// a (c - 10^9) / 10^9 rounded, for a cosine that is 10^9 too great. All but a few amplitudes of a series are within 4*10^9; the two tests compile to one comparison.
 pub fn scaled(a: i64, c: u64) -> i64
     requires { ⌜ (natAbs a < a-limit) × (c ≤ 2000000000) ⌝ }
     ensures { λ r. ⌜ r ≡ rounded (a *ℤ (pos c -ℤ pos U)) U ⌝ }
 {
     let m = raised(a, 10000000000000000);
-    let x = m / 1000000000 * c + (m % 1000000000 * c + 500000000) / 1000000000;
-    difference(x + 10000000000000000, 10000000 * c + m)
+    if 9999996000000000 <= m {
+        if m <= 10000004000000000 {
+            return scaled_narrow(m - 9999996000000000, c);
+        }
+    }
+    scaled_wide(m, c)
 }
 
 // A term's value.
@@ -133,4 +165,26 @@ pub fn term_value(p: Prepared, a: i64, b: u64, c: i64) -> i64
     ensures { λ r. ⌜ r ≡ term-value a b c (p .t) ⌝ }
 {
     scaled(a, lifted_cosine(angle(p, b, c)))
+}
+
+// The amplitude with the sign of the quarter k.
+pub fn turned(a: i64, k: u64) -> i64
+    requires { ⌜ natAbs a < a-limit ⌝ }
+    ensures { λ r. ⌜ (k < 2 → r ≡ a) × (2 ≤ k → r ≡ negℤ a) × (natAbs r ≡ natAbs a) ⌝ }
+{
+    if k < 2 { a } else { sub(0, a) }
+}
+
+// A term with its angle worked out. With no branch on the quarter, which is as good as random from term to term.
+pub fn worked_term(p: Prepared, a: i64, b: u64, c: i64) -> Worked
+    requires { ⌜ Ready p × (natAbs a < a-limit) × (b < b-limit) × (natAbs c < c-limit) ⌝ }
+    ensures { λ r. ⌜ (half-value (r .odd) (r .a) (r .v) ≡ term-value a b c (p .t)) × (natAbs (r .a) ≡ natAbs a) × (r .odd ≤ 1) × InRange (r .v) ⌝ }
+{
+    let x = angle(p, b, c);
+    let q = quarters(x);
+    Worked {
+        a: turned(a, q % 4),
+        v: offset(x, q),
+        odd: q % 2,
+    }
 }

@@ -1,0 +1,81 @@
+-- A term's value from its amplitude, v and the parity of its quarter; and the sum of two such values. Assumes nothing.
+use mathlib.Core.Path.{_≡_, ap, ap₂, _∙_}
+use mathlib.Core.List.{[], _∷_}
+use Prim.Native.Nat.{ℕ, zero, suc, _%_, _≤_, _<_}
+use native.Mathlib.Omega.{arith}
+use lib.IntN.{ℤ, pos, negℤ, natAbs, _+ℤ_, _-ℤ_, _*ℤ_, +ℤ-idl}
+use mir.Syntax.{w64}
+use mir.Val.{SFits}
+use Rattle.integers.specs.Division.{rounded, modulo}
+use Rattle.integers.proofs.Pairs.{nat, negᵢ, _-ᵢ_, less}
+use Rattle.integers.proofs.Auto.{ring!, polys}
+use Rattle.integers.proofs.Order.{natAbs-le, natAbs-+, natAbs-sub, fits}
+use Rattle.arith.proofs.Signs.{back}
+use Rattle.arith.proofs.Cells.{Cell}
+use Rattle.arith.proofs.Ranges.{scaled-within}
+use Rattle.units.specs.Units.{U, turn, quarter, angle-step, a-limit}
+use Rattle.cosine.specs.Cosine.{q-of, w-of, even-part, odd-part, cosine-by}
+use Rattle.cosine.specs.Terms.{term-angle, term-value}
+use Rattle.cosine.specs.Halves.{even-value, odd-value, half-value}
+use Rattle.cosine.proofs.Natural.{lowered, cosine-from}
+use Rattle.cosine.proofs.Places.{value-is}
+
+-- the amplitude turned about
+pub minus-fits : (a : ℤ) → natAbs a < a-limit → SFits w64 (pos 0 -ℤ a)
+minus-fits a h = let m = natAbs-sub (pos 0) a in fits (pos 0 -ℤ a) (omega arith)
+
+pub minus-is : (a : ℤ) → pos 0 -ℤ a ≡ negℤ a
+minus-is a = +ℤ-idl (negℤ a)
+
+-- by the quarter k: the amplitude takes the sign, and the parity says which part
+turned-value : (k : ℕ) (a s : ℤ) (v : ℕ) → k < 4 → (k < 2 → s ≡ a) → (2 ≤ k → s ≡ negℤ a)
+    → half-value (k % 2) s v ≡ rounded (a *ℤ cosine-by negℤ k (even-part (pos v -ℤ pos U)) (odd-part (pos v -ℤ pos U))) U
+unfolding half-value even-value odd-value cosine-by
+turned-value zero a s v h f g = ap (λ z. rounded (z *ℤ even-part (pos v -ℤ pos U)) U) (f (omega arith))
+turned-value (suc zero) a s v h f g = ap (λ z. rounded (z *ℤ negℤ (odd-part (pos v -ℤ pos U))) U) (f (omega arith))
+turned-value (suc (suc zero)) a s v h f g =
+    ap (λ z. rounded (z *ℤ even-part (pos v -ℤ pos U)) U) (g (omega arith)) ∙ ap (λ z. rounded z U) (over a (even-part (pos v -ℤ pos U)))
+  where
+    over : (a e : ℤ) → negℤ a *ℤ e ≡ a *ℤ negℤ e
+    over a e = ring! (a ∷ e ∷ []) (search polys depth 60 fits 100000) (search polys depth 60 fits 100000) tt
+turned-value (suc (suc (suc zero))) a s v h f g =
+    ap (λ z. rounded (z *ℤ negℤ (odd-part (pos v -ℤ pos U))) U) (g (omega arith)) ∙ ap (λ z. rounded z U) (both a (odd-part (pos v -ℤ pos U)))
+  where
+    both : (a o : ℤ) → negℤ a *ℤ negℤ o ≡ a *ℤ o
+    both a o = ring! (a ∷ o ∷ []) (search polys depth 60 fits 100000) (search polys depth 60 fits 100000) tt
+turned-value (suc (suc (suc (suc k)))) a s v h f g = absurd (omega arith)
+
+pub worked-is : (a : ℤ) (b : ℕ) (c t s : ℤ) (x q v : ℕ) → modulo (pos x) turn ≡ term-angle b c t → pos q ≡ q-of quarter (pos x) → pos v ≡ pos U +ℤ w-of quarter angle-step (pos x)
+    → (q % 4 < 2 → s ≡ a) → (2 ≤ q % 4 → s ≡ negℤ a) → half-value (q % 2) s v ≡ term-value a b c t
+worked-is a b c t s x q v m e f g h =
+    ap (λ k. half-value k s v) (parity q)
+    ∙ turned-value (q % 4) a s v (omega arith) g h
+    ∙ ap (λ z. rounded (a *ℤ z) U) (cosine-from x q v e f)
+    ∙ value-is a b c t x m
+  where
+    parity : (q : ℕ) → q % 2 ≡ q % 4 % 2
+    parity q = omega arith
+
+-- ---- two values
+
+value-small : (a : ℤ) (c : ℕ) → natAbs a < a-limit → c ≤ 2000000000 → natAbs (rounded (a *ℤ (pos c -ℤ pos U)) U) ≤ a-limit
+value-small a c h k = scaled-within a (pos c -ℤ pos U) U a-limit (omega arith) (omega arith) (natAbs-le (pos c -ℤ pos U) U (less (negᵢ (nat U)) (nat c -ᵢ nat U) (omega arith)) (less (nat c -ᵢ nat U) (nat U) (omega arith)))
+
+pub two-fit : (a b : ℤ) (c d : ℕ) → natAbs a < a-limit → natAbs b < a-limit → c ≤ 2000000000 → d ≤ 2000000000
+    → SFits w64 (rounded (a *ℤ (pos c -ℤ pos U)) U +ℤ rounded (b *ℤ (pos d -ℤ pos U)) U)
+two-fit a b c d ha hb hc hd =
+    let m = natAbs-+ (rounded (a *ℤ (pos c -ℤ pos U)) U) (rounded (b *ℤ (pos d -ℤ pos U)) U) in
+    let i = value-small a c ha hc in
+    let j = value-small b d hb hd in
+    fits _ (omega arith)
+
+-- one value, and the sum of two for the cosines z and w, which c and d are U more than
+pub value-back : (r a : ℤ) (c : ℕ) → SFits w64 r → SFits w64 a → r ≡ rounded (Cell a *ℤ (pos c -ℤ pos U)) U → Cell r ≡ rounded (a *ℤ (pos c -ℤ pos U)) U
+value-back r a c h k e = back r h ∙ e ∙ ap (λ z. rounded (z *ℤ (pos c -ℤ pos U)) U) (back a k)
+
+pub two-back : (r a b : ℤ) (c d : ℕ) (z w : ℤ) → SFits w64 r → SFits w64 a → SFits w64 b → pos c ≡ pos U +ℤ z → pos d ≡ pos U +ℤ w
+    → r ≡ rounded (Cell a *ℤ (pos c -ℤ pos U)) U +ℤ rounded (Cell b *ℤ (pos d -ℤ pos U)) U → Cell r ≡ rounded (a *ℤ z) U +ℤ rounded (b *ℤ w) U
+two-back r a b c d z w h k l e f g =
+    back r h ∙ g
+    ∙ ap₂ (λ i j. rounded (i *ℤ (pos c -ℤ pos U)) U +ℤ rounded (j *ℤ (pos d -ℤ pos U)) U) (back a k) (back b l)
+    ∙ ap₂ (λ i j. rounded (a *ℤ i) U +ℤ rounded (b *ℤ j) U) (lowered c z e) (lowered d w f)

@@ -1,0 +1,41 @@
+-- `cosine::term::worked_term` meets its contract. Assumes nothing.
+use mathlib.Core.Path.{ap, _∙_}
+use native.Mathlib.Omega.{arith}
+use lib.IntN.{negℤ, natAbs}
+use borrow.Author.Needs.{needs}
+use Rattle.arith.proofs.Signs.{back, ok}
+use Rattle.cosine.proofs.Halves.{worked-is}
+use Rattle.cosine.proofs.term.worked_term.Statement.{statement}
+use Rattle.cosine.proofs.term.worked_term.Tie as tie
+
+angle-requires : tie.Need-angle-requires
+angle-requires c κs = search needs
+
+quarters-requires : tie.Need-quarters-requires
+quarters-requires c κs = search needs
+
+turned-requires : tie.Need-turned-requires
+turned-requires c κs = search needs
+
+offset-requires : tie.Need-offset-requires
+offset-requires c κs = search needs
+
+returns : tie.Need-returns
+returns c =
+    let k = c .before in
+    let q = k .before in
+    let x = q .before in
+    let s = x .before in
+    let a = back (s .args .a) (s .fits .a) in
+    let r = back (k .turned .result) (ok (k .turned .ok)) in (
+      worked-is (s .args .a) (s .args .b) (s .args .c) (s .args .p .t) _ (x .angle .result) (q .quarters .result) (c .offset .result)
+          (rw (back (s .args .c) (s .fits .c)) at (x .angle .ensures .0)) (q .quarters .ensures) (c .offset .ensures .0)
+          (λ h. r ∙ k .turned .ensures .0 h ∙ a) (λ h. r ∙ k .turned .ensures .1 h ∙ ap negℤ a),
+      ap natAbs r ∙ k .turned .ensures .2 ∙ ap natAbs a,
+      omega arith,
+      record { low = c .offset .ensures .1; high = c .offset .ensures .2 },
+    )
+
+pub worked-term-spec : {M : Type 1} → statement M
+worked-term-spec =
+    tie.close (tie.spec angle-requires quarters-requires turned-requires offset-requires returns)
