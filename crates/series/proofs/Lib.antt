@@ -13,3 +13,5 @@ pub mod Blocks
 pub mod Filled
 pub mod Answering
 mod Stepping
+mod Parting
+mod Adding
