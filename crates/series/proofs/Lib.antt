@@ -13,5 +13,6 @@ pub mod Blocks
 pub mod Filled
 pub mod Answering
 mod Stepping
-mod Parting
 mod Adding
+mod Filling
+mod Parting

@@ -1,6 +1,6 @@
 -- `series::halves::even_two` meets its contract. Assumes nothing.
 use Rattle.cosine.specs.Halves.{even-value}
-use Rattle.series.proofs.Parting.{two-asks, two-fit, two-are}
+use Rattle.series.proofs.Filling.{two-asks, two-fit, two-are}
 use borrow.Author.Needs.{needs}
 use Rattle.series.proofs.halves.even_two.Statement.{statement}
 use Rattle.series.proofs.halves.even_two.Tie as tie

@@ -7,7 +7,7 @@ use mir.Val.{toZ}
 use Rattle.arith.proofs.Signs.{back, ok}
 use Rattle.cosine.specs.Halves.{odd-value}
 use Rattle.series.specs.Parted.{half-sum}
-use Rattle.series.proofs.Parting.{half-less, half-all}
+use Rattle.series.proofs.Filling.{half-less, half-all}
 use Rattle.series.proofs.halves.sum_odds.Statement.{statement}
 use Rattle.series.proofs.halves.sum_odds.Tie as tie
 
