@@ -4,10 +4,10 @@ use mathlib.Core.List.{List, [], _∷_}
 use Prim.Native.Nat.{ℕ, zero, suc, _+_, _-_, _*_, _^_, _≤_, _<_}
 use native.Mathlib.Omega.{arith}
 use native.Mathlib.Nat.{pow-le-pow-right}
-use lib.IntN.{ℤ, pos, natAbs, _+ℤ_, _*ℤ_, +ℤ-idr, zero-*ℤ}
+use lib.IntN.{ℤ, pos, natAbs, _+ℤ_, _*ℤ_, +ℤ-idr}
 use lib.ListN.{length, getD, take, drop, length-take, length-drop}
 use lib.Seq.{drop-cons, getD-take, getD-drop}
-use Rattle.integers.specs.Division.{floor, rounded}
+use Rattle.integers.specs.Division.{rounded}
 use Rattle.units.specs.Units.{millennium, t-limit}
 use Rattle.packed.specs.declared.Term.{Term}
 use Rattle.packed.specs.Limits.{total-limit}
@@ -15,7 +15,7 @@ use Rattle.packed.proofs.Tabled.{block-start}
 use Rattle.series.specs.Sums.{block-sum, running-sum}
 use Rattle.series.proofs.Accuracy.{running-step, running-one}
 use Rattle.series.proofs.Accepted.{Blocks-in, in-take, in-drop}
-use Rattle.series.proofs.Sizes.{running-size}
+use Rattle.series.proofs.Sizes.{no-share, running-size}
 
 -- past block 0, a block starts where the one before ends
 pub start-later : (ends : List ℕ) (j : ℕ) → (j ≡ 0 → ⊥) → getD ends (j - 1) 0 ≡ block-start ends j
@@ -27,17 +27,13 @@ start-later ends (suc j) h = ap (λ (k : ℕ). getD ends k 0) (before j)
 
 -- ---- the running sum
 
--- a step, at the highest power too: there 0 is carried
-carried-none : (t : ℤ) → rounded (pos 0 *ℤ t) millennium ≡ pos 0
-unfolding rounded floor
-carried-none t = ap (λ (z : ℤ). rounded z millennium) (zero-*ℤ t)
-
 running-none : (t : ℤ) → running-sum t [] ≡ pos 0
 unfolding running-sum
 running-none t = refl
 
+-- a step, at the highest power too: there 0 is carried
 pub running-cons : (t : ℤ) (b : List Term) (bs : List (List Term)) → running-sum t (b ∷ bs) ≡ block-sum t b +ℤ rounded (running-sum t bs *ℤ t) millennium
-running-cons t b [] = running-one t b ∙ sym (ap (λ (z : ℤ). block-sum t b +ℤ z) (ap (λ (v : ℤ). rounded (v *ℤ t) millennium) (running-none t) ∙ carried-none t) ∙ +ℤ-idr (block-sum t b))
+running-cons t b [] = running-one t b ∙ sym (ap (λ (z : ℤ). block-sum t b +ℤ z) (ap (λ (v : ℤ). rounded (v *ℤ t) millennium) (running-none t) ∙ no-share t millennium (omega arith)) ∙ +ℤ-idr (block-sum t b))
 running-cons t b (c ∷ bs) = running-step t b c bs
 
 abbrev pub six : List (List Term) → ℕ → List (List Term)

@@ -13,3 +13,6 @@ pub mod Blocks
 pub mod Filled
 pub mod Answering
 mod Stepping
+mod Adding
+mod Filling
+mod Parting

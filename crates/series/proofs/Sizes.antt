@@ -1,11 +1,13 @@
 -- How large a term's value, a block's sum and the running sum can be; with them every step stays within 64 bits. Assumes nothing.
+use mathlib.Core.Path.{_≡_, ap, _∙_}
 use mathlib.Core.List.{List, [], _∷_}
-use Prim.Native.Nat.{ℕ, suc, _+_, _*_, _^_, _≤_}
+use Prim.Native.Nat.{ℕ, suc, _+_, _*_, _^_, _≤_, _<_}
 use native.Mathlib.Omega.{arith, pow-step}
 use native.Mathlib.Nat.{mul-le-mul-left}
-use lib.IntN.{ℤ, pos, natAbs, _*ℤ_}
+use lib.IntN.{ℤ, pos, natAbs, _*ℤ_, zero-*ℤ}
 use lib.ListN.{length}
 use Rattle.integers.specs.Division.{rounded}
+use Rattle.integers.proofs.Rounding.{rounded-zero}
 use Rattle.integers.proofs.Order.{natAbs-*, natAbs-+, natAbs-le}
 use Rattle.arith.proofs.Ranges.{rounded-within, scaled-within}
 use Rattle.units.specs.Units.{U, millennium, t-limit, tau-limit}
@@ -18,6 +20,10 @@ use Rattle.packed.specs.Allowed.{total-of}
 use Rattle.series.specs.Sums.{block-sum, running-sum}
 use Rattle.series.proofs.Accuracy.{running-step, running-one}
 use Rattle.series.proofs.Accepted.{Blocks-in, in-head, in-tail}
+
+-- 0 in any share is 0
+pub no-share : (z : ℤ) (d : ℕ) → 0 < d → rounded (pos 0 *ℤ z) d ≡ pos 0
+no-share z d h = ap (λ (x : ℤ). rounded x d) (zero-*ℤ z) ∙ rounded-zero d h
 
 pub value-size : (a : ℤ) (b : ℕ) (c t : ℤ) → natAbs (term-value a b c t) ≤ natAbs a
 unfolding term-value term-cosine

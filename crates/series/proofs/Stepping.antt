@@ -1,7 +1,7 @@
 -- One power of the running sum, from a block of the table: what its calls ask, and what it is. Assumes nothing.
 use mathlib.Core.Path.{_≡_, sym, ap, ap₂, _∙_, subst}
 use mathlib.Core.List.{List, []}
-use Prim.Native.Nat.{ℕ, _-_, _*_, _^_, _≤_, _<_}
+use Prim.Native.Nat.{ℕ, _-_, _+_, _*_, _^_, _≤_, _<_}
 use native.Mathlib.Omega.{arith}
 use native.Mathlib.Nat.{mul-le-mul, lt-of-le-of-lt}
 use lib.Dec.{lit<}
@@ -10,7 +10,6 @@ use lib.ListN.{getD}
 use mir.Syntax.{w64}
 use mir.Val.{SFits}
 use Rattle.integers.specs.Division.{rounded}
-use Rattle.integers.proofs.Order.{natAbs-+, fits}
 use Rattle.arith.proofs.Cells.{Cell, cell, held-le}
 use Rattle.units.specs.Units.{millennium, t-limit}
 use Rattle.packed.specs.declared.Term.{Term}
@@ -20,6 +19,7 @@ use Rattle.packed.specs.Tables.{terms-at, table-blocks}
 use Rattle.packed.proofs.Tabled.{block-start, rising, within-table, block-there}
 use Rattle.series.specs.Sums.{block-sum}
 use Rattle.series.specs.Tables.{Table}
+use Rattle.series.proofs.Adding.{cells-fit, cells-are}
 use Rattle.series.proofs.Sizes.{block-size, carried-size}
 
 module _ (la : List ℤ) (lb : List ℕ) (lc : List ℤ) (ends : List ℕ) (h : Table la lb lc ends) (j : ℕ) (hj : j < block-count) where
@@ -60,13 +60,11 @@ module _ (t v : ℤ) (ht : natAbs t ≤ t-limit) (hv : natAbs v ≤ 31 * total-l
     r-size : natAbs r ≤ 62 * total-limit
     r-size = subst (λ (z : ℤ). natAbs z ≤ 62 * total-limit) (sym r-is) (let m = carried-size v t ht in omega arith)
 
+    small : natAbs s + natAbs r < 2 ^ 63
+    small = let m = s-size in let n = r-size in omega arith
+
     pub step-fits : SFits w64 (Cell s +ℤ Cell r)
-    step-fits = let m = s-size in let n = r-size in rw (cell s (omega arith), cell r (omega arith)) (fits (s +ℤ r) (let k = natAbs-+ s r in omega arith))
+    step-fits = cells-fit s r small
 
     pub step-is : (w : ℤ) → w ≡ Cell s +ℤ Cell r → Cell w ≡ block-sum t b +ℤ rounded (v *ℤ t) millennium
-    step-is w e =
-        let m = s-size in
-        let n = r-size in
-        let g : w ≡ s +ℤ r = e ∙ ap₂ _+ℤ_ (cell s (omega arith)) (cell r (omega arith)) in
-        let k = natAbs-+ s r in
-        cell w (subst (λ (z : ℤ). natAbs z < 2 ^ 63) (sym g) (omega arith)) ∙ g ∙ ap₂ _+ℤ_ es r-is
+    step-is w e = cells-are s r small w e ∙ ap₂ _+ℤ_ es r-is

@@ -2,3 +2,4 @@
 pub mod Sums
 pub mod Exact
 pub mod Tables
+pub mod Parted

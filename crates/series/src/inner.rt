@@ -11,12 +11,13 @@ ghost use Rattle.packed.specs.Limits.{series-limit, total-limit, powers, block-
 ghost use Rattle.packed.specs.Tables.{Sized, terms-at, table-blocks};
 ghost use Rattle.series.specs.Sums.{block-sum, running-sum, coordinates as coordinates-of};
 ghost use Rattle.packed.specs.Allowed.{BlockFits};
+ghost use Rattle.series.specs.Parted.{piece-limit};
 ghost use Rattle.series.specs.Tables.{Table};
+use crate::halves::sum_piece;
 use arith::muldiv::mul_div_round;
 use arith::signed::abs;
 use arith::signed::add;
 use cosine::term::Prepared;
-use cosine::term::term_value;
 use units::Coordinates;
 use units::Instant;
 
@@ -25,6 +26,17 @@ pub fn in_limit(t: Instant) -> bool
     ensures { λ r. ⌜ r ≡ within-limit (t .ms) ⌝ }
 {
     abs(t.ms) <= 63115200000000
+}
+
+// Where the piece that starts at place i ends.
+fn piece_end(i: usize, to: usize) -> usize
+    requires { ⌜ i < to ⌝ }
+    ensures { λ r. ⌜ (i < r) × (r ≤ to) × (r ≤ i + piece-limit) ⌝ }
+{
+    if to - i <= 256 {
+        return to;
+    }
+    i + 256
 }
 
 // The sum of the terms from place from up to place to.
@@ -42,8 +54,9 @@ pub fn sum_of(
     let mut sum: i64 = 0;
     let mut i = from;
     while i < to {
-        sum = add(sum, term_value(p, a[i], b[i], c[i]));
-        i = i + 1;
+        let end = piece_end(i, to);
+        sum = add(sum, sum_piece(p, a, b, c, i, end));
+        i = end;
     }
     sum
 }

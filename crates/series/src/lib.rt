@@ -2,6 +2,7 @@
 ghost use mathlib.Core.Path.{_≡_};
 ghost use Rattle.series.specs.Sums.{coordinates-answer};
 
+mod halves;
 pub mod inner;
 
 use crate::inner::coordinates;
