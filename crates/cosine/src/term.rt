@@ -145,7 +145,7 @@ fn scaled_narrow(m: u64, c: u64) -> i64
     difference((m * c + 500000000) / 1000000000 + 4000000000, 4 * c + m)
 }
 
-// a (c - 10^9) / 10^9 rounded, for a cosine that is 10^9 too great. All but a few amplitudes of a series are within 4*10^9; the two tests compile to one comparison.
+// a (c - 10^9) / 10^9 rounded, for a cosine that is 10^9 too great. All but a few amplitudes of a series are within 4*10^9.
 pub fn scaled(a: i64, c: u64) -> i64
     requires { ⌜ (natAbs a < a-limit) × (c ≤ 2000000000) ⌝ }
     ensures { λ r. ⌜ r ≡ rounded (a *ℤ (pos c -ℤ pos U)) U ⌝ }
