@@ -148,45 +148,34 @@ ready t m q₁ r₁ q₂ r₂ q₃ r₃ q₄ r₄ e h₁ h₂ h₃ h₄ =
 
 -- ---- the value
 
--- (m − kU)(c − U) / U rounded, by the rounded m c / U: the k U that the amplitude is raised by comes out of the quotient as k c
-pub scaled-is : (k m c : ℕ) → pos ((m * c + 500000000) / U + k * U) -ℤ pos (k * c + m) ≡ rounded ((pos m -ℤ pos (k * U)) *ℤ (pos c -ℤ pos U)) U
-scaled-is k m c =
-    ap (λ t. t +ℤ pos (k * U) -ℤ pos (k * c + m)) (sym (rounded-nat (m * c) U))
-    ∙ sort (pos k) (pos m) (pos c) (rounded (pos (m * c)) U)
-    ∙ sym (rounded-add (pos k *ℤ pos U -ℤ pos k *ℤ pos c -ℤ pos m) (pos (m * c)) U (omega arith))
-    ∙ ap (λ t. rounded t U) (split (pos k) (pos m) (pos c))
+-- m is a + 10^16, and c the cosine and U more
+pub scaled-is : (a : ℤ) (c m : ℕ) → pos m ≡ a +ℤ pos 10000000000000000
+    → pos (m / 1000000000 * c + (m % 1000000000 * c + 500000000) / 1000000000 + 10000000000000000) -ℤ pos (10000000 * c + m) ≡ rounded (a *ℤ (pos c -ℤ pos U)) U
+scaled-is a c m e =
+    let hi = m / 1000000000 in
+    let lo = m % 1000000000 in
+    let whole : m ≡ 1000000000 * hi + lo = omega arith in
+    let K = pos hi *ℤ pos c -ℤ pos 10000000 *ℤ pos c -ℤ a in
+    ap (λ t. pos (hi * c) +ℤ t +ℤ pos 10000000000000000 -ℤ (pos (10000000 * c) +ℤ pos m)) (sym (rounded-nat (lo * c) U))
+    ∙ ap (λ t. pos (hi * c) +ℤ rounded (pos (lo * c)) U +ℤ pos 10000000000000000 -ℤ (pos (10000000 * c) +ℤ t)) e
+    ∙ sort a (pos hi) (pos c) (rounded (pos (lo * c)) U)
+    ∙ sym (rounded-add K (pos (lo * c)) U (omega arith))
+    ∙ ap (λ t. rounded t U) (split a (pos c) (pos hi) (pos lo) (pos m) e (ap pos whole))
   where
-    sort : (k m c z : ℤ) → z +ℤ k *ℤ pos U -ℤ (k *ℤ c +ℤ m) ≡ k *ℤ pos U -ℤ k *ℤ c -ℤ m +ℤ z
-    sort k m c z = ring! (k ∷ m ∷ c ∷ z ∷ []) (search polys depth 60 fits 100000) (search polys depth 60 fits 100000) tt
+    sort : (a h c z : ℤ) → h *ℤ c +ℤ z +ℤ pos 10000000000000000 -ℤ (pos 10000000 *ℤ c +ℤ (a +ℤ pos 10000000000000000)) ≡ h *ℤ c -ℤ pos 10000000 *ℤ c -ℤ a +ℤ z
+    sort a h c z = ring! (a ∷ h ∷ c ∷ z ∷ []) (search polys depth 60 fits 100000) (search polys depth 60 fits 100000) tt
 
-    split : (k m c : ℤ) → pos U *ℤ (k *ℤ pos U -ℤ k *ℤ c -ℤ m) +ℤ m *ℤ c ≡ (m -ℤ k *ℤ pos U) *ℤ (c -ℤ pos U)
-    split k m c = ring! (k ∷ m ∷ c ∷ []) (search polys depth 60 fits 100000) (search polys depth 60 fits 100000) tt
-
--- the rounded m c / U, by the parts of m
-pub scaled-parts : (m c : ℕ) → m / U * c + (m % U * c + 500000000) / U ≡ (m * c + 500000000) / U
-scaled-parts m c = let e : m * c ≡ U * (m / U * c) + m % U * c = parts m c in omega arith
-  where
-    parts : (m c : ℕ) → m * c ≡ U * (m / U * c) + m % U * c
-    parts m c = let e : m ≡ U * (m / U) + m % U = omega arith in omega (arith, ap (λ (t : ℕ). t * c) e)
-
--- a's value, where m is a and k + n more, and w only n more
-pub scaled-at : (a : ℤ) (k n m w c : ℕ) → m ≡ w + k → pos m ≡ a +ℤ pos (k + n) → rounded ((pos w -ℤ pos n) *ℤ (pos c -ℤ pos U)) U ≡ rounded (a *ℤ (pos c -ℤ pos U)) U
-scaled-at a k n m w c h e = ap (λ z. rounded (z *ℤ (pos c -ℤ pos U)) U) (more (pos k) (pos n) (pos w) ∙ ap (λ t. t -ℤ pos (k + n)) (ap pos (sym h) ∙ e) ∙ less a (pos k +ℤ pos n))
-  where
-    more : (k n w : ℤ) → w -ℤ n ≡ w +ℤ k -ℤ (k +ℤ n)
-    more k n w = ring! (k ∷ n ∷ w ∷ []) (search polys depth 60 fits 100000) (search polys depth 60 fits 100000) tt
-
-    less : (a n : ℤ) → a +ℤ n -ℤ n ≡ a
-    less a n = ring! (a ∷ n ∷ []) (search polys depth 60 fits 100000) (search polys depth 60 fits 100000) tt
+    split : (a c h l m : ℤ) → m ≡ a +ℤ pos 10000000000000000 → m ≡ pos 1000000000 *ℤ h +ℤ l → pos U *ℤ (h *ℤ c -ℤ pos 10000000 *ℤ c -ℤ a) +ℤ l *ℤ c ≡ a *ℤ (c -ℤ pos U)
+    split a c h l m e f =
+        ring! (a ∷ c ∷ h ∷ l ∷ []) {y = (pos 1000000000 *ℤ h +ℤ l -ℤ pos 10000000000000000) *ℤ c -ℤ a *ℤ pos U} (search polys depth 60 fits 100000) (search polys depth 60 fits 100000) tt
+        ∙ ap (λ t. (t -ℤ pos 10000000000000000) *ℤ c -ℤ a *ℤ pos U) (sym f ∙ e)
+        ∙ ring! (a ∷ c ∷ []) (search polys depth 60 fits 100000) (search polys depth 60 fits 100000) tt
 
 pub scaled-high : (m c : ℕ) → m < 20000000000000000 → c ≤ 2000000000 → m / 1000000000 * c ≤ 40000000000000000
 scaled-high m c h k = let l : m / 1000000000 ≤ 20000000 = omega arith in mul-le-mul l k
 
 pub scaled-low : (m c : ℕ) → c ≤ 2000000000 → m % 1000000000 * c ≤ 2000000000000000000
 scaled-low m c k = let l : m % 1000000000 ≤ 1000000000 = omega arith in mul-le-mul l k
-
-pub narrow-most : (m c : ℕ) → m ≤ 8000000000 → c ≤ 2000000000 → m * c ≤ 16000000000000000000
-narrow-most m c h k = mul-le-mul h k
 
 pub value-is : (a : ℤ) (b : ℕ) (c t : ℤ) (r : ℕ) → modulo (pos r) P ≡ term-angle b c t → rounded (a *ℤ cosine (pos r)) U ≡ term-value a b c t
 unfolding term-value term-cosine

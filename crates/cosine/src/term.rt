@@ -128,35 +128,14 @@ pub fn angle(p: Prepared, b: u64, c: i64) -> u64
     q + r / 31557600000000 + 100 * b
 }
 
-// (m - 10^16) (c - 10^9) / 10^9 rounded; m is split at 10^9.
-fn scaled_wide(m: u64, c: u64) -> i64
-    requires { ⌜ (m < 20000000000000000) × (c ≤ 2000000000) ⌝ }
-    ensures { λ r. ⌜ r ≡ rounded ((pos m -ℤ pos 10000000000000000) *ℤ (pos c -ℤ pos U)) U ⌝ }
-{
-    let x = m / 1000000000 * c + (m % 1000000000 * c + 500000000) / 1000000000;
-    difference(x + 10000000000000000, 10000000 * c + m)
-}
-
-// (m - 4*10^9) (c - 10^9) / 10^9 rounded; the product stays below 2^64.
-fn scaled_narrow(m: u64, c: u64) -> i64
-    requires { ⌜ (m ≤ 8000000000) × (c ≤ 2000000000) ⌝ }
-    ensures { λ r. ⌜ r ≡ rounded ((pos m -ℤ pos 4000000000) *ℤ (pos c -ℤ pos U)) U ⌝ }
-{
-    difference((m * c + 500000000) / 1000000000 + 4000000000, 4 * c + m)
-}
-
-// a (c - 10^9) / 10^9 rounded, for a cosine that is 10^9 too great. All but a few amplitudes of a series are within 4*10^9.
+// a (c - 10^9) / 10^9 rounded, for a cosine that is 10^9 too great; a is split at 10^9, and 10^16 greater until the end.
 pub fn scaled(a: i64, c: u64) -> i64
     requires { ⌜ (natAbs a < a-limit) × (c ≤ 2000000000) ⌝ }
     ensures { λ r. ⌜ r ≡ rounded (a *ℤ (pos c -ℤ pos U)) U ⌝ }
 {
     let m = raised(a, 10000000000000000);
-    if 9999996000000000 <= m {
-        if m <= 10000004000000000 {
-            return scaled_narrow(m - 9999996000000000, c);
-        }
-    }
-    scaled_wide(m, c)
+    let x = m / 1000000000 * c + (m % 1000000000 * c + 500000000) / 1000000000;
+    difference(x + 10000000000000000, 10000000 * c + m)
 }
 
 // A term's value.
