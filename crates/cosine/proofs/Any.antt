@@ -1,23 +1,22 @@
 -- The working parts of any angle against the nested series of any fraction near it. Assumes nothing.
-use mathlib.Core.Path.{_≡_, refl, sym, ap, ap₂, _∙_, subst}
-use mathlib.Core.List.{List, [], _∷_}
-use Prim.Native.Nat.{ℕ, zero, suc, _*_, _+_, _%_, _≤_, _<_}
+use mathlib.Core.Path.{_≡_, ap, _∙_}
+use mathlib.Core.List.{[], _∷_}
+use Prim.Native.Nat.{ℕ, _*_, _+_, _<_}
 use native.Mathlib.Omega.{arith}
 use lib.IntN.{ℤ, pos, _+ℤ_, _-ℤ_, _*ℤ_, negℤ}
 use Rattle.integers.specs.Order.{_≼_, _≺_}
 use Rattle.integers.proofs.Pairs.{nonneg}
-use Rattle.integers.proofs.Auto.{ring!, cert!, cert<!, polys, gap, gap<, gap≡, _⊞_, _⊛_, _·_, sqr}
+use Rattle.integers.proofs.Auto.{ring!, cert!, polys, gap, gap<, _⊞_, _⊛_, _·_}
 use Rattle.integers.proofs.Order.{≺-≼, product-pos, ≺-nat}
-use Rattle.integers.specs.Division.{rounded, modulo, floor}
-use Rattle.integers.proofs.Division.{rounded-low, rounded-high, rounded-add, modulo-lt, modulo-add, modulo-shift, floor-modulo}
+use Rattle.integers.specs.Division.{rounded, modulo}
+use Rattle.integers.proofs.Division.{rounded-low, rounded-high, rounded-add}
 use Rattle.units.specs.Units.{U}
-use Rattle.cosine.specs.Cosine.{cosine-by, even-part, odd-part, q-of, r-of, w-of}
+use Rattle.cosine.specs.Cosine.{q-of, r-of, w-of}
 use Rattle.cosine.specs.Reference.{two-pi as A, four as F, ref-q, ref-r}
-use Rattle.cosine.proofs.Lists.{low-by-quarter}
-use Rattle.integers.proofs.Near.{Near, near-sym, near-neg, near-trans, near-coarse, near-weaken, near-times, near-as}
+use Rattle.integers.proofs.Near.{Near, near-trans, near-weaken, near-times, near-as}
 use Rattle.cosine.proofs.Part.{Angle, f-up, f-low, f-low-pos, near-f}
 use Rattle.cosine.proofs.Work.{rounded-most, rounded-least, working, near-working}
-use Rattle.cosine.proofs.Reduce.{Y, B, over, bound, Two, Agree, near-two}
+use Rattle.cosine.proofs.Reduce.{Y, B, bound, Two, Agree, near-two}
 
 -- a turn of four quarters Q in 1/(step·U), with G/(Y·step·U) the most that Q/(step·U) differs from the reference's quarter
 pub record Turn (Q step G : ℕ) : Type 0 where

@@ -1,8 +1,8 @@
 -- Document 01's figures: the cosine at 0, at a quarter and at two quarters is U, 0 and -U. Assumes nothing.
 use mathlib.Core.Path.{_≡_, refl}
-use mathlib.Core.List.{List, [], _∷_, map}
-use Prim.Native.Nat.{ℕ, _*_}
-use lib.IntN.{ℤ, pos, negℤ}
+use mathlib.Core.List.{[], _∷_, map}
+use Prim.Native.Nat.{_*_}
+use lib.IntN.{pos, negℤ}
 use Rattle.integers.specs.Division.{rounded, floor, modulo}
 use Rattle.units.specs.Units.{U, quarter}
 use Rattle.cosine.specs.Cosine.{cosine-by, horner, y-of, even-part, odd-part, q-of, r-of, w-of, working-cosine, cosine}

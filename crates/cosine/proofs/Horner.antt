@@ -1,14 +1,13 @@
 -- The nested series h(ds, Z/D) as a fraction: h([]) = 1, h(d ∷ ds) = 1 − (Z/D)·h(ds)/d. Its range and its Lipschitz bound. Assumes nothing.
-use mathlib.Core.Path.{_≡_, refl, sym, subst₂, subst₃}
+use mathlib.Core.Path.{_≡_, sym, subst₂, subst₃}
 use mathlib.Core.List.{List, [], _∷_}
-use Prim.Native.Nat.{ℕ, zero, suc, _*_, _+_, _/_, _%_, _≤_, _<_}
+use Prim.Native.Nat.{ℕ, suc, _*_, _+_, _/_, _%_, _<_}
 use native.Mathlib.Omega.{arith}
 use native.Mathlib.Nat.{div-add-mod, mod-lt}
-use lib.Dec.{T}
-use lib.IntN.{ℤ, pos, _+ℤ_, _-ℤ_, _*ℤ_, negℤ}
+use lib.IntN.{ℤ, pos, _+ℤ_, _-ℤ_, _*ℤ_}
 use Rattle.integers.specs.Order.{_≼_, _≺_}
 use Rattle.integers.proofs.Pairs.{nonneg, *ℤ-assoc}
-use Rattle.integers.proofs.Auto.{ring!, cert!, cert<!, polys, gap, gap<, gap≡, _⊞_, _⊛_, _·_, sqr}
+use Rattle.integers.proofs.Auto.{ring!, cert!, cert<!, polys, gap, gap<, _⊞_, _⊛_, _·_}
 use Rattle.integers.proofs.Order.{≺-≼, ≼-nat}
 
 -- the lower number, and the upper one

@@ -1,20 +1,18 @@
 -- The working cosine and sine of a longitude L in parts, against the reference's of an angle within 2·10^5 parts of it: at most 2460/U. Assumes nothing.
-use mathlib.Core.Path.{_≡_, refl}
-use mathlib.Core.List.{List, [], _∷_}
+use mathlib.Core.List.{[], _∷_}
 use Prim.Native.Nat.{ℕ, _*_, _+_, _^_, _≤_, _<_}
 use native.Mathlib.Omega.{arith}
 use lib.IntN.{ℤ, pos, natAbs, _+ℤ_, _-ℤ_, _*ℤ_, negℤ}
 use Rattle.integers.specs.Order.{_≼_, _≺_}
 use Rattle.integers.proofs.Pairs.{nonneg}
-use Rattle.integers.proofs.Auto.{cert!, cert<!, polys, gap, gap<, _⊞_, _⊛_, _·_}
-use Rattle.integers.proofs.Order.{natAbs-low, natAbs-high, ≺-≼, ≺-nat}
-use Rattle.integers.specs.Division.{rounded}
+use Rattle.integers.proofs.Auto.{cert!, cert<!, polys, gap, gap<, _⊛_, _·_}
+use Rattle.integers.proofs.Order.{natAbs-low, natAbs-high, ≺-nat}
 use Rattle.units.specs.Units.{U, quarter, angle-step, angle-per-part}
 use Rattle.cosine.specs.Cosine.{q-of, cosine, sine}
-use Rattle.cosine.specs.Reference.{two-pi as A, four as F, reference-cosine, reference-sine, Within}
+use Rattle.cosine.specs.Reference.{reference-cosine, reference-sine, Within}
 use Rattle.cosine.proofs.Work.{rounded-most, rounded-least}
 use Rattle.cosine.proofs.Reduce.{Y, B}
-use Rattle.cosine.proofs.Any.{Turn, Close-angles, all-errors}
+use Rattle.cosine.proofs.Any.{Close-angles, all-errors}
 use Rattle.cosine.proofs.Within.{within-any, within-any-sine, the-turn, G}
 
 -- L parts and the fraction n/N (in radians) differ by at most 2·10^5 parts

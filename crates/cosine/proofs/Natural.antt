@@ -1,15 +1,15 @@
 -- The working cosine in natural numbers: the working angle as v = w + U, and each rounded quotient as one quotient of naturals. Assumes nothing.
-use mathlib.Core.Path.{_≡_, refl, sym, ap, ap₂, _∙_, subst}
+use mathlib.Core.Path.{_≡_, sym, ap, ap₂, _∙_, subst}
 use mathlib.Core.List.{List, [], _∷_}
-use Prim.Native.Nat.{ℕ, zero, suc, _+_, _*_, _-_, _/_, _%_, _≤_, _<_}
+use Prim.Native.Nat.{ℕ, _+_, _*_, _-_, _/_, _%_, _≤_, _<_}
 use native.Mathlib.Omega.{arith}
 use native.Mathlib.Nat.{mul-le-mul, mul-le-mul-right, div-div-eq-div-mul, div-le-of-le-mul}
 use lib.IntN.{ℤ, pos, negℤ, _+ℤ_, _-ℤ_, _*ℤ_}
-use Rattle.integers.specs.Order.{_≼_, _≺_}
+use Rattle.integers.specs.Order.{_≼_}
 use Rattle.integers.specs.Division.{floor, rounded}
 use Rattle.integers.proofs.Order.{fits}
-use Rattle.integers.proofs.Pairs.{nat, int, same, less, less⁻¹, _+ᵢ_, _-ᵢ_, _*ᵢ_}
-use Rattle.integers.proofs.Auto.{polys, ring!, cert!, gap, sqr}
+use Rattle.integers.proofs.Pairs.{nat, same, less, less⁻¹, _+ᵢ_, _-ᵢ_, _*ᵢ_}
+use Rattle.integers.proofs.Auto.{polys, ring!, cert!, sqr}
 use Rattle.integers.proofs.Division.{rounded-add}
 use Rattle.integers.proofs.Rounding.{rounded-scale}
 use Rattle.units.specs.Units.{U, quarter, angle-step}

@@ -1,19 +1,15 @@
 -- The cosines and sines by one shift of the quarter (0 or 3) and the nested series. Assumes nothing.
-use mathlib.Core.Path.{_≡_, refl, sym, ap, ap₂, _∙_, subst, subst₂}
-use mathlib.Core.List.{List, [], _∷_}
-use Prim.Native.Nat.{ℕ, zero, suc, _*_, _+_, _%_, _≤_, _<_}
+use mathlib.Core.Path.{_≡_, refl, ap, _∙_}
+use Prim.Native.Nat.{ℕ, zero, suc, _*_, _+_, _%_, _<_}
 use native.Mathlib.Omega.{arith}
-use lib.IntN.{ℤ, pos, natAbs, _+ℤ_, _-ℤ_, _*ℤ_, negℤ, +ℤ-idr, zero-*ℤ}
-use Rattle.integers.specs.Order.{_≼_, _≺_}
-use Rattle.integers.proofs.Pairs.{nonneg}
-use Rattle.integers.proofs.Auto.{ring!, cert!, cert<!, polys, gap, gap<, gap≡, _⊞_, _⊛_, _·_, sqr}
+use lib.IntN.{ℤ, pos, _+ℤ_, _*ℤ_, negℤ, +ℤ-idr}
 use Rattle.integers.specs.Division.{modulo}
 use Rattle.integers.proofs.Division.{modulo-lt, modulo-add}
 use Rattle.integers.specs.Fractions.{Fraction, negᶠ}
 use Rattle.cosine.specs.Cosine.{cosine-by, sine-by, even-part, odd-part, q-of, w-of, working-cosine, working-sine}
 use Rattle.cosine.specs.Reference.{four as F, ref-q, ref-r, even-series, odd-series, reference-cosine, reference-sine}
 use Rattle.cosine.proofs.Lists.{low-by-quarter}
-use Rattle.cosine.proofs.Part.{C-up, C-low, S-up, S-low, f-up, f-low}
+use Rattle.cosine.proofs.Part.{f-up, f-low}
 use Rattle.cosine.proofs.Work.{working}
 use Rattle.cosine.proofs.Series.{C-up-is, C-low-is, S-up-is, S-low-is}
 

@@ -1,17 +1,16 @@
 -- C(x) and S(x) for a fraction x = n/N, and by the quarter. Their Lipschitz bound, 61/50. Assumes nothing.
-use mathlib.Core.Path.{_≡_, refl}
-use mathlib.Core.List.{List, [], _∷_, _++_}
-use Prim.Native.Nat.{ℕ, zero, suc, _*_, _+_, _≤_, _<_}
+use mathlib.Core.List.{List, [], _∷_}
+use Prim.Native.Nat.{ℕ, zero, suc, _*_, _<_}
 use native.Mathlib.Omega.{arith}
-use lib.IntN.{ℤ, pos, _+ℤ_, _-ℤ_, _*ℤ_, negℤ}
+use lib.IntN.{ℤ, pos, _-ℤ_, _*ℤ_, negℤ}
 use Rattle.integers.specs.Order.{_≼_, _≺_}
 use Rattle.integers.proofs.Pairs.{nonneg}
-use Rattle.integers.proofs.Auto.{ring!, cert!, cert<!, polys, gap, gap<, gap≡, _⊞_, _⊛_, _·_, sqr}
-use Rattle.integers.proofs.Order.{≺-≼, cert*!, product-pos}
-use Rattle.cosine.proofs.Horner.{low, up, lam, lip, Good, Range, range′, Small, small-le}
-use Rattle.cosine.specs.Cosine.{evens, odds, cosine-by}
-use Rattle.cosine.proofs.Lists.{more-evens, more-odds, all-evens, all-odds, low-by-quarter}
-use Rattle.integers.proofs.Near.{Near, near-sym, near-neg, near-trans, near-coarse, near-weaken, near-times}
+use Rattle.integers.proofs.Auto.{cert!, cert<!, polys, gap, gap<, _⊞_, _⊛_, _·_, sqr}
+use Rattle.integers.proofs.Order.{≺-≼, product-pos}
+use Rattle.cosine.proofs.Horner.{low, up, lam, lip, Good, range′, Small}
+use Rattle.cosine.specs.Cosine.{cosine-by}
+use Rattle.cosine.proofs.Lists.{all-evens, all-odds, low-by-quarter}
+use Rattle.integers.proofs.Near.{Near, near-sym, near-neg, near-coarse}
 
 -- |n/N| is at most 0.7854
 pub record Angle (n N : ℤ) : Type 0 where

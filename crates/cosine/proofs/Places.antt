@@ -1,7 +1,7 @@
 -- What `prepare` works out, and the angle that `angle` makes of it. Assumes nothing.
-use mathlib.Core.Path.{_≡_, refl, sym, ap, ap₂, _∙_, subst, subst₂}
-use mathlib.Core.List.{List, [], _∷_}
-use Prim.Native.Nat.{ℕ, zero, suc, _+_, _*_, _-_, _/_, _%_, _^_, _≤_, _<_}
+use mathlib.Core.Path.{_≡_, refl, sym, ap, _∙_, subst, subst₂}
+use mathlib.Core.List.{[], _∷_}
+use Prim.Native.Nat.{ℕ, suc, _+_, _*_, _-_, _/_, _%_, _^_, _≤_, _<_}
 use native.Mathlib.Omega.{arith}
 use native.Mathlib.Nat.{mul-le-mul}
 use lib.IntN.{ℤ, pos, negℤ, natAbs, _+ℤ_, _-ℤ_, _*ℤ_}
@@ -9,11 +9,10 @@ use mir.Syntax.{w64}
 use mir.Val.{SFits}
 use Rattle.integers.specs.Order.{_≼_}
 use Rattle.integers.specs.Division.{rounded, modulo}
-use Rattle.integers.proofs.Pairs.{nonneg}
 use Rattle.integers.proofs.Auto.{polys, ring!, cert!, gap}
 use Rattle.integers.proofs.Division.{rounded-add}
 use Rattle.integers.proofs.Order.{natAbs-low, natAbs-+, fits}
-use Rattle.units.specs.Units.{U, millennium as T, turn as P, t-limit, angle-per-part}
+use Rattle.units.specs.Units.{U, millennium as T, turn as P, t-limit}
 use Rattle.cosine.specs.declared.term.Prepared.{Prepared}
 use Rattle.cosine.specs.Prepared.{Residue, Ready}
 use Rattle.cosine.specs.Cosine.{cosine}

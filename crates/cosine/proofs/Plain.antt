@@ -1,12 +1,12 @@
 -- The series of the reference are the plain power series: over fractions, the sum of (-1)^m x^i / i!, term by term, has the same value. Assumes nothing.
 use mathlib.Core.Path.{_≡_, refl, sym, ap, ap₂, _∙_, subst}
-use mathlib.Core.List.{List, [], _∷_}
+use mathlib.Core.List.{[], _∷_}
 use Prim.Native.Nat.{ℕ, zero, suc, _+_, _*_, _-_, _/_, _≤_, _<_}
 use native.Mathlib.Omega.{arith}
 use native.Mathlib.Nat.{mul-le-mul}
-use lib.IntN.{ℤ, pos, negℤ, _+ℤ_, _*ℤ_}
+use lib.IntN.{ℤ, pos, negℤ, _*ℤ_}
 use Rattle.integers.specs.Order.{_≺_}
-use Rattle.integers.specs.Fractions.{Fraction, _*ᶠ_, _+ᶠ_, overᶠ, wholeᶠ, powerᶠ, _≈ᶠ_}
+use Rattle.integers.specs.Fractions.{Fraction, _*ᶠ_, _+ᶠ_, overᶠ, powerᶠ, _≈ᶠ_}
 use Rattle.integers.proofs.Auto.{polys, ring! }
 use Rattle.integers.proofs.Order.{product-pos, ≺-nat}
 use Rattle.integers.proofs.Fractions.{Over, over-+}

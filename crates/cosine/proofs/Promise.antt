@@ -1,18 +1,18 @@
 -- P1: the working and the reference cosine of an allowed term differ by at most 7/U, and by 0 if it is constant. Assumes nothing.
-use mathlib.Core.Path.{_≡_, refl, sym, ap, ap₂, _∙_, subst, subst₂}
-use mathlib.Core.List.{List, [], _∷_}
-use Prim.Native.Nat.{ℕ, zero, suc, _*_, _+_, _%_, _≤_, _<_}
+use mathlib.Core.Path.{_≡_, sym, ap, subst, subst₂}
+use mathlib.Core.List.{[], _∷_}
+use Prim.Native.Nat.{ℕ, _*_, _+_, _<_}
 use native.Mathlib.Omega.{arith}
-use lib.IntN.{ℤ, pos, natAbs, _+ℤ_, _-ℤ_, _*ℤ_, negℤ, +ℤ-idr, zero-*ℤ}
-use Rattle.integers.specs.Order.{_≼_, _≺_}
+use lib.IntN.{ℤ, pos, _+ℤ_, _*ℤ_, negℤ, zero-*ℤ}
+use Rattle.integers.specs.Order.{_≼_}
 use Rattle.integers.proofs.Pairs.{nonneg}
-use Rattle.integers.proofs.Auto.{ring!, cert!, cert<!, polys, gap, gap<, gap≡, _⊞_, _⊛_, _·_, sqr}
+use Rattle.integers.proofs.Auto.{cert!, polys, gap, gap<, _⊞_, _·_}
 use Rattle.integers.proofs.Order.{natAbs-low, natAbs-high}
 use Rattle.integers.proofs.Bounds.{Bd, bd-*}
 use Rattle.integers.specs.Division.{rounded, modulo, floor}
 use Rattle.integers.proofs.Division.{rounded-low, rounded-high}
-use Rattle.integers.specs.Fractions.{Fraction, negᶠ}
-use Rattle.units.specs.Units.{U, parts, millennium as T, t-limit, turn as P, quarter, angle-step, angle-per-part, b-limit, c-limit}
+use Rattle.integers.specs.Fractions.{negᶠ}
+use Rattle.units.specs.Units.{parts, millennium as T, t-limit, turn as P, quarter, angle-step, angle-per-part, b-limit, c-limit}
 use Rattle.cosine.specs.Cosine.{horner, y-of, cosine-by, even-part, odd-part, q-of, r-of, w-of, working-cosine, cosine}
 use Rattle.cosine.specs.Reference.{power, factorial, sum, alternate, four as F, ref-q, ref-r, even-series, odd-series, reference-cosine, Within}
 use Rattle.cosine.specs.Terms.{Allowed, term-angle, term-cosine, term-reference}

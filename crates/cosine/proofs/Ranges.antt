@@ -1,23 +1,22 @@
 -- The reference cosine and sine lie from −1 to 1, the working ones from −U to U, and the working even part is at least 0.69·U. Assumes nothing.
-use mathlib.Core.Path.{_≡_, refl, sym, ap, ap₂, _∙_, subst, subst₂}
-use mathlib.Core.List.{List, [], _∷_}
-use Prim.Native.Nat.{ℕ, zero, suc, _*_, _+_, _%_, _^_, _≤_, _<_}
+use mathlib.Core.Path.{subst}
+use mathlib.Core.List.{[], _∷_}
+use Prim.Native.Nat.{ℕ, zero, suc, _*_, _+_, _≤_, _<_}
 use native.Mathlib.Omega.{arith}
-use lib.IntN.{ℤ, pos, _+ℤ_, _-ℤ_, _*ℤ_, negℤ}
+use lib.IntN.{ℤ, pos, natAbs, _+ℤ_, _*ℤ_, negℤ}
 use Rattle.integers.specs.Order.{_≼_, _≺_}
-use Rattle.integers.proofs.Pairs.{nonneg}
-use Rattle.integers.proofs.Auto.{ring!, cert!, cert<!, polys, gap, gap<, gap≡, _⊞_, _⊛_, _·_, sqr}
-use Rattle.integers.proofs.Order.{≺-≼, cert*!, ≺-nat}
+use Rattle.integers.proofs.Auto.{cert!, polys, gap, _⊞_, _⊛_, _·_}
+use Rattle.integers.proofs.Order.{≺-≼, ≺-nat}
 use Rattle.integers.specs.Division.{rounded, modulo}
 use Rattle.integers.specs.Fractions.{Fraction}
 use Rattle.units.specs.Units.{U}
-use Rattle.cosine.specs.Cosine.{cosine-by, horner, y-of, even-part, odd-part, evens, odds, q-of, r-of, w-of, working-cosine, working-sine, cosine, sine}
-use Rattle.cosine.specs.Reference.{two-pi as A, four as F, ref-q, ref-r, reference-cosine, reference-sine}
+use Rattle.cosine.specs.Cosine.{cosine-by, horner, y-of, even-part, odd-part, evens, odds, q-of, working-cosine, working-sine, cosine, sine}
+use Rattle.cosine.specs.Reference.{ref-q, ref-r, reference-cosine, reference-sine}
 use Rattle.cosine.proofs.Lists.{low-by-quarter, all-evens, all-odds}
-use Rattle.cosine.proofs.Horner.{low, up, Good, Range, range′, Small}
-use Rattle.integers.proofs.Order.{product-pos}
-use Rattle.cosine.proofs.Part.{Angle, angle-small, C-up, C-low, S-up, S-low, f-up, f-low, C-low-pos, S-low-pos, good-evens, good-odds}
-use Rattle.cosine.proofs.Work.{rounded-most, rounded-least, Unit-range, horner-range, y-range, working}
+use Rattle.cosine.proofs.Horner.{low, up, range′}
+use Rattle.integers.proofs.Order.{product-pos, natAbs-le}
+use Rattle.cosine.proofs.Part.{Angle, angle-small, C-up, C-low, S-up, S-low, f-up, f-low, good-evens, good-odds}
+use Rattle.cosine.proofs.Work.{rounded-most, rounded-least, horner-range, y-range, working}
 use Rattle.cosine.proofs.Reduce.{R′-angle}
 use Rattle.cosine.proofs.Any.{Turn, ref-most, ref-least, w-angle}
 use Rattle.cosine.proofs.Within.{the-turn}
@@ -125,3 +124,9 @@ cosine-range x = cosine-in the-turn x
 pub sine-range : (x : ℤ) → In-U (sine x)
 unfolding sine
 sine-range x = sine-in the-turn x
+
+pub cosine-size : (x : ℤ) → natAbs (cosine x) ≤ U
+cosine-size x = natAbs-le (cosine x) U (cosine-range x .least) (cosine-range x .most)
+
+pub sine-size : (x : ℤ) → natAbs (sine x) ≤ U
+sine-size x = natAbs-le (sine x) U (sine-range x .least) (sine-range x .most)

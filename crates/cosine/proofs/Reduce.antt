@@ -1,21 +1,21 @@
 -- Two reductions of nearly the same angle, to the same quarter or to two that lie side by side. Assumes nothing.
-use mathlib.Core.Path.{_≡_, refl, sym, ap, _∙_, subst}
+use mathlib.Core.Path.{_≡_, sym, ap, _∙_, subst}
 use mathlib.Core.Logic.{_⊎_, inl, inr}
-use mathlib.Core.List.{List, [], _∷_, _++_}
-use Prim.Native.Nat.{ℕ, zero, suc, _*_, _+_, _%_, _^_, _≤_, _<_}
+use mathlib.Core.List.{[], _∷_}
+use Prim.Native.Nat.{ℕ, zero, suc, _*_, _+_, _%_, _^_, _<_}
 use native.Mathlib.Omega.{arith}
-use lib.IntN.{ℤ, pos, negsuc, _+ℤ_, _-ℤ_, _*ℤ_, negℤ}
+use lib.IntN.{ℤ, pos, _+ℤ_, _-ℤ_, _*ℤ_, negℤ}
 use Rattle.integers.specs.Order.{_≼_, _≺_}
 use Rattle.integers.proofs.Pairs.{nonneg}
-use Rattle.integers.proofs.Auto.{ring!, cert!, cert<!, polys, gap, gap<, gap≡, _⊞_, _⊛_, _·_, sqr}
-use Rattle.integers.proofs.Order.{≺-≼, cert*!, ≼-or-≺, ≼-antisym}
+use Rattle.integers.proofs.Auto.{ring!, cert!, polys, gap, gap<, _⊞_, _⊛_, _·_}
+use Rattle.integers.proofs.Order.{≺-≼, ≼-or-≺, ≼-antisym}
 use Rattle.integers.specs.Division.{modulo}
 use Rattle.integers.proofs.Division.{modulo-lt, modulo-add}
 use Rattle.cosine.specs.Cosine.{cosine-by}
 use Rattle.cosine.specs.Reference.{two-pi as A, four as F}
-use Rattle.cosine.proofs.Lists.{all-evens, all-odds, low-by-quarter}
+use Rattle.cosine.proofs.Lists.{low-by-quarter}
 use Rattle.cosine.proofs.Horner.{low, up}
-use Rattle.integers.proofs.Near.{Near, near-sym, near-neg, near-trans, near-coarse, near-weaken, near-times, near-as}
+use Rattle.integers.proofs.Near.{Near, near-sym, near-trans, near-weaken, near-times, near-as}
 use Rattle.integers.proofs.Order.{product-pos}
 use Rattle.cosine.proofs.Part.{Angle, C-up, C-low, S-up, S-low, f-up, f-low, f-low-pos, near-f}
 

@@ -1,14 +1,12 @@
 -- A whole number as T q + r, but for whole turns in the quotient: sums, multiples, carries, and the rounded quotient by T. Assumes nothing.
-use mathlib.Core.Path.{_≡_, refl, sym, ap, ap₂, _∙_, subst}
-use mathlib.Core.List.{List, [], _∷_}
-use Prim.Native.Nat.{ℕ, zero, suc, _+_, _*_, _-_, _/_, _%_, _^_, _≤_, _<_}
+use mathlib.Core.Path.{_≡_, sym, ap, ap₂, _∙_}
+use mathlib.Core.List.{[], _∷_}
+use Prim.Native.Nat.{ℕ, _+_, _*_, _-_, _/_, _%_, _≤_, _<_}
 use native.Mathlib.Omega.{arith}
-use native.Mathlib.Nat.{div-add-mod, mod-lt}
-use lib.IntN.{ℤ, pos, negℤ, natAbs, _+ℤ_, _-ℤ_, _*ℤ_}
-use Rattle.integers.specs.Order.{_≺_}
-use Rattle.integers.specs.Division.{floor, rounded, modulo}
-use Rattle.integers.proofs.Pairs.{nonneg, nat, same, _-ᵢ_}
-use Rattle.integers.proofs.Auto.{polys, ring!, cert!, cert<!, gap, gap<, gap≡, _⊞_, _⊛_, _·_}
+use lib.IntN.{ℤ, pos, negℤ, _+ℤ_, _-ℤ_, _*ℤ_}
+use Rattle.integers.specs.Division.{rounded, modulo}
+use Rattle.integers.proofs.Pairs.{nat, same, _-ᵢ_}
+use Rattle.integers.proofs.Auto.{polys, ring!, cert!, cert<!, gap, gap≡, _⊞_, _·_}
 use Rattle.integers.proofs.Division.{floor-is, modulo-shift}
 use Rattle.integers.proofs.Order.{≼-nat}
 use Rattle.units.specs.Units.{millennium as T, turn as P, angle-per-part}

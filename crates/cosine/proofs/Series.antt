@@ -1,10 +1,9 @@
 -- The plain series is the nested one. Assumes nothing.
-use mathlib.Core.Path.{_≡_, refl, sym, ap, _∙_}
-use mathlib.Core.List.{List, [], _∷_, _++_}
+use mathlib.Core.Path.{_≡_}
+use mathlib.Core.List.{List, [], _∷_}
 use Prim.Native.Nat.{ℕ, zero, suc, _*_, _+_, _-_, _/_}
-use lib.IntN.{ℤ, pos, _+ℤ_, _-ℤ_, _*ℤ_, negℤ}
+use lib.IntN.{ℤ, pos, _*ℤ_}
 use Rattle.integers.proofs.Ring.{E, v, #, _⊕_, _⊖_, _⊗_, ⊝, ring}
-use Rattle.integers.specs.Fractions.{Fraction}
 use Rattle.cosine.specs.Reference.{power, factorial, sum, alternate, even-series, odd-series}
 use Rattle.cosine.proofs.Lists.{all-evens, all-odds}
 use Rattle.cosine.proofs.Horner.{low, up}

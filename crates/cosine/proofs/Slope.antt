@@ -1,17 +1,16 @@
 -- The sine and the cosine of the nested series change by no more than their angle does. Assumes nothing.
-use mathlib.Core.Path.{_≡_, refl, sym, subst₂}
 use mathlib.Core.Logic.{_⊎_, inl, inr}
 use mathlib.Core.List.{List, [], _∷_}
-use Prim.Native.Nat.{ℕ, zero, suc, _*_, _+_, _≤_, _<_}
+use Prim.Native.Nat.{ℕ, zero, suc, _*_, _+_}
 use native.Mathlib.Omega.{arith}
-use lib.IntN.{ℤ, pos, _+ℤ_, _-ℤ_, _*ℤ_, negℤ}
+use lib.IntN.{ℤ, pos, _+ℤ_, _-ℤ_, _*ℤ_}
 use Rattle.integers.specs.Order.{_≼_, _≺_}
 use Rattle.integers.proofs.Pairs.{nonneg}
-use Rattle.integers.proofs.Auto.{ring!, cert!, cert<!, polys, gap, gap<, gap≡, _⊞_, _⊛_, _·_, sqr}
+use Rattle.integers.proofs.Auto.{ring!, cert!, polys, gap, _⊞_, _⊛_, _·_}
 use Rattle.integers.proofs.Order.{≺-≼, ≼-or-≺, cert*!, product-pos}
 use Rattle.integers.proofs.Near.{Near, near-sym, near-neg, near-coarse, near-as}
 use Rattle.cosine.proofs.Lists.{all-evens, all-odds, more-odds, low-by-quarter}
-use Rattle.cosine.proofs.Horner.{low, up, lam, lip, Good, Range, range′, Small}
+use Rattle.cosine.proofs.Horner.{low, up, lam, lip, Good, range′, Small}
 use Rattle.cosine.specs.Cosine.{cosine-by}
 use Rattle.cosine.proofs.Part.{Angle, angle-small, good-evens, good-odds, lam-odds, near-h, C-up, C-low, S-up, S-low, f-up, f-low, turn-about}
 

@@ -1,16 +1,14 @@
 -- Whole turns do not change the cosine and the sine. Assumes nothing.
-use mathlib.Core.Path.{_≡_, refl, sym, ap, ap₂, _∙_, subst, subst₂}
-use mathlib.Core.List.{List, [], _∷_}
-use Prim.Native.Nat.{ℕ, zero, suc, _*_, _+_, _%_, _≤_, _<_}
+use mathlib.Core.Path.{_≡_, sym, ap, ap₂, _∙_}
+use mathlib.Core.List.{[], _∷_}
+use Prim.Native.Nat.{ℕ, _*_, _+_, _<_}
 use native.Mathlib.Omega.{arith}
-use lib.IntN.{ℤ, pos, natAbs, _+ℤ_, _-ℤ_, _*ℤ_, negℤ, +ℤ-idr, zero-*ℤ}
-use Rattle.integers.specs.Order.{_≼_, _≺_}
-use Rattle.integers.proofs.Pairs.{nonneg}
-use Rattle.integers.proofs.Auto.{ring!, cert!, cert<!, polys, gap, gap<, gap≡, _⊞_, _⊛_, _·_, sqr}
+use lib.IntN.{ℤ, pos, _+ℤ_, _*ℤ_, negℤ}
+use Rattle.integers.proofs.Auto.{ring!, polys}
 use Rattle.integers.specs.Division.{rounded, modulo, floor}
 use Rattle.integers.proofs.Division.{modulo-shift, floor-modulo}
 use Rattle.units.specs.Units.{quarter, turn, angle-step}
-use Rattle.cosine.specs.Cosine.{cosine-by, sine-by, even-part, odd-part, q-of, r-of, w-of, working-cosine, working-sine, cosine, sine}
+use Rattle.cosine.specs.Cosine.{cosine-by, sine-by, even-part, odd-part, q-of, w-of, working-cosine, working-sine, cosine, sine}
 use Rattle.cosine.proofs.Any.{q-shift, r-shift}
 
 again : (Q k m : ℤ) → pos 4 *ℤ Q *ℤ k +ℤ m ≡ Q *ℤ (pos 4 *ℤ k) +ℤ m

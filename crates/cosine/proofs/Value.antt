@@ -1,20 +1,20 @@
 -- The reference cosine and sine depend on the fraction n/N alone, and not on how it is written. Assumes nothing.
-use mathlib.Core.Path.{_≡_, refl, sym, ap, _∙_, subst, subst₂}
+use mathlib.Core.Path.{_≡_, sym, ap, _∙_, subst, subst₂}
 use mathlib.Core.Logic.{_⊎_, inl, inr}
-use mathlib.Core.List.{List, [], _∷_}
-use Prim.Native.Nat.{ℕ, zero, suc, _*_, _+_, _<_}
+use mathlib.Core.List.{[], _∷_}
+use Prim.Native.Nat.{ℕ, _*_, _+_, _<_}
 use native.Mathlib.Omega.{arith}
-use lib.IntN.{ℤ, pos, _+ℤ_, _-ℤ_, _*ℤ_, negℤ}
+use lib.IntN.{ℤ, pos, _+ℤ_, _-ℤ_, _*ℤ_}
 use Rattle.integers.specs.Order.{_≼_, _≺_}
 use Rattle.integers.proofs.Pairs.{nonneg}
 use Rattle.integers.proofs.Auto.{ring!, cert!, polys, gap, gap<, gap≡, _⊞_, _⊛_, _·_}
-use Rattle.integers.proofs.Order.{≺-≼, ≼-or-≺, ≼-antisym, ≺-nat}
+use Rattle.integers.proofs.Order.{≼-or-≺, ≼-antisym, ≺-nat}
 use Rattle.integers.specs.Division.{rounded, modulo}
 use Rattle.integers.proofs.Division.{rounded-low, rounded-high}
 use Rattle.integers.specs.Fractions.{Fraction, _≈ᶠ_}
 use Rattle.cosine.specs.Reference.{two-pi as A, four as F, ref-q, ref-r, reference-cosine, reference-sine}
 use Rattle.integers.proofs.Near.{Near}
-use Rattle.cosine.proofs.Part.{Angle, f-up, f-low, near-f}
+use Rattle.cosine.proofs.Part.{f-up, f-low, near-f}
 use Rattle.cosine.proofs.Reduce.{R′-angle}
 use Rattle.cosine.proofs.Any.{ref-most, ref-least}
 use Rattle.cosine.proofs.Nested.{nested, reference-is, reference-sine-is}

@@ -1,12 +1,11 @@
 -- How far the working cosine and sine of a whole angle are from the reference's of a fraction near it, for any turn. Assumes nothing.
-use mathlib.Core.Path.{_≡_, refl, sym, ap, ap₂, _∙_, subst, subst₂}
-use mathlib.Core.List.{List, [], _∷_}
-use Prim.Native.Nat.{ℕ, zero, suc, _*_, _+_, _%_, _≤_, _<_}
+use mathlib.Core.Path.{subst₂}
+use mathlib.Core.List.{[], _∷_}
+use Prim.Native.Nat.{ℕ, _*_, _+_}
 use native.Mathlib.Omega.{arith}
-use lib.IntN.{ℤ, pos, natAbs, _+ℤ_, _-ℤ_, _*ℤ_, negℤ, +ℤ-idr, zero-*ℤ}
+use lib.IntN.{ℤ, pos, _+ℤ_, _-ℤ_, _*ℤ_, negℤ}
 use Rattle.integers.specs.Order.{_≼_, _≺_}
-use Rattle.integers.proofs.Pairs.{nonneg}
-use Rattle.integers.proofs.Auto.{ring!, cert!, cert<!, polys, gap, gap<, gap≡, _⊞_, _⊛_, _·_, sqr}
+use Rattle.integers.proofs.Auto.{polys, gap, _⊞_, _⊛_, _·_}
 use Rattle.integers.proofs.Order.{≺-≼, cert*!, product-pos, ≺-nat}
 use Rattle.integers.specs.Division.{modulo}
 use Rattle.units.specs.Units.{U, quarter, angle-step}
@@ -15,7 +14,7 @@ use Rattle.cosine.specs.Reference.{four as F, ref-q, ref-r, reference-co
 use Rattle.cosine.proofs.Part.{f-up, f-low, f-low-pos}
 use Rattle.cosine.proofs.Work.{working}
 use Rattle.cosine.proofs.Reduce.{Y, B}
-use Rattle.cosine.proofs.Any.{Turn, Close-angles, whole, all-errors, near-any}
+use Rattle.cosine.proofs.Any.{Turn, Close-angles, all-errors, near-any}
 use Rattle.cosine.proofs.Nested.{cosine-is, sine-is, reference-is, reference-sine-is}
 
 within-law : (k g E x u l : ℤ) → pos 0 ≺ g → pos 0 ≺ l → E ≼ pos 1000 *ℤ k *ℤ g *ℤ pos B → pos 1000 *ℤ pos U *ℤ g *ℤ pos B *ℤ (x *ℤ l -ℤ u *ℤ pos U) ≼ E *ℤ (pos U *ℤ l) → x *ℤ l -ℤ pos U *ℤ u ≼ k *ℤ l

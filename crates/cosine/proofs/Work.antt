@@ -1,21 +1,20 @@
 -- The working polynomials against the nested series at w/U. Assumes nothing.
-use mathlib.Core.Path.{_≡_, refl}
 use mathlib.Core.List.{List, [], _∷_, _++_}
-use Prim.Native.Nat.{ℕ, zero, suc, _*_, _+_, _/_, _%_, _≤_, _<_}
+use Prim.Native.Nat.{ℕ, zero, suc, _*_, _+_, _/_, _%_, _<_}
 use native.Mathlib.Omega.{arith}
 use native.Mathlib.Nat.{div-add-mod, mod-lt}
 use lib.IntN.{ℤ, pos, _+ℤ_, _-ℤ_, _*ℤ_, negℤ}
 use Rattle.integers.specs.Order.{_≼_, _≺_}
 use Rattle.integers.proofs.Pairs.{nonneg}
-use Rattle.integers.proofs.Auto.{ring!, cert!, cert<!, polys, gap, gap<, gap≡, _⊞_, _⊛_, _·_, sqr}
+use Rattle.integers.proofs.Auto.{cert!, polys, gap, gap<, _⊞_, _⊛_, _·_, sqr}
 use Rattle.integers.proofs.Order.{≺-≼, cert*!, ≼-nat, ≺-nat}
 use Rattle.integers.specs.Division.{rounded}
 use Rattle.integers.proofs.Division.{rounded-low, rounded-high}
 use Rattle.units.specs.Units.{U}
 use Rattle.cosine.specs.Cosine.{horner, y-of, even-part, odd-part, evens, odds, cosine-by}
-use Rattle.cosine.proofs.Lists.{more-evens, more-odds, all-evens, all-odds, low-by-quarter}
-use Rattle.cosine.proofs.Horner.{low, up, lam, lip, Good, Range, range′, Small, small-le}
-use Rattle.integers.proofs.Near.{Near, near-sym, near-neg, near-trans, near-coarse, near-weaken, near-times}
+use Rattle.cosine.proofs.Lists.{all-evens, all-odds, low-by-quarter}
+use Rattle.cosine.proofs.Horner.{low, up, Good, range′}
+use Rattle.integers.proofs.Near.{Near, near-neg}
 use Rattle.cosine.proofs.Part.{Angle, angle-small, C-up, C-low, S-up, S-low, f-up, f-low, good-evens, good-odds}
 
 -- ---- a bound by a whole number survives rounding

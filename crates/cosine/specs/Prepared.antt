@@ -1,5 +1,5 @@
 -- What is worked out once for an instant, so that a term's angle needs no wide product. Held by the code of `term`, no part of document 01.
-use Prim.Native.Nat.{ℕ, _*_, _^_, _<_, _≤_}
+use Prim.Native.Nat.{ℕ, _*_, _^_, _<_}
 use lib.IntN.{ℤ, pos, _+ℤ_, _-ℤ_, _*ℤ_}
 use mathlib.Core.Path.{_≡_}
 use Rattle.units.specs.Units.{millennium, turn}

@@ -2,7 +2,7 @@
 // The working angle w is held as v = w + 10^9, so that everything up to the answer is a natural number.
 ghost use mathlib.Core.Path.{_≡_};
 ghost use Prim.Native.Nat.{_*_, _<_, _≤_, _^_};
-ghost use lib.IntN.{ℤ, pos, negℤ, _+ℤ_, _-ℤ_, _*ℤ_};
+ghost use lib.IntN.{pos, negℤ, _+ℤ_, _-ℤ_, _*ℤ_};
 ghost use Rattle.integers.specs.Division.{rounded};
 ghost use Rattle.units.specs.Units.{U, quarter, angle-step};
 ghost use Rattle.cosine.specs.Cosine.{q-of, w-of, y-of, evens, odds, horner, even-part, odd-part, cosine-by, cosine, sine};

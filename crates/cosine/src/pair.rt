@@ -1,7 +1,7 @@
 // Two angles at a time, in step: neither lane waits for the other, so the processor works both at once. For the crates above.
 ghost use mathlib.Core.Path.{_≡_};
 ghost use Prim.Native.Nat.{_*_, _<_, _≤_};
-ghost use lib.IntN.{ℤ, pos, natAbs, _+ℤ_, _-ℤ_, _*ℤ_};
+ghost use lib.IntN.{pos, natAbs, _+ℤ_, _-ℤ_, _*ℤ_};
 ghost use Rattle.integers.specs.Division.{rounded};
 ghost use Rattle.units.specs.Units.{U, a-limit};
 ghost use Rattle.cosine.specs.Cosine.{y-of, evens, odds, horner, even-part, odd-part};

@@ -2,7 +2,7 @@
 // Angles are worked modulo the turn while they are divided by T, so that no product passes 64 bits.
 ghost use mathlib.Core.Path.{_≡_};
 ghost use Prim.Native.Nat.{_+_, _*_, _/_, _%_, _<_, _≤_, _^_};
-ghost use lib.IntN.{ℤ, pos, negℤ, natAbs, _+ℤ_, _-ℤ_, _*ℤ_};
+ghost use lib.IntN.{pos, negℤ, natAbs, _+ℤ_, _-ℤ_, _*ℤ_};
 ghost use Rattle.integers.specs.Division.{rounded, modulo};
 ghost use Rattle.units.specs.Units.{U, millennium, turn, t-limit, a-limit, b-limit, c-limit};
 ghost use Rattle.cosine.specs.Halves.{half-value, InRange};

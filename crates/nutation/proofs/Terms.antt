@@ -12,14 +12,14 @@ use Rattle.integers.specs.Order.{_≼_}
 use Rattle.integers.specs.Division.{floor, rounded}
 use Rattle.integers.proofs.Pairs.{nonneg}
 use Rattle.integers.proofs.Auto.{ring!, polys}
-use Rattle.integers.proofs.Order.{natAbs-*, natAbs-+, natAbs-le, fits}
+use Rattle.integers.proofs.Order.{natAbs-*, natAbs-+, fits}
 use Rattle.integers.proofs.Division.{floor-modulo, modulo-lt, rounded-add}
 use Rattle.integers.proofs.Rounding.{rounded-mono, rounded-zero, rounded-scale}
 use Rattle.arith.proofs.Ranges.{scaled-within}
 use Rattle.units.specs.Units.{U, millennium, turn, t-limit}
 use Rattle.cosine.specs.Cosine.{cosine, sine}
 use Rattle.cosine.proofs.Turns.{cosine-turns, sine-turns}
-use Rattle.cosine.proofs.Ranges.{cosine-range, sine-range}
+use Rattle.cosine.proofs.Ranges.{cosine-size, sine-size}
 use Rattle.direction.specs.Angles.{units-angle}
 use Rattle.nutation_table.specs.declared.Row.{Row}
 use Rattle.nutation_table.specs.Table.{psi, psi-rate, eps, eps-rate, times-d, times-m, times-m1, times-f, times-node}
@@ -109,12 +109,6 @@ ten-times first h = omega (arith, natAbs-* (pos 10) first)
 pub coefficient-small : (t first rate : ℤ) → natAbs t ≤ t-limit → natAbs first ≤ 171996 → natAbs rate ≤ 1742 → natAbs (pos 10 *ℤ first +ℤ rounded (rate *ℤ t) 3155760000000) ≤ 1754800
 coefficient-small t first rate h k l = omega (arith, step-bound (pos 10 *ℤ first) rate t 3155760000000 (by-time t h), ten-times first k)
 
-pub sine-small : (x : ℤ) → natAbs (sine x) ≤ U
-sine-small x = natAbs-le (sine x) U (sine-range x .least) (sine-range x .most)
-
-pub cosine-small : (x : ℤ) → natAbs (cosine x) ≤ U
-cosine-small x = natAbs-le (cosine x) U (cosine-range x .least) (cosine-range x .most)
-
 pub term-small : (a c : ℤ) → natAbs a ≤ 1754800 → natAbs c ≤ U → natAbs (rounded (a *ℤ c) U) ≤ 1754800
 term-small a c h k = scaled-within a c U 1754800 (lit< tt) h k
 
@@ -123,11 +117,11 @@ coefficient-within t first rate h k l = subst (λ z. natAbs z ≤ 1754800) (coef
 
 pub longitude-small : (t : ℤ) (r : Row) → natAbs t ≤ t-limit → Small r → natAbs (longitude-term t r) ≤ 1754800
 unfolding longitude-term
-longitude-small t r h k = term-small (coefficient t (psi r) (psi-rate r)) (sine (row-angle t r)) (coefficient-within t (psi r) (psi-rate r) h (k .psi-small) (k .psi-rate-small)) (sine-small (row-angle t r))
+longitude-small t r h k = term-small (coefficient t (psi r) (psi-rate r)) (sine (row-angle t r)) (coefficient-within t (psi r) (psi-rate r) h (k .psi-small) (k .psi-rate-small)) (sine-size (row-angle t r))
 
 pub obliquity-small : (t : ℤ) (r : Row) → natAbs t ≤ t-limit → Small r → natAbs (obliquity-term t r) ≤ 1754800
 unfolding obliquity-term
-obliquity-small t r h k = term-small (coefficient t (eps r) (eps-rate r)) (cosine (row-angle t r)) (coefficient-within t (eps r) (eps-rate r) h (k .eps-small) (k .eps-rate-small)) (cosine-small (row-angle t r))
+obliquity-small t r h k = term-small (coefficient t (eps r) (eps-rate r)) (cosine (row-angle t r)) (coefficient-within t (eps r) (eps-rate r) h (k .eps-small) (k .eps-rate-small)) (cosine-size (row-angle t r))
 
 -- ---- sizes as the code meets them
 pub same-small : (z w : ℤ) (k : ℕ) → z ≡ w → natAbs w ≤ k → natAbs z ≤ k

@@ -8,7 +8,7 @@ use native.Mathlib.Numerals.{add-one}
 use native.Mathlib.Omega.{arith}
 use lib.Dec.{lit<}
 use lib.ListN.{length, getD, drop}
-use Rattle.packed.specs.Numbers.{got, groups-from, number}
+use Rattle.packed.specs.Numbers.{got, number}
 use Rattle.packed.specs.Usual.{tops, Begun, Usual}
 use Rattle.packed.proofs.Decode.{power-next, more-groups, last-value, one-group}
 

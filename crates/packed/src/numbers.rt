@@ -4,7 +4,7 @@ ghost use mathlib.Core.Path.{_≡_};
 ghost use lib.IntN.{natAbs};
 ghost use lib.ListN.{length};
 ghost use lib.Seq.{sets};
-ghost use Prim.Native.Nat.{_+_, _<_, _≤_, _^_};
+ghost use Prim.Native.Nat.{_+_, _<_, _≤_};
 ghost use Rattle.packed.specs.Numbers.{groups-from, number, encode, unfolded};
 ghost use Rattle.packed.specs.Answers.{at-offset, shown, plain, put-answer, put-out};
 

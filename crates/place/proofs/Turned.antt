@@ -13,7 +13,8 @@ use Rattle.cosine.specs.Cosine.{cosine, sine}
 use Rattle.vectors.specs.declared.Vector.{Vector}
 use Rattle.vectors.specs.Sizes.{Components}
 use Rattle.arith.proofs.Cells.{Cell, cell}
-use Rattle.vectors.proofs.Places.{cosine-size, sine-size, scaled-size, three}
+use Rattle.cosine.proofs.Ranges.{cosine-size, sine-size}
+use Rattle.vectors.proofs.Places.{scaled-size, three}
 use Rattle.place.specs.Apparent.{turned}
 
 -- Each turned component is at most the sum of two.

@@ -1,14 +1,14 @@
 -- How far x·p/q is from a fraction f, in units of 1/(2U), and how that adds up over terms, blocks and the running sum. Assumes nothing.
 use mathlib.Core.Path.{_≡_, refl, sym, ap, _∙_, subst}
-use mathlib.Core.List.{List, [], _∷_}
+use mathlib.Core.List.{[], _∷_}
 use Prim.Native.Nat.{ℕ, zero, suc, _*_, _^_, _<_}
-use native.Mathlib.Omega.{arith, pow-step}
+use native.Mathlib.Omega.{pow-step}
 use native.Mathlib.Nat.{pow-zero}
 use lib.Dec.{lt→ltb}
 use lib.IntN.{ℤ, pos, _+ℤ_, _-ℤ_, _*ℤ_}
 use Rattle.integers.specs.Order.{_≼_, _≺_}
 use Rattle.integers.specs.Fractions.{Fraction, _*ᶠ_, _+ᶠ_, wholeᶠ, overᶠ, powerᶠ}
-use Rattle.integers.proofs.Auto.{polys, ring!, cert!, cert<!, gap, gap<, _⊞_, _⊛_, _·_}
+use Rattle.integers.proofs.Auto.{polys, ring!, cert!, gap, _⊛_}
 use Rattle.integers.proofs.Pairs.{nonneg}
 use Rattle.integers.proofs.Order.{≺-≼, product-pos}
 use Rattle.integers.proofs.Bounds.{Bd, bd-*, bd-+, bd-self, bd-as, bd-le, bd-cancel}

@@ -1,5 +1,4 @@
 -- From the error of the running sum to a distance in parts, for each coordinate of an accepted series. Assumes nothing.
-use mathlib.Core.Path.{ap}
 use mathlib.Core.List.{List, [], _∷_}
 use Prim.Native.Nat.{ℕ, _+_, _*_, _≤_}
 use native.Mathlib.Omega.{arith}

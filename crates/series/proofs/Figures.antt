@@ -1,10 +1,8 @@
 -- Document 01's figure: one constant term 3.00000000000 in L1, half a millennium before 2000, gives L = -1.5 radian. Assumes nothing.
 use mathlib.Core.Path.{_≡_, refl}
 use mathlib.Core.List.{List, [], _∷_}
-use lib.IntN.{pos, negsuc, negℤ}
-use lib.ListN.{take, drop}
+use lib.IntN.{pos, negℤ}
 use Rattle.integers.specs.Division.{floor, rounded, modulo}
-use Rattle.units.specs.declared.Coordinates.{Coordinates}
 use Rattle.cosine.specs.Cosine.{cosine-by, horner, y-of, even-part, odd-part, q-of, r-of, w-of, working-cosine, cosine}
 use Rattle.cosine.specs.Terms.{term-angle, term-cosine, term-value}
 use Rattle.packed.specs.declared.Term.{Term}

@@ -1,6 +1,6 @@
 -- Document 01, "Exact sum": over exact fractions, in parts.
 use mathlib.Core.List.{List, [], _∷_}
-use Prim.Native.Nat.{ℕ, zero, suc}
+use Prim.Native.Nat.{ℕ, suc}
 use lib.IntN.{ℤ, pos}
 use Rattle.integers.specs.Fractions.{Fraction, _*ᶠ_, _+ᶠ_, wholeᶠ, overᶠ, powerᶠ}
 use Rattle.units.specs.Units.{millennium}

@@ -23,6 +23,7 @@ use Rattle.vectors.specs.declared.Vector.{Vector}
 use Rattle.vectors.specs.Vectors.{geocentric, sun, squared, length, unit, radius-usable, usable}
 use Rattle.vectors.specs.Rectangular.{rectangular, place, distance, places-usable}
 use Rattle.vectors.specs.Sizes.{Components}
+use Rattle.cosine.proofs.Ranges.{}
 use Rattle.vectors.proofs.Places.{within-length}
 use Rattle.vectors.proofs.Usable.{radius-least}
 use Rattle.separation.specs.Listed.{squared-separation, threshold}

@@ -16,7 +16,8 @@ use Rattle.vectors.specs.Vectors.{geocentric, sun, squared, length, unit}
 use Rattle.vectors.specs.Rectangular.{place, distance, places-usable}
 use Rattle.vectors.specs.Sizes.{Components}
 use Rattle.arith.proofs.Cells.{Cell, cell}
-use Rattle.vectors.proofs.Places.{sine-size, smaller}
+use Rattle.cosine.proofs.Ranges.{sine-size}
+use Rattle.vectors.proofs.Places.{smaller}
 use Rattle.vectors.proofs.Radii.{geocentric-size, place-in, radius-in}
 use Rattle.separation.specs.Listed.{squared-separation, threshold, listed}
 use Rattle.sunlist.specs.declared.Figures.{Figures}

@@ -9,7 +9,7 @@ use mir.Val.{SFits}
 use lib.IntN.{ℤ, pos, natAbs, negℤ, _+ℤ_, _-ℤ_, _*ℤ_}
 use Rattle.integers.specs.Division.{rounded, modulo}
 use Rattle.integers.specs.Root.{root}
-use Rattle.integers.proofs.Order.{natAbs-le, natAbs-*, natAbs-+, natAbs-sub, fits, square-natAbs}
+use Rattle.integers.proofs.Order.{natAbs-*, natAbs-+, natAbs-sub, fits, square-natAbs}
 use Rattle.integers.proofs.Auto.{polys, ring! }
 use Rattle.integers.proofs.Division.{modulo-lt}
 use Rattle.integers.proofs.Root.{root-spec}
@@ -17,19 +17,13 @@ use Rattle.arith.proofs.Ranges.{scaled-within}
 use Rattle.units.specs.Units.{U, turn, angle-per-part}
 use Rattle.units.specs.declared.Coordinates.{Coordinates}
 use Rattle.cosine.specs.Cosine.{cosine, sine}
-use Rattle.cosine.proofs.Ranges.{cosine-range, sine-range}
+use Rattle.cosine.proofs.Ranges.{cosine-size, sine-size}
 use Rattle.cosine.proofs.Turns.{cosine-mod, sine-mod}
 use Rattle.vectors.specs.declared.Vector.{Vector}
 use Rattle.vectors.specs.Rectangular.{rectangular, place}
 use Rattle.vectors.specs.Vectors.{squared, length}
 use Rattle.vectors.specs.Sizes.{Components}
 use Rattle.arith.proofs.Cells.{Cell, cell, held-le}
-
-pub cosine-size : (x : ℤ) → natAbs (cosine x) ≤ U
-cosine-size x = let r = cosine-range x in natAbs-le (cosine x) U (r .least) (r .most)
-
-pub sine-size : (x : ℤ) → natAbs (sine x) ≤ U
-sine-size x = let r = sine-range x in natAbs-le (sine x) U (r .least) (r .most)
 
 -- the product with a cosine or a sine, rounded over U, is no larger
 pub scaled-size : (a c : ℤ) → natAbs c ≤ U → natAbs (rounded (a *ℤ c) U) ≤ natAbs a

@@ -1,5 +1,5 @@
 -- `cosine::inner::cosine_sine` meets its contract. Assumes nothing.
-use mathlib.Core.Path.{_≡_, _∙_}
+use mathlib.Core.Path.{_∙_}
 use borrow.Author.Needs.{needs}
 use Rattle.arith.proofs.Signs.{back, ok}
 use Rattle.cosine.proofs.Natural.{lowered, cosine-from, sine-from}

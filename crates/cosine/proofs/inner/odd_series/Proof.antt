@@ -1,7 +1,5 @@
 -- `cosine::inner::odd_series` meets its contract. Assumes nothing.
-use lib.IntN.{pos}
 use borrow.Author.Needs.{needs}
-use Rattle.units.specs.Units.{U}
 use Rattle.cosine.proofs.Natural.{six}
 use Rattle.cosine.proofs.inner.odd_series.Statement.{statement}
 use Rattle.cosine.proofs.inner.odd_series.Tie as tie

@@ -1,8 +1,8 @@
 -- `cosine::term::angle` meets its contract. Assumes nothing.
 use mathlib.Core.Path.{_≡_}
 use native.Mathlib.Omega.{arith}
-use Prim.Native.Nat.{_+_, _≤_, _<_}
-use lib.IntN.{ℤ, pos, natAbs, _+ℤ_}
+use Prim.Native.Nat.{_+_, _<_}
+use lib.IntN.{pos, _+ℤ_}
 use borrow.Author.Needs.{needs}
 use Rattle.arith.proofs.Signs.{back}
 use Rattle.cosine.proofs.Places.{raised-most, angle-is}

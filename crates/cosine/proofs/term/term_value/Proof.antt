@@ -1,6 +1,6 @@
 -- `cosine::term::term_value` meets its contract. Assumes nothing.
-use mathlib.Core.Path.{_≡_, ap₂, _∙_}
-use lib.IntN.{ℤ, pos, _-ℤ_, _*ℤ_}
+use mathlib.Core.Path.{ap₂, _∙_}
+use lib.IntN.{_*ℤ_}
 use borrow.Author.Needs.{needs}
 use Rattle.integers.specs.Division.{rounded}
 use Rattle.units.specs.Units.{U}

@@ -1,7 +1,7 @@
 -- `cosine::term::turned` meets its contract. Assumes nothing.
 use mathlib.Core.Path.{_≡_, ap, _∙_}
 use native.Mathlib.Omega.{arith}
-use lib.IntN.{ℤ, pos, negℤ, natAbs, _-ℤ_}
+use lib.IntN.{pos, negℤ, natAbs, _-ℤ_}
 use Rattle.integers.proofs.Order.{natAbs-neg}
 use Rattle.arith.proofs.Cells.{Cell}
 use Rattle.arith.proofs.Signs.{back, ok}

@@ -12,7 +12,8 @@ use Rattle.units.specs.Units.{U}
 use Rattle.cosine.specs.Cosine.{cosine, sine}
 use Rattle.nutation_table.specs.Table.{psi, psi-rate, eps, eps-rate}
 use Rattle.nutation.specs.Nutation.{row-angle, coefficient, longitude-term, obliquity-term}
-use Rattle.nutation.proofs.Terms.{same-small, sum-fits, sine-row, cosine-row, sine-small, cosine-small, longitude-small, obliquity-small}
+use Rattle.cosine.proofs.Ranges.{cosine-size, sine-size}
+use Rattle.nutation.proofs.Terms.{same-small, sum-fits, sine-row, cosine-row, longitude-small, obliquity-small}
 use Rattle.nutation.proofs.rows.add_row.Statement.{statement}
 use Rattle.nutation.proofs.rows.add_row.Tie as tie
 
@@ -48,7 +49,7 @@ scale-requires c κs =
     let k = c .before in
     let w = k .before .before .before in
     let e : toZ w64 (ofZ w64 (w .trig-of .result .sin)) ≡ w .trig-of .result .sin = search needs in
-    (small _ (same-small _ _ _ (back (k .coefficient-at .result) (ok (k .coefficient-at .ok))) (k .coefficient-at .ensures .1)), same-small _ _ _ (e ∙ at-sin w) (sine-small _))
+    (small _ (same-small _ _ _ (back (k .coefficient-at .result) (ok (k .coefficient-at .ok))) (k .coefficient-at .ensures .1)), same-small _ _ _ (e ∙ at-sin w) (sine-size _))
 
 -- the term of the longitude
 at-psi : (c : tie.After-scale) → c .scale .result ≡ longitude-term (c .before .before .before .before .before .before .before .args .t) (c .before .before .before .before .before .before .before .args .r)
@@ -71,7 +72,7 @@ scale-requires-2 c κs =
     let k = c .before in
     let w = k .before .before .before .before .before .before .before .before in
     let e : toZ w64 (ofZ w64 (w .trig-of .result .cos)) ≡ w .trig-of .result .cos = search needs in
-    (small _ (same-small _ _ _ (back (k .coefficient-at2 .result) (ok (k .coefficient-at2 .ok))) (k .coefficient-at2 .ensures .1)), same-small _ _ _ (e ∙ at-cos w) (cosine-small _))
+    (small _ (same-small _ _ _ (back (k .coefficient-at2 .result) (ok (k .coefficient-at2 .ok))) (k .coefficient-at2 .ensures .1)), same-small _ _ _ (e ∙ at-cos w) (cosine-size _))
 
 at-eps : (c : tie.After-scale2) → c .scale2 .result ≡ obliquity-term (c .before .before .before .before .before .before .before .before .before .before .before .before .args .t) (c .before .before .before .before .before .before .before .before .before .before .before .before .args .r)
 unfolding obliquity-term
