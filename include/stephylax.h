@@ -7,8 +7,8 @@
  *
  *   Slices    A slice is a pointer and a length. The pointer must not be NULL, is aligned for its elements, and is good for
  *             that many of them; with length 0 any such pointer does. An output must not overlap another slice of the call.
- *   Stack     Measured on x86-64, not proved: stephylax_apparent_place, _mount_place and _sun_list take 400 kB (two tables of
- *             terms of fixed size), _check, _print and _coordinates_at 200 kB, the others less than 5 kB. 512 kB do for all.
+ *   Stack     Measured on x86-64, not proved: stephylax_apparent_place, _mount_place and _sun_list take 410 kB (two tables of
+ *             terms of fixed size), _coordinates_at 210 kB, _check and _print 200 kB, the others less than 5 kB. 512 kB do for all.
  *   Threads   The functions keep nothing between calls and allocate nothing; any number of them may run at once.
  *
  *   no.  given exactly when                                                   figure
