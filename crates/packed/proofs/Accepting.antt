@@ -11,15 +11,16 @@ use lib.ListN.{drop}
 use Rattle.units.specs.Units.{a-limit, b-limit, c-limit}
 use Rattle.units.specs.declared.Refusal.{Refusal}
 use Rattle.units.specs.declared.Refusal.the-variants.{OverLimit, TotalOverLimit, TooCoarse}
+use Rattle.numbers.specs.Numbers.{Read, got, bad, next, number, folded, unfolded}
+use Rattle.numbers.specs.Answers.{plain}
+use Rattle.numbers.proofs.Folding.{folded-unfolded, unfolded-folded}
+use Rattle.numbers.proofs.Reading.{After, moved}
 use Rattle.packed.specs.declared.Term.{Term}
 use Rattle.packed.specs.declared.Sums.{Sums}
 use Rattle.packed.specs.Limits.{total-limit, coarse-limit, weight, a-fits, b-fits, c-fits, total-fits, coarse-fits}
-use Rattle.packed.specs.Numbers.{Read, got, bad, next, number, folded, unfolded}
 use Rattle.packed.specs.Series.{judged, read-a, read-b, read-c, read-term}
-use Rattle.packed.specs.Answers.{plain, shown-term, term-of}
+use Rattle.packed.specs.Answers.{shown-term, term-of}
 use Rattle.packed.specs.declared.inner.TermRead.the-variants.{Found, Wrong}
-use Rattle.packed.proofs.Folding.{folded-unfolded, unfolded-folded}
-use Rattle.packed.proofs.Reading.{After, moved}
 use Rattle.packed.proofs.Judging.{a-got, b-got, c-got}
 
 -- Two readers, one after the other.

@@ -11,14 +11,14 @@ use lib.ListN.{length, drop}
 use Rattle.integers.proofs.Tests.{both}
 use Rattle.units.specs.declared.Refusal.{Refusal}
 use Rattle.units.specs.declared.Refusal.the-variants.{OverLimit}
+use Rattle.numbers.specs.Numbers.{Read, got, bad, next, number}
+use Rattle.numbers.proofs.Reading.{After, moved, later, next-after, number-after}
 use Rattle.packed.specs.declared.Term.{Term}
 use Rattle.packed.specs.declared.Sums.{Sums}
 use Rattle.packed.specs.Limits.{total-limit, coarse-limit, coarse-base, block-limit, series-limit, powers, factor, opened, added, count-fits}
-use Rattle.packed.specs.Numbers.{Read, got, bad, next, number}
 use Rattle.packed.specs.Series.{judged, read-term, read-terms, read-block, summed, after-block}
 use Rattle.packed.specs.Answers.{walked}
-use Rattle.packed.proofs.Reading.{After, moved, later, next-after, judged-after, number-after}
-use Rattle.packed.proofs.Judging.{term-after}
+use Rattle.packed.proofs.Judging.{judged-after, term-after}
 use Rattle.packed.proofs.Accepting.{next-got, judged-got, term-accepted}
 
 -- The count of a block.

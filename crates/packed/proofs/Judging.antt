@@ -12,12 +12,17 @@ use lib.ListN.{drop}
 use Rattle.units.specs.Units.{U, a-limit, b-limit, c-limit}
 use Rattle.units.specs.declared.Refusal.{Refusal}
 use Rattle.units.specs.declared.Refusal.the-variants.{OverLimit, TotalOverLimit, TooCoarse}
+use Rattle.numbers.specs.Numbers.{Read, got, bad, next, number, unfolded}
+use Rattle.numbers.proofs.Reading.{After, moved, stopped, cond-after, next-after, number-after, later}
 use Rattle.packed.specs.declared.Sums.{Sums}
 use Rattle.packed.specs.Limits.{total-limit, coarse-limit, coarse-share, constant, weight, a-fits, b-fits, c-fits, total-fits, coarse-fits, term-fits}
-use Rattle.packed.specs.Numbers.{got, bad, next, number, unfolded}
 use Rattle.packed.specs.Series.{judged, read-a, read-b, read-c, read-term}
 use Rattle.packed.specs.Answers.{term-of}
-use Rattle.packed.proofs.Reading.{After, moved, judged-after, next-after, number-after, later}
+
+-- Where a reader stands after a value that was judged.
+pub judged-after : {A : Type 0} {s : List ℕ} {low : ℕ} {r : Read A} (t : Bool) (refusal : ℕ → Refusal) (to : ℕ) → After s low r → After s low (judged t refusal to r)
+unfolding judged
+judged-after t refusal to h = cond-after t h stopped
 
 -- A term that is not constant weighs at most so much.
 pub weight-small : (f : ℕ) (a : ℤ) (b : ℕ) (c : ℤ) → f ≤ 32 → natAbs a < a-limit → weight f a b c ≤ 4480000032000000000

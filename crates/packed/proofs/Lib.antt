@@ -1,10 +1,4 @@
-pub mod Decode
-pub mod Usual
-pub mod Encode
-pub mod Folding
-pub mod Shortest
 pub mod Appending
-pub mod Reading
 pub mod Judging
 pub mod Accepting
 pub mod Walking

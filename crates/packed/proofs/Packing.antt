@@ -7,12 +7,12 @@ use native.Mathlib.Omega.{arith}
 use lib.IntN.{ℤ, natAbs}
 use lib.ListN.{length}
 use Rattle.units.specs.Units.{c-limit}
+use Rattle.numbers.specs.Numbers.{Read, got, next, number, encode, folded}
+use Rattle.numbers.proofs.Folding.{folded-natAbs}
+use Rattle.numbers.proofs.Shortest.{AllBytes, bytes-append, encode-bytes, number-encoded, number-encodes}
 use Rattle.packed.specs.declared.Term.{Term}
 use Rattle.packed.specs.declared.Sums.{Sums}
-use Rattle.packed.specs.Numbers.{Read, got, next, number, encode, folded}
 use Rattle.packed.specs.Series.{read-term, read-terms, read-block, read-blocks, after-block, pack-term, pack-terms, pack-block, pack}
-use Rattle.packed.proofs.Folding.{folded-natAbs}
-use Rattle.packed.proofs.Shortest.{AllBytes, bytes-append, encode-bytes, number-encoded, number-encodes}
 use Rattle.packed.proofs.Accepting.{GoodTerm, term-accepted, term-made, next-got}
 use Rattle.packed.proofs.Blocks.{TermsAt, no-terms, a-term, block-accepted, block-got}
 use Rattle.packed.proofs.Limits.{GoodTerms, good-none, good-term}

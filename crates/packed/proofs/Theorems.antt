@@ -5,12 +5,12 @@ use Prim.Native.Nat.{ℕ}
 use native.Mathlib.Omega.{arith}
 use lib.ListN.{replicate}
 use Rattle.units.specs.declared.Refusal.the-variants.{NotShortest}
+use Rattle.numbers.specs.Numbers.{Read, got, bad, next, closed, groups-from, number, groups, encode}
+use Rattle.numbers.proofs.Shortest.{AllBytes}
 use Rattle.packed.specs.declared.Term.{Term}
 use Rattle.packed.specs.Limits.{block-count, no-sums, opened, count-fits}
-use Rattle.packed.specs.Numbers.{Read, got, bad, next, closed, groups-from, number, groups, encode}
 use Rattle.packed.specs.Series.{accepted, refused, judged, read-terms, read-block, summed, after-block, read-blocks, read-series, ended, parse, pack}
 use Rattle.packed.specs.Allowed.{Allowed}
-use Rattle.packed.proofs.Shortest.{AllBytes}
 use Rattle.packed.proofs.Judged.{good-allowed, allowed-good}
 use Rattle.packed.proofs.Packing.{blocks-begin, blocks-are-good, blocks-packed}
 

@@ -9,11 +9,11 @@ use lib.ListN.{length, take, drop, set, length-append, length-set, drop-of-lengt
 use lib.Seq.{take-suc-set, take-all, drop-cons}
 use Rattle.units.specs.declared.Refusal.{Refusal}
 use Rattle.units.specs.declared.Refusal.the-variants.{ByteAfterEnd}
+use Rattle.numbers.specs.Numbers.{Read, got, bad, next}
 use Rattle.packed.specs.declared.Term.{Term}
 use Rattle.packed.specs.declared.Sums.{Sums}
 use Rattle.packed.specs.declared.Checked.the-variants.{Terms, NoSeries}
 use Rattle.packed.specs.Limits.{coarse-limit, series-limit, block-count, no-sums}
-use Rattle.packed.specs.Numbers.{Read, got, bad, next}
 use Rattle.packed.specs.Series.{read-block, read-blocks, read-series, after-block, accepted, refused, ended, parse, checked, term-count}
 use Rattle.packed.specs.Tables.{Sized, Holds, block-ends, unpacked}
 use Rattle.packed.specs.Answers.{filled, Filled, a-of, b-of, c-of}

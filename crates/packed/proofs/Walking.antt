@@ -12,15 +12,15 @@ use mir.Facts.{toZ-ofZ}
 use lib.ListN.{length, take, drop, set, length-append, length-set}
 use lib.Seq.{take-suc-set}
 use Rattle.units.specs.declared.Refusal.{Refusal}
+use Rattle.numbers.specs.Numbers.{Read, got, bad, next}
+use Rattle.numbers.proofs.Reading.{After, moved}
 use Rattle.packed.specs.declared.Term.{Term}
 use Rattle.packed.specs.declared.Sums.{Sums}
 use Rattle.packed.specs.declared.inner.Walk.the-variants.{Moved, Stopped}
 use Rattle.packed.specs.Limits.{total-limit, coarse-limit, series-limit, added}
-use Rattle.packed.specs.Numbers.{Read, got, bad, next}
 use Rattle.packed.specs.Series.{read-term, read-terms, summed}
 use Rattle.packed.specs.Tables.{Sized}
 use Rattle.packed.specs.Answers.{walked, stored, filled, Filled, a-of, b-of, c-of}
-use Rattle.packed.proofs.Reading.{After, moved}
 use Rattle.packed.proofs.Accepting.{term-accepted}
 
 -- What was read, from an answer that moved on, and from one that stopped.

@@ -1,8 +1,6 @@
 -- Document 01, "Series, as text and packed" and what "Refusals" says of packed input.
 pub mod Limits
-pub mod Numbers
 pub mod Series
 pub mod Allowed
 pub mod Tables
 pub mod Answers
-pub mod Usual

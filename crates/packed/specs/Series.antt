@@ -7,12 +7,12 @@ use lib.IntN.{ℤ}
 use lib.ListN.{length}
 use Rattle.units.specs.declared.Refusal.{Refusal}
 use Rattle.units.specs.declared.Refusal.the-variants.{OverLimit, TotalOverLimit, TooCoarse, ByteAfterEnd}
+use Rattle.numbers.specs.Numbers.{Read, got, bad, next, number, encode, folded, unfolded}
 use Rattle.packed.specs.declared.Term.{Term}
 use Rattle.packed.specs.declared.Checked.{Checked}
 use Rattle.packed.specs.declared.Checked.the-variants.{Terms, NoSeries}
 use Rattle.packed.specs.declared.Sums.{Sums}
 use Rattle.packed.specs.Limits.{no-sums, opened, added, factor, count-fits, a-fits, b-fits, c-fits, total-fits, coarse-fits, block-count}
-use Rattle.packed.specs.Numbers.{Read, got, bad, next, number, encode, folded, unfolded}
 
 -- A value that passes a test, or the refusal with the offset of the last byte before at.
 unfoldable pub judged : {A : Type 0} → Bool → (ℕ → Refusal) → ℕ → Read A → Read A

@@ -1,22 +1,23 @@
 // The one walk over a packed series: it judges every number and fills a term table. For the crates above.
 use crate::Checked;
 use crate::Sums;
-use crate::numbers::Number;
-use crate::numbers::magnitude;
-use crate::numbers::number_at;
-use crate::numbers::unfold_number;
-use crate::quick::quick_term;
+use numbers::Number;
+use numbers::magnitude;
+use numbers::number_at;
+use numbers::quick::quick_term;
+use numbers::unfold_number;
 use units::Refusal;
 ghost use mathlib.Core.Path.{_≡_};
 ghost use lib.IntN.{natAbs};
 ghost use lib.ListN.{length};
 ghost use Prim.Native.Nat.{_+_, _-_, _<_, _≤_};
 ghost use Rattle.units.specs.Units.{a-limit};
+ghost use Rattle.numbers.specs.Numbers.{folded, unfolded};
+ghost use Rattle.numbers.specs.Answers.{shown, plain, at-offset};
 ghost use Rattle.packed.specs.Limits.{total-limit, coarse-limit, series-limit, block-count, factor, weight, added, opened, term-fits};
-ghost use Rattle.packed.specs.Numbers.{folded, unfolded};
 ghost use Rattle.packed.specs.Series.{read-a, read-b, read-c, read-term, read-terms, summed, read-block, after-block, parse, checked};
 ghost use Rattle.packed.specs.Tables.{Sized, unpacked};
-ghost use Rattle.packed.specs.Answers.{shown, plain, shown-term, term-of, walked, Stored, Filled, at-offset};
+ghost use Rattle.packed.specs.Answers.{shown-term, term-of, walked, Stored, Filled};
 
 // A term as it is packed, a and c folded, and the offset past it; or a refusal.
 pub enum TermRead {

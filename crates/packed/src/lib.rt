@@ -1,7 +1,5 @@
-// Packed numbers and packed series: document 01, "Series, as text and packed".
+// Packed series: document 01, "Series, as text and packed".
 pub mod inner;
-pub mod numbers;
-mod quick;
 
 use inner::unpack;
 use units::Refusal;

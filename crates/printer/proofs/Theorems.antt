@@ -6,10 +6,10 @@ use native.Mathlib.Omega.{arith}
 use borrow.Author.Tests.{le-leb}
 use lib.ListN.{length, take, replicate, length-replicate, length-map}
 use lib.Seq.{sets}
+use Rattle.numbers.proofs.Shortest.{AllBytes}
 use Rattle.packed.specs.declared.Term.{Term}
 use Rattle.packed.specs.Limits.{no-sums}
 use Rattle.packed.specs.Series.{accepted, parse, pack}
-use Rattle.packed.proofs.Shortest.{AllBytes}
 use Rattle.packed.proofs.Judged.{allowed-good}
 use Rattle.packed.proofs.Theorems.{accepted-allowed, pack-parse, parse-pack}
 use Rattle.text.specs.declared.Outcome.the-variants.{Accepted}

@@ -10,7 +10,7 @@ use borrow.Author.Tests.{leb-true, eqb-true, eqb-false, eq-eqb, ne-eqb}
 use lib.Dec.{leb, eqb}
 use lib.ListN.{length, length-append}
 use lib.Seq.{sets, length-sets}
-use Rattle.packed.specs.Numbers.{encode}
+use Rattle.numbers.specs.Numbers.{encode}
 use Rattle.packed.specs.Series.{pack-term}
 use Rattle.text.specs.declared.Line.{Line}
 use Rattle.text.specs.declared.Reader.{Reader}

@@ -8,10 +8,10 @@ use native.Mathlib.Omega.{arith}
 use borrow.Author.Tests.{eq-eqb, ne-eqb}
 use lib.ListN.{length, getD, drop, drop-of-length-le}
 use lib.Seq.{drop-cons}
-use Rattle.packed.specs.declared.numbers.Put.{Put}
-use Rattle.packed.specs.declared.numbers.Put.the-variants.{Next, NoRoom}
-use Rattle.packed.specs.Numbers.{encode}
-use Rattle.packed.specs.Answers.{room-for, put-answer, put-out}
+use Rattle.numbers.specs.declared.Put.{Put}
+use Rattle.numbers.specs.declared.Put.the-variants.{Next, NoRoom}
+use Rattle.numbers.specs.Numbers.{encode}
+use Rattle.numbers.specs.Answers.{room-for, put-answer, put-out}
 use Rattle.text.specs.declared.Line.{Line}
 use Rattle.text.specs.declared.Reader.{Reader}
 use Rattle.text.specs.Lexer.{lex, wholeCount, wholeTerm}

@@ -10,9 +10,9 @@ use lib.Dec.{ltb}
 use lib.ListN.{length, set, length-append}
 use lib.Seq.{sets}
 use Rattle.integers.specs.Signs.{sgn}
-use Rattle.packed.specs.Numbers.{folded, encode}
+use Rattle.numbers.specs.declared.Put.the-variants.{Next, NoRoom}
+use Rattle.numbers.specs.Numbers.{folded, encode}
 use Rattle.packed.specs.declared.Term.{Term}
-use Rattle.packed.specs.declared.numbers.Put.the-variants.{Next, NoRoom}
 use Rattle.packed.specs.Series.{pack-term}
 use Rattle.text.specs.Judge.{signed}
 use Rattle.text.specs.Reader.{fits, putBytes}

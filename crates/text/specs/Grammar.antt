@@ -8,10 +8,10 @@ use Prim.Native.Nat.{ℕ, zero, suc, _+_, _*_, _≤_, _<_}
 use lib.IntN.{ℤ}
 use lib.ListN.{length}
 use Rattle.integers.specs.Signs.{sgn}
+use Rattle.numbers.specs.Numbers.{encode}
 use Rattle.packed.specs.declared.Term.{Term}
 use Rattle.packed.specs.declared.Sums.{Sums}
 use Rattle.packed.specs.Limits.{block-count, no-sums, opened, added, factor, count-fits, a-fits, b-fits, c-fits, total-fits, coarse-fits}
-use Rattle.packed.specs.Numbers.{encode}
 use Rattle.packed.specs.Series.{after-block, pack-term}
 
 -- The bytes: line feed, space, minus, point, digits.

@@ -6,10 +6,10 @@ use Prim.Native.Nat.{ℕ, _+_, _-_}
 use lib.Dec.{ltb, eqb}
 use lib.IntN.{ℤ}
 use Rattle.integers.specs.Signs.{sgn}
+use Rattle.numbers.specs.Numbers.{encode}
 use Rattle.packed.specs.declared.Term.{Term}
 use Rattle.packed.specs.declared.Sums.{Sums}
 use Rattle.packed.specs.Limits.{block-count, opened, added, factor, count-fits, a-fits, b-fits, c-fits, total-fits, coarse-fits}
-use Rattle.packed.specs.Numbers.{encode}
 use Rattle.packed.specs.Series.{pack-term}
 use Rattle.text.specs.declared.Line.{Line}
 use Rattle.text.specs.declared.Reader.{Reader}

@@ -1,14 +1,14 @@
 // The writer of a line's packed bytes: refusal 7.
 use crate::Line;
-use packed::numbers::Put;
-use packed::numbers::groups_of;
-use packed::numbers::put_groups;
+use numbers::Put;
+use numbers::groups_of;
+use numbers::put_groups;
 ghost use mathlib.Core.Path.{_≡_};
 ghost use mathlib.Core.Bool.{cond};
 ghost use lib.ListN.{length};
 ghost use Prim.Native.Nat.{_+_, _<_};
-ghost use Rattle.packed.specs.declared.numbers.Put.the-variants.{Next, NoRoom};
-ghost use Rattle.packed.specs.Numbers.{folded};
+ghost use Rattle.numbers.specs.declared.Put.the-variants.{Next, NoRoom};
+ghost use Rattle.numbers.specs.Numbers.{folded};
 ghost use Rattle.packed.specs.Series.{pack-term};
 ghost use Rattle.text.specs.Judge.{signed, termOf};
 ghost use Rattle.text.specs.Reader.{fits, putBytes};

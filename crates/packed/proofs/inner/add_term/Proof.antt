@@ -1,8 +1,8 @@
 -- `add_term` meets its contract. Assumes nothing.
 use native.Mathlib.Omega.{arith}
 use borrow.Author.Needs.{needs}
+use Rattle.numbers.specs.Numbers.{unfolded}
 use Rattle.packed.specs.Limits.{added}
-use Rattle.packed.specs.Numbers.{unfolded}
 use Rattle.packed.proofs.Judging.{weight-small}
 use Rattle.packed.proofs.inner.add_term.Statement.{statement}
 use Rattle.packed.proofs.inner.add_term.Tie as tie

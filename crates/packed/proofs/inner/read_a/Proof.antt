@@ -4,9 +4,9 @@ use Prim.Native.Nat.{_+_}
 use native.Mathlib.Omega.{arith}
 use lib.ListN.{drop}
 use borrow.Author.Needs.{needs}
-use Rattle.packed.specs.Numbers.{number, folded}
-use Rattle.packed.specs.Answers.{plain}
-use Rattle.packed.proofs.Reading.{Got, got-plain, was-bad, number-after, show-bad, show-folded}
+use Rattle.numbers.specs.Numbers.{number, folded}
+use Rattle.numbers.specs.Answers.{plain}
+use Rattle.numbers.proofs.Reading.{Got, got-plain, was-bad, number-after, show-bad, show-folded}
 use Rattle.packed.proofs.Judging.{a-bad, a-over, a-total, a-got}
 use Rattle.packed.proofs.inner.read_a.Statement.{statement}
 use Rattle.packed.proofs.inner.read_a.Tie as tie

@@ -4,9 +4,9 @@ use Prim.Native.Nat.{_+_}
 use native.Mathlib.Omega.{arith}
 use lib.ListN.{drop}
 use borrow.Author.Needs.{needs}
-use Rattle.packed.specs.Numbers.{number}
-use Rattle.packed.specs.Answers.{plain}
-use Rattle.packed.proofs.Reading.{Got, got-plain, was-bad, number-after, show-bad, show-plain}
+use Rattle.numbers.specs.Numbers.{number}
+use Rattle.numbers.specs.Answers.{plain}
+use Rattle.numbers.proofs.Reading.{Got, got-plain, was-bad, number-after, show-bad, show-plain}
 use Rattle.packed.proofs.Judging.{b-bad, b-over, b-got}
 use Rattle.packed.proofs.inner.read_b.Statement.{statement}
 use Rattle.packed.proofs.inner.read_b.Tie as tie

@@ -3,10 +3,10 @@ use mathlib.Core.Path.{sym, _∙_}
 use Prim.Native.Nat.{_+_}
 use lib.ListN.{drop}
 use borrow.Author.Needs.{needs}
-use Rattle.packed.specs.Numbers.{folded, unfolded}
+use Rattle.numbers.specs.Numbers.{folded, unfolded}
+use Rattle.numbers.specs.Answers.{plain}
+use Rattle.numbers.proofs.Reading.{Got, got-plain, got-folded, was-bad}
 use Rattle.packed.specs.Series.{read-a, read-b, read-c}
-use Rattle.packed.specs.Answers.{plain}
-use Rattle.packed.proofs.Reading.{Got, got-plain, got-folded, was-bad}
 use Rattle.packed.proofs.Judging.{a-after, b-after, c-after, term-bad-a, term-bad-b, term-bad-c, term-got}
 use Rattle.packed.proofs.Accepting.{a-accepted, show-wrong, show-found}
 use Rattle.packed.proofs.inner.read_term_slowly.Statement.{statement}

@@ -5,11 +5,12 @@ use Prim.Native.Nat.{_+_}
 use native.Mathlib.Omega.{arith}
 use lib.ListN.{drop}
 use borrow.Author.Needs.{needs}
+use Rattle.numbers.specs.Numbers.{Read, number}
+use Rattle.numbers.specs.Answers.{plain}
+use Rattle.numbers.proofs.Reading.{Got, got-plain, was-bad, number-after}
 use Rattle.packed.specs.declared.Term.{Term}
-use Rattle.packed.specs.Numbers.{Read, number}
 use Rattle.packed.specs.Series.{read-block, after-block}
-use Rattle.packed.specs.Answers.{plain, Filled}
-use Rattle.packed.proofs.Reading.{Got, got-plain, was-bad, number-after}
+use Rattle.packed.specs.Answers.{Filled}
 use Rattle.packed.proofs.Walking.{show-stopped, filled-bad}
 use Rattle.packed.proofs.Blocks.{block-bad, block-over, series-over, block-got, opened-ready, block-read, block-walked}
 use Rattle.packed.proofs.inner.take_block.Statement.{statement}

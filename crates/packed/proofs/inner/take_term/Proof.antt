@@ -2,7 +2,7 @@
 use mathlib.Core.Path.{_≡_, sym, _∙_}
 use lib.ListN.{drop}
 use borrow.Author.Needs.{needs}
-use Rattle.packed.specs.Numbers.{got}
+use Rattle.numbers.specs.Numbers.{got}
 use Rattle.packed.specs.Series.{read-term}
 use Rattle.packed.specs.Answers.{term-of, a-of, b-of, c-of}
 use Rattle.packed.proofs.Judging.{term-after}

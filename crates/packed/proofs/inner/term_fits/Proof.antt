@@ -5,8 +5,8 @@ use borrow.Author.Tests.{lt-ltb, le-ltb, lt-leb, le-leb}
 use borrow.Author.Needs.{needs}
 use lib.IntN.{natAbs}
 use Rattle.units.specs.Units.{a-limit, b-limit, c-limit}
+use Rattle.numbers.specs.Numbers.{unfolded}
 use Rattle.packed.specs.Limits.{total-limit, coarse-limit, weight, a-fits, b-fits, c-fits, total-fits, coarse-fits, term-fits}
-use Rattle.packed.specs.Numbers.{unfolded}
 use Rattle.packed.proofs.Judging.{weight-small}
 use Rattle.packed.proofs.inner.term_fits.Statement.{statement}
 use Rattle.packed.proofs.inner.term_fits.Tie as tie

@@ -5,8 +5,8 @@ use native.Mathlib.Nat.{mul-le-mul}
 use native.Mathlib.Omega.{arith}
 use lib.IntN.{natAbs}
 use borrow.Author.Needs.{needs}
-use Rattle.packed.specs.Numbers.{unfolded}
-use Rattle.packed.proofs.Folding.{natAbs-unfolded}
+use Rattle.numbers.specs.Numbers.{unfolded}
+use Rattle.numbers.proofs.Folding.{natAbs-unfolded}
 use Rattle.packed.proofs.Judging.{weight-moving, weight-constant}
 use Rattle.packed.proofs.inner.term_weight.Statement.{statement}
 use Rattle.packed.proofs.inner.term_weight.Tie as tie

@@ -5,12 +5,12 @@ use native.Mathlib.Omega.{arith}
 use borrow.Author.Needs.{needs}
 use lib.ListN.{length}
 use Rattle.text.proofs.Writing.{length-term, put-full, put-three, stored-three}
-use Rattle.packed.specs.Numbers.{folded, encode}
+use Rattle.numbers.specs.Numbers.{folded, encode}
 use Rattle.packed.specs.Series.{pack-term}
 use Rattle.text.specs.Judge.{termOf}
 use Rattle.text.proofs.writer.put_term.Statement.{statement}
 use Rattle.text.proofs.writer.put_term.Tie as tie
-use Rattle.packed.proofs.Encode.{encode-short}
+use Rattle.numbers.proofs.Encode.{encode-short}
 
 first : (c : tie.After-groups-of) → let l = c .before .before .before .before .args .l in c .groups-of .result ≡ length (encode (folded (termOf l .a)))
 first c = c .groups-of .ensures ∙ ap (λ (v : ℕ). length (encode v)) (c .before .before .fold .ensures)
