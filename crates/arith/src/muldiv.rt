@@ -28,7 +28,7 @@ fn step(q: u64, r: u64, g: u64, b: u64, d: u64) -> Quot
 }
 
 // a·b by d: the quotient and the rest.
-pub fn mul_div(a: u64, b: u64, d: u64) -> Quot
+fn mul_div(a: u64, b: u64, d: u64) -> Quot
     requires { ⌜ (0 < d) × (d ≤ 2 ^ 47) × (b ≤ 2 ^ 47) × (a * b < d * 2 ^ 64) ⌝ }
     ensures { λ z. ⌜ (z .q ≡ a * b / d) × (z .r ≡ a * b % d) ⌝ }
 {

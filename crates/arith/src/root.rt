@@ -148,7 +148,7 @@ fn start(hi: u64, lo: u64) -> u64
 }
 
 // The floor root of the number.
-pub fn floor_root(hi: u64, lo: u64) -> u64
+fn floor_root(hi: u64, lo: u64) -> u64
     requires { ⌜ (hi < 2 ^ 46) × (lo < 2 ^ 46) ⌝ }
     ensures { λ z. ⌜ z ≡ root (hi * 2 ^ 46 + lo) ⌝ }
 {

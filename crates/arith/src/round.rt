@@ -21,7 +21,7 @@ pub fn nearest(neg: bool, q: u64, r: u64, d: u64) -> u64
     }
 }
 
-pub fn round_div(n: i64, d: u64) -> i64
+fn round_div(n: i64, d: u64) -> i64
     requires { ⌜ (natAbs n < 2 ^ 63) × (0 < d) ⌝ }
     ensures { λ r. ⌜ r ≡ rounded n d ⌝ }
 {

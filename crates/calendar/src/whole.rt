@@ -15,7 +15,7 @@ use arith::signed::sub;
 use arith::signed::wide;
 
 // The year plus 4716, or 0 for a year that does not exist.
-pub fn year_index(year: i64) -> u64
+fn year_index(year: i64) -> u64
     ensures { λ r. ⌜ r ≡ year-index year ⌝ }
 {
     let n = abs(year);

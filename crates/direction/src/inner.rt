@@ -24,7 +24,7 @@ pub fn units_angle(s: i64, units: u64) -> i64
 }
 
 // The angle of k hundredths of an arcsecond: P is 484,813 times its 129,600,000 parts and 88,271,796 more.
-pub fn step_angle(k: u64) -> u64
+fn step_angle(k: u64) -> u64
     requires { ⌜ k ≤ turn-steps ⌝ }
     ensures { λ r. ⌜ pos r ≡ steps-angle (pos k) ⌝ }
 {
@@ -32,7 +32,7 @@ pub fn step_angle(k: u64) -> u64
 }
 
 // Whether x times the sine is at most y times the cosine, at the angle of k.
-pub fn is_not_past(x: u64, y: u64, k: u64) -> bool
+fn is_not_past(x: u64, y: u64, k: u64) -> bool
     requires { ⌜ (x < 2 ^ 47) × (y < 2 ^ 47) × (k ≤ quarter-steps) ⌝ }
     ensures { λ r. ⌜ r ≡ not-past (pos x) (pos y) k ⌝ }
 {
@@ -41,7 +41,7 @@ pub fn is_not_past(x: u64, y: u64, k: u64) -> bool
 }
 
 // The greatest step that is not past (x, y), by halving: `least` is not past it, and `most` and all steps beyond are.
-pub fn step_in_quarter(x: u64, y: u64) -> u64
+fn step_in_quarter(x: u64, y: u64) -> u64
     requires { ⌜ (x < 2 ^ 47) × (y < 2 ^ 47) ⌝ }
     ensures { λ r. ⌜ (r ≡ in-quarter (pos x) (pos y)) × (r < quarter-steps) ⌝ }
 {
@@ -59,7 +59,7 @@ pub fn step_in_quarter(x: u64, y: u64) -> u64
 }
 
 // After some quarter turns.
-pub fn after_turns(turns: u64, x: u64, y: u64) -> i64
+fn after_turns(turns: u64, x: u64, y: u64) -> i64
     requires { ⌜ (turns < 4) × (x < 2 ^ 47) × (y < 2 ^ 47) ⌝ }
     ensures { λ r. ⌜ r ≡ pos (turns * quarter-steps + in-quarter (pos x) (pos y)) ⌝ }
 {

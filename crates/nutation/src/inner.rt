@@ -11,7 +11,7 @@ use arith::signed::add;
 use direction::inner::units_angle;
 
 // The mean obliquity at t milliseconds, in 10^-5 arcsecond: its polynomial is in tau, so by t/T.
-pub fn mean_obliquity_at(t: i64) -> i64
+fn mean_obliquity_at(t: i64) -> i64
     requires { ⌜ natAbs t ≤ t-limit ⌝ }
     ensures { λ r. ⌜ (r ≡ mean-obliquity t) × (natAbs r ≤ 2 ^ 34) ⌝ }
 {

@@ -12,7 +12,7 @@ use arith::residue::residue;
 use arith::signed::wide;
 
 // The argument with these coefficients, less its whole turns. By 10t/T is by t/(T/10).
-pub fn argument_at(t: i64, c0: i64, c1: i64, c2: i64, c3: i64, c4: i64) -> i64
+fn argument_at(t: i64, c0: i64, c1: i64, c2: i64, c3: i64, c4: i64) -> i64
     requires { ⌜ (natAbs t ≤ t-limit) × (reach (c0 ∷ c1 ∷ c2 ∷ c3 ∷ c4 ∷ []) < 2 ^ 63 - 1) ⌝ }
     ensures { λ r. ⌜ r ≡ less-turns (argument t (c0 ∷ c1 ∷ c2 ∷ c3 ∷ c4 ∷ [])) ⌝ }
 {

@@ -25,7 +25,7 @@ use nutation_table::Row;
 use nutation_table::row_at;
 
 // s and the product of m and a.
-pub fn plus_product(s: i64, m: i64, a: i64) -> i64
+fn plus_product(s: i64, m: i64, a: i64) -> i64
     requires { ⌜ (natAbs s ≤ 2 ^ 60) × (natAbs m ≤ 4) × (natAbs a ≤ 2 ^ 47) ⌝ }
     ensures { λ r. ⌜ (r ≡ s +ℤ m *ℤ a) × (natAbs r ≤ natAbs s + 2 ^ 49) ⌝ }
 {
@@ -33,7 +33,7 @@ pub fn plus_product(s: i64, m: i64, a: i64) -> i64
 }
 
 // The row's s, with the arguments less their whole turns.
-pub fn row_sum(t: i64, r: Row, a: Arguments) -> i64
+fn row_sum(t: i64, r: Row, a: Arguments) -> i64
     requires { ⌜ Small r × At t a ⌝ }
     ensures { λ s. ⌜ s ≡ combined r a ⌝ }
 {
@@ -45,7 +45,7 @@ pub fn row_sum(t: i64, r: Row, a: Arguments) -> i64
 }
 
 // Cosine and sine of the angle of s.
-pub fn trig_of(s: i64) -> Trig
+fn trig_of(s: i64) -> Trig
     ensures { λ r. ⌜ (r .cos ≡ cosine (units-angle argument-turn s)) × (r .sin ≡ sine (units-angle argument-turn s)) ⌝ }
 {
     let x = wide(residue(s, 129600000000000));
@@ -53,7 +53,7 @@ pub fn trig_of(s: i64) -> Trig
 }
 
 // Ten times the first figure and the rounded rate part.
-pub fn coefficient_at(t: i64, first: i64, rate: i64) -> i64
+fn coefficient_at(t: i64, first: i64, rate: i64) -> i64
     requires { ⌜ (natAbs t ≤ t-limit) × (natAbs first ≤ 171996) × (natAbs rate ≤ 1742) ⌝ }
     ensures { λ r. ⌜ (r ≡ coefficient t first rate) × (natAbs r ≤ 1754800) ⌝ }
 {
@@ -61,7 +61,7 @@ pub fn coefficient_at(t: i64, first: i64, rate: i64) -> i64
 }
 
 // The sums with a row's terms added.
-pub fn add_row(sum: Nutation, t: i64, r: Row, a: Arguments) -> Nutation
+fn add_row(sum: Nutation, t: i64, r: Row, a: Arguments) -> Nutation
     requires { ⌜ (natAbs t ≤ t-limit) × Small r × At t a × (natAbs (sum .longitude) ≤ 2 ^ 40) × (natAbs (sum .obliquity) ≤ 2 ^ 40) ⌝ }
     ensures { λ n. ⌜ (n .longitude ≡ sum .longitude +ℤ longitude-term t r) × (n .obliquity ≡ sum .obliquity +ℤ obliquity-term t r) ⌝ }
 {

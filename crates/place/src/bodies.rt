@@ -21,7 +21,7 @@ use units::Instant;
 use units::Refusal;
 
 // Planet and Earth at an instant, from their term tables.
-pub fn both_at(
+fn both_at(
     pa: &[i64; 8192],
     pb: &[u64; 8192],
     pc: &[i64; 8192],
@@ -42,7 +42,7 @@ pub fn both_at(
 }
 
 // The sight at the earlier instant, with D at t.
-pub fn again(distance: u64, s: Sight) -> Sighting
+fn again(distance: u64, s: Sight) -> Sighting
     ensures { λ r. ⌜ r ≡ taken-again distance s ⌝ }
 {
     match s {
@@ -55,7 +55,7 @@ pub fn again(distance: u64, s: Sight) -> Sighting
 }
 
 // At t, and again at t less the light time.
-pub fn taken(
+fn taken(
     pa: &[i64; 8192],
     pb: &[u64; 8192],
     pc: &[i64; 8192],

@@ -10,7 +10,7 @@ use crate::MountPlace;
 use units::Refusal;
 
 // From hundredths of an arcsecond.
-pub fn degrees(k: i64) -> f64
+fn degrees(k: i64) -> f64
     requires { ⌜ natAbs k ≤ 2 ^ 52 ⌝ }
     ensures { λ r. ⌜ r ≡ degrees-of k ⌝ }
 {
@@ -18,7 +18,7 @@ pub fn degrees(k: i64) -> f64
 }
 
 // From parts.
-pub fn units_of_distance(d: i64) -> f64
+fn units_of_distance(d: i64) -> f64
     requires { ⌜ natAbs d ≤ 2 ^ 52 ⌝ }
     ensures { λ r. ⌜ r ≡ astronomical-units d ⌝ }
 {

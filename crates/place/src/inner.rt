@@ -52,7 +52,7 @@ pub fn sight(planet: Coordinates, earth: Coordinates) -> Sight
 }
 
 // The light time of a distance, in ms.
-pub fn light(distance: u64) -> i64
+fn light(distance: u64) -> i64
     requires { ⌜ distance < 2 ^ 46 ⌝ }
     ensures { λ r. ⌜ r ≡ light-time distance ⌝ }
 {
@@ -69,7 +69,7 @@ pub fn earlier(t: Instant, distance: u64) -> Instant
 }
 
 // A vector turned to the true equator, by the cosine and the sine of the obliquity.
-pub fn turn(v: Vector, obliquity: u64) -> Vector
+fn turn(v: Vector, obliquity: u64) -> Vector
     requires { ⌜ Components (2 ^ 61) v × (obliquity < 2 ^ 63) ⌝ }
     ensures { λ r. ⌜ r ≡ turned (pos obliquity) v ⌝ }
 {
@@ -84,7 +84,7 @@ pub fn turn(v: Vector, obliquity: u64) -> Vector
 }
 
 // A vector rebuilt from its direction and latitude, the nutation's angle added to the longitude.
-pub fn rebuild(v: Vector, nutation: i64) -> Vector
+fn rebuild(v: Vector, nutation: i64) -> Vector
     requires { ⌜ Components reach v ⌝ }
     ensures { λ r. ⌜ r ≡ rebuilt nutation v ⌝ }
 {
@@ -98,7 +98,7 @@ pub fn rebuild(v: Vector, nutation: i64) -> Vector
 }
 
 // Rebuilt and turned, by the angles of the nutation in longitude and of the true obliquity.
-pub fn to_equator(v: Vector, nutation: i64, obliquity: i64) -> Vector
+fn to_equator(v: Vector, nutation: i64, obliquity: i64) -> Vector
     requires { ⌜ Components reach v ⌝ }
     ensures { λ r. ⌜ r ≡ turned obliquity (rebuilt nutation v) ⌝ }
 {

@@ -25,7 +25,7 @@ use vectors::inner::usable_distance;
 use vectors::inner::usable_radius;
 
 // Four times the squared sine of half of k arcminutes and one.
-pub fn threshold(k: u64) -> i64
+fn threshold(k: u64) -> i64
     requires { ⌜ k ≤ 2700 ⌝ }
     ensures { λ r. ⌜ r ≡ threshold-of k ⌝ }
 {
@@ -35,7 +35,7 @@ pub fn threshold(k: u64) -> i64
 }
 
 // The squared difference of two unit vectors.
-pub fn separation(u: Vector, v: Vector) -> i64
+fn separation(u: Vector, v: Vector) -> i64
     requires { ⌜ Components U u × Components U v × (natAbs (squared-separation u v) < 2 ^ 63) ⌝ }
     ensures { λ r. ⌜ r ≡ squared-separation u v ⌝ }
 {
@@ -48,7 +48,7 @@ pub fn separation(u: Vector, v: Vector) -> i64
 }
 
 // The figures of two usable places: e is Earth's, g the geocentric vector and d its length.
-pub fn figures(
+fn figures(
     planet: Coordinates,
     earth: Coordinates,
     e: Vector,
