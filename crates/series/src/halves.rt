@@ -12,12 +12,12 @@ ghost use Rattle.packed.specs.Allowed.{BlockFits};
 ghost use Rattle.series.specs.Sums.{block-sum};
 ghost use Rattle.series.specs.Parted.{piece-limit, room, half-sum, Put, Half, Closed, Parted};
 use arith::signed::add;
-use cosine::pair::Pair;
-use cosine::pair::even_values;
-use cosine::pair::odd_values;
 use cosine::term::Prepared;
 use cosine::term::Worked;
 use cosine::term::worked_term;
+use pairs::Pair;
+use pairs::even_values;
+use pairs::odd_values;
 
 // How many terms each table has.
 pub struct Counts {

@@ -1,4 +1,4 @@
--- `cosine::pair::scaled_pair` meets its contract. Assumes nothing.
+-- `pairs::scaled_pair` meets its contract. Assumes nothing.
 use mathlib.Core.Path.{_≡_, sym, ap₂, _∙_, subst}
 use lib.IntN.{pos, _+ℤ_, _-ℤ_, _*ℤ_}
 use mir.Syntax.{w64}
@@ -8,9 +8,9 @@ use Rattle.integers.specs.Division.{rounded}
 use Rattle.units.specs.Units.{U}
 use Rattle.arith.proofs.Cells.{Cell}
 use Rattle.arith.proofs.Signs.{back, ok}
-use Rattle.cosine.proofs.Halves.{value-back, two-fit}
-use Rattle.cosine.proofs.pair.scaled_pair.Statement.{statement}
-use Rattle.cosine.proofs.pair.scaled_pair.Tie as tie
+use Rattle.pairs.proofs.Values.{value-back, two-fit}
+use Rattle.pairs.proofs.scaled_pair.Statement.{statement}
+use Rattle.pairs.proofs.scaled_pair.Tie as tie
 
 scaled-requires : tie.Need-scaled-requires
 scaled-requires c κs = search needs

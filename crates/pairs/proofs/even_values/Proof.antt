@@ -1,10 +1,10 @@
--- `cosine::pair::even_values` meets its contract. Assumes nothing.
+-- `pairs::even_values` meets its contract. Assumes nothing.
 use borrow.Author.Needs.{needs}
 use Rattle.arith.proofs.Signs.{ok}
 use Rattle.cosine.specs.Halves.{even-value}
-use Rattle.cosine.proofs.Halves.{two-back}
-use Rattle.cosine.proofs.pair.even_values.Statement.{statement}
-use Rattle.cosine.proofs.pair.even_values.Tie as tie
+use Rattle.pairs.proofs.Values.{two-back}
+use Rattle.pairs.proofs.even_values.Statement.{statement}
+use Rattle.pairs.proofs.even_values.Tie as tie
 
 even-pair-requires : tie.Need-even-pair-requires
 even-pair-requires c κs = search needs

@@ -1,8 +1,8 @@
--- `cosine::pair::odd_series_pair` meets its contract. Assumes nothing.
+-- `pairs::odd_series_pair` meets its contract. Assumes nothing.
 use borrow.Author.Needs.{needs}
 use Rattle.cosine.proofs.Natural.{six}
-use Rattle.cosine.proofs.pair.odd_series_pair.Statement.{statement}
-use Rattle.cosine.proofs.pair.odd_series_pair.Tie as tie
+use Rattle.pairs.proofs.odd_series_pair.Statement.{statement}
+use Rattle.pairs.proofs.odd_series_pair.Tie as tie
 
 first-pair-requires : tie.Need-first-pair-requires
 first-pair-requires c κs = search needs

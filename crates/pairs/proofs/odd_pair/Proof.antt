@@ -1,9 +1,9 @@
--- `cosine::pair::odd_pair` meets its contract. Assumes nothing.
+-- `pairs::odd_pair` meets its contract. Assumes nothing.
 use borrow.Author.Needs.{needs}
 use Rattle.cosine.specs.Cosine.{odds}
 use Rattle.cosine.proofs.Natural.{series-at}
-use Rattle.cosine.proofs.pair.odd_pair.Statement.{statement}
-use Rattle.cosine.proofs.pair.odd_pair.Tie as tie
+use Rattle.pairs.proofs.odd_pair.Statement.{statement}
+use Rattle.pairs.proofs.odd_pair.Tie as tie
 
 square-pair-requires : tie.Need-square-pair-requires
 square-pair-requires c κs = search needs

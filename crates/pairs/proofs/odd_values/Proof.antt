@@ -1,10 +1,10 @@
--- `cosine::pair::odd_values` meets its contract. Assumes nothing.
+-- `pairs::odd_values` meets its contract. Assumes nothing.
 use borrow.Author.Needs.{needs}
 use Rattle.arith.proofs.Signs.{ok}
 use Rattle.cosine.specs.Halves.{odd-value}
-use Rattle.cosine.proofs.Halves.{two-back}
-use Rattle.cosine.proofs.pair.odd_values.Statement.{statement}
-use Rattle.cosine.proofs.pair.odd_values.Tie as tie
+use Rattle.pairs.proofs.Values.{two-back}
+use Rattle.pairs.proofs.odd_values.Statement.{statement}
+use Rattle.pairs.proofs.odd_values.Tie as tie
 
 odd-pair-requires : tie.Need-odd-pair-requires
 odd-pair-requires c κs = search needs

@@ -1,9 +1,9 @@
--- `cosine::pair::even_pair` meets its contract. Assumes nothing.
+-- `pairs::even_pair` meets its contract. Assumes nothing.
 use native.Mathlib.Omega.{arith}
 use borrow.Author.Needs.{needs}
 use Rattle.cosine.proofs.Natural.{even-lifted}
-use Rattle.cosine.proofs.pair.even_pair.Statement.{statement}
-use Rattle.cosine.proofs.pair.even_pair.Tie as tie
+use Rattle.pairs.proofs.even_pair.Statement.{statement}
+use Rattle.pairs.proofs.even_pair.Tie as tie
 
 square-pair-requires : tie.Need-square-pair-requires
 square-pair-requires c κs = search needs

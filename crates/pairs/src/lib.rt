@@ -4,13 +4,13 @@ ghost use Prim.Native.Nat.{_*_, _<_, _≤_};
 ghost use lib.IntN.{pos, natAbs, _+ℤ_, _-ℤ_, _*ℤ_};
 ghost use Rattle.integers.specs.Division.{rounded};
 ghost use Rattle.units.specs.Units.{U, a-limit};
 ghost use Rattle.cosine.specs.Cosine.{y-of, evens, odds, horner, even-part, odd-part};
 ghost use Rattle.cosine.specs.Halves.{even-value, odd-value, InRange};
-use crate::inner::first;
-use crate::inner::square;
-use crate::inner::step;
-use crate::term::scaled;
 use arith::signed::add;
+use cosine::inner::first;
+use cosine::inner::square;
+use cosine::inner::step;
+use cosine::term::scaled;
 
 pub struct Pair {
     pub one: u64,

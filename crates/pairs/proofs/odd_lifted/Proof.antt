@@ -1,9 +1,9 @@
--- `cosine::pair::odd_lifted` meets its contract. Assumes nothing.
+-- `pairs::odd_lifted` meets its contract. Assumes nothing.
 use native.Mathlib.Omega.{arith}
 use borrow.Author.Needs.{needs}
 use Rattle.cosine.proofs.Natural.{odd-small, odd-lifted}
-use Rattle.cosine.proofs.pair.odd_lifted.Statement.{statement}
-use Rattle.cosine.proofs.pair.odd_lifted.Tie as tie
+use Rattle.pairs.proofs.odd_lifted.Statement.{statement}
+use Rattle.pairs.proofs.odd_lifted.Tie as tie
 
 add-result : tie.Need-add-result
 add-result c = search needs
