@@ -17,13 +17,13 @@ use Rattle.packed.specs.declared.Term.{Term}
 use Rattle.packed.specs.Limits.{series-limit}
 use Rattle.packed.specs.Allowed.{BlockFits}
 use Rattle.packed.specs.Tables.{terms-at}
-use Rattle.series.specs.declared.halves.Counts.{Counts}
-use Rattle.series.specs.Sums.{block-sum}
-use Rattle.series.specs.Parted.{piece-limit, room, half-sum, Put, Small, Half, Parted}
-use Rattle.series.proofs.Adding.{cells-fit, cells-are}
-use Rattle.series.proofs.Filling.{sum-same, half-none, half-less, half-same, sum-stored, half-more, half-closed, half-below}
-use Rattle.series.proofs.Sizes.{no-share}
-use Rattle.series.proofs.Summing.{Summed, summed-none, summed-all, summed-term, term-asks, same-value, value-below}
+use Rattle.pieces.specs.declared.Counts.{Counts}
+use Rattle.pieces.specs.Sums.{block-sum}
+use Rattle.pieces.specs.Parted.{piece-limit, room, half-sum, Put, Small, Half, Parted}
+use Rattle.pieces.proofs.Adding.{cells-fit, cells-are}
+use Rattle.pieces.proofs.Filling.{sum-same, half-none, half-less, half-same, sum-stored, half-more, half-closed, half-below}
+use Rattle.pieces.proofs.Sizes.{no-share}
+use Rattle.pieces.proofs.Summing.{Summed, summed-none, summed-all, summed-term, term-asks, same-value, value-below}
 
 -- The tables hold values whose sum is x.
 pub record Holding (ea : List ℤ) (ev : List ℕ) (oa : List ℤ) (ov : List ℕ) (evens odds : ℕ) (x : ℤ) : Type 0 where

@@ -13,9 +13,9 @@ use Rattle.packed.specs.declared.Term.{Term}
 use Rattle.packed.specs.Limits.{total-limit, series-limit}
 use Rattle.packed.specs.Allowed.{TermFits, AllFit, none, more, BlockFits, total-of}
 use Rattle.packed.specs.Tables.{term-at, terms-at}
-use Rattle.series.specs.Sums.{block-sum}
-use Rattle.series.specs.Parted.{piece-limit}
-use Rattle.series.proofs.Sizes.{value-size, block-size}
+use Rattle.pieces.specs.Sums.{block-sum}
+use Rattle.pieces.specs.Parted.{piece-limit}
+use Rattle.pieces.proofs.Sizes.{value-size, block-size}
 
 -- ---- terms and more terms
 

@@ -1,11 +1,11 @@
--- `series::halves::part_terms` meets its contract: the values in the tables and the terms that are left are the piece's sum. Assumes nothing.
+-- `pieces::part_terms` meets its contract: the values in the tables and the terms that are left are the piece's sum. Assumes nothing.
 use Prim.Native.Nat.{_-_}
 use native.Mathlib.Omega.{arith}
 use borrow.Author.Needs.{needs}
-use Rattle.series.proofs.Summing.{term-asks}
-use Rattle.series.proofs.Parting.{Partly, partly-none, evens-free, odds-free, partly-more, partly-all}
-use Rattle.series.proofs.halves.part_terms.Statement.{statement}
-use Rattle.series.proofs.halves.part_terms.Tie as tie
+use Rattle.pieces.proofs.Summing.{term-asks}
+use Rattle.pieces.proofs.Parting.{Partly, partly-none, evens-free, odds-free, partly-more, partly-all}
+use Rattle.pieces.proofs.part_terms.Statement.{statement}
+use Rattle.pieces.proofs.part_terms.Tie as tie
 
 abbrev Inv-loop : tie.InvT-loop
 Inv-loop p a b c from to ea₀ ev₀ oa₀ ov₀ n₀ i₀ ea ev oa ov n i = Partly (p .t) a b c from to ea ev oa ov n i

@@ -14,8 +14,8 @@ use Rattle.integers.proofs.Order.{natAbs-+}
 use Rattle.arith.proofs.Cells.{Cell, cell}
 use Rattle.units.specs.Units.{a-limit}
 use Rattle.cosine.specs.Halves.{InRange}
-use Rattle.series.specs.Parted.{room, half-sum, Small, Half, Closed}
-use Rattle.series.proofs.Adding.{cells-fit, cells-are}
+use Rattle.pieces.specs.Parted.{room, half-sum, Small, Half, Closed}
+use Rattle.pieces.proofs.Adding.{cells-fit, cells-are}
 
 module _ (f : ℤ → ℕ → ℤ) where
   -- ---- the sum

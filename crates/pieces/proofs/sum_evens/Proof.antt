@@ -1,4 +1,4 @@
--- `series::halves::sum_evens` meets its contract: the sum is that of the places passed. Assumes nothing.
+-- `pieces::sum_evens` meets its contract: the sum is that of the places passed. Assumes nothing.
 use mathlib.Core.Path.{_≡_, refl, _∙_}
 use Prim.Native.Nat.{_+_, _-_, _≤_}
 use native.Mathlib.Omega.{arith}
@@ -6,10 +6,10 @@ use mir.Syntax.{w64}
 use mir.Val.{toZ}
 use Rattle.arith.proofs.Signs.{back, ok}
 use Rattle.cosine.specs.Halves.{even-value}
-use Rattle.series.specs.Parted.{half-sum}
-use Rattle.series.proofs.Filling.{half-less, half-all}
-use Rattle.series.proofs.halves.sum_evens.Statement.{statement}
-use Rattle.series.proofs.halves.sum_evens.Tie as tie
+use Rattle.pieces.specs.Parted.{half-sum}
+use Rattle.pieces.proofs.Filling.{half-less, half-all}
+use Rattle.pieces.proofs.sum_evens.Statement.{statement}
+use Rattle.pieces.proofs.sum_evens.Tie as tie
 
 abbrev Inv-loop : tie.InvT-loop
 Inv-loop ea ev n sum₀ i₀ sum i = (i ≤ n + 1) × (toZ w64 sum ≡ half-sum even-value ea ev i)

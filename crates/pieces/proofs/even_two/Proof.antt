@@ -1,9 +1,9 @@
--- `series::halves::even_two` meets its contract. Assumes nothing.
+-- `pieces::even_two` meets its contract. Assumes nothing.
 use Rattle.cosine.specs.Halves.{even-value}
-use Rattle.series.proofs.Filling.{two-asks, two-fit, two-are}
+use Rattle.pieces.proofs.Filling.{two-asks, two-fit, two-are}
 use borrow.Author.Needs.{needs}
-use Rattle.series.proofs.halves.even_two.Statement.{statement}
-use Rattle.series.proofs.halves.even_two.Tie as tie
+use Rattle.pieces.proofs.even_two.Statement.{statement}
+use Rattle.pieces.proofs.even_two.Tie as tie
 
 mul-t6 : tie.Need-mul-t6
 mul-t6 c = search needs

@@ -1,8 +1,8 @@
--- `series::halves::sum_piece` meets its contract. Assumes nothing.
-use Rattle.series.proofs.Parting.{halves-fit, halves-are}
+-- `pieces::sum_piece` meets its contract. Assumes nothing.
+use Rattle.pieces.proofs.Parting.{halves-fit, halves-are}
 use borrow.Author.Needs.{needs}
-use Rattle.series.proofs.halves.sum_piece.Statement.{statement}
-use Rattle.series.proofs.halves.sum_piece.Tie as tie
+use Rattle.pieces.proofs.sum_piece.Statement.{statement}
+use Rattle.pieces.proofs.sum_piece.Tie as tie
 
 part-terms-requires : tie.Need-part-terms-requires
 part-terms-requires c κs = search needs

@@ -1,11 +1,11 @@
--- `series::halves::put_term` meets its contract. Assumes nothing.
+-- `pieces::put_term` meets its contract. Assumes nothing.
 use mathlib.Core.Path.{_≡_, refl, ap}
 use lib.IntN.{ℤ}
 use lib.ListN.{set}
 use Rattle.arith.proofs.Cells.{Cell}
 use borrow.Author.Needs.{needs}
-use Rattle.series.proofs.halves.put_term.Statement.{statement}
-use Rattle.series.proofs.halves.put_term.Tie as tie
+use Rattle.pieces.proofs.put_term.Statement.{statement}
+use Rattle.pieces.proofs.put_term.Tie as tie
 
 mul-a : tie.Need-mul-a
 mul-a c = search needs

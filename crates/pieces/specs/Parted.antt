@@ -1,4 +1,4 @@
--- The two tables that a piece of a block is parted into, by the parity of each term's quarter. Held by the code of `halves`, no part of document 01.
+-- The two tables that a piece of a block is parted into, by the parity of each term's quarter. Held by the code, no part of document 01.
 use mathlib.Core.Path.{_≡_}
 use mathlib.Core.List.{List}
 use Prim.Native.Nat.{ℕ, zero, suc, _+_, _-_, _≤_, _<_}
@@ -8,8 +8,8 @@ use Rattle.units.specs.Units.{a-limit}
 use Rattle.cosine.specs.Halves.{even-value, odd-value, InRange}
 use Rattle.cosine.specs.declared.term.Worked.{Worked}
 use Rattle.packed.specs.declared.Term.{Term}
-use Rattle.series.specs.declared.halves.Counts.{Counts}
-use Rattle.series.specs.Sums.{block-sum}
+use Rattle.pieces.specs.declared.Counts.{Counts}
+use Rattle.pieces.specs.Sums.{block-sum}
 
 -- The terms of a piece are at most so many; a table has one place more.
 abbrev pub piece-limit : ℕ
