@@ -1,6 +1,5 @@
 // The working cosine and sine of document 01, equal to its rules to the last unit, and a term of a series.
 pub mod inner;
-pub mod pair;
 pub mod term;
 
 ghost use mathlib.Core.Path.{_≡_};

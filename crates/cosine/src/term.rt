@@ -138,7 +138,7 @@ pub fn scaled(a: i64, c: u64) -> i64
     difference(x + 10000000000000000, 10000000 * c + m)
 }
 
-// A term's value, by itself. The sum of a block works two terms at a time: pair.rt.
+// A term's value, by itself. The sum of a block works two terms at a time: the crate `pairs`.
 pub fn term_value(p: Prepared, a: i64, b: u64, c: i64) -> i64
     requires { ⌜ Ready p × (natAbs a < a-limit) × (b < b-limit) × (natAbs c < c-limit) ⌝ }
     ensures { λ r. ⌜ r ≡ term-value a b c (p .t) ⌝ }

@@ -26,7 +26,8 @@ use Rattle.packed.specs.declared.Term.{Term}
 use Rattle.packed.specs.Limits.{constant, weight, coarse-share}
 use Rattle.packed.specs.Allowed.{TermFits, AllFit, none, more, coarseness, moving-total, moving-count}
 use Rattle.packed.proofs.Limits.{burden, burden-more}
-use Rattle.series.specs.Sums.{block-sum, running-sum}
+use Rattle.pieces.specs.Sums.{block-sum}
+use Rattle.series.specs.Sums.{running-sum}
 use Rattle.series.specs.Exact.{tau, exact-term, exact-block, exact-sum}
 use Rattle.series.proofs.Close.{Close, close-zero, close-+, close-term, close-constant, close-step, power-lower, power-bound}
 use Rattle.series.proofs.Accepted.{Blocks-in, in-head, in-tail}

@@ -12,10 +12,12 @@ use Rattle.units.specs.Units.{millennium, t-limit}
 use Rattle.packed.specs.declared.Term.{Term}
 use Rattle.packed.specs.Limits.{total-limit}
 use Rattle.packed.proofs.Tabled.{block-start}
-use Rattle.series.specs.Sums.{block-sum, running-sum}
+use Rattle.pieces.specs.Sums.{block-sum}
+use Rattle.pieces.proofs.Sizes.{no-share}
+use Rattle.series.specs.Sums.{running-sum}
 use Rattle.series.proofs.Accuracy.{running-step, running-one}
 use Rattle.series.proofs.Accepted.{Blocks-in, in-take, in-drop}
-use Rattle.series.proofs.Sizes.{no-share, running-size}
+use Rattle.series.proofs.Sizes.{running-size}
 
 -- past block 0, a block starts where the one before ends
 pub start-later : (ends : List ℕ) (j : ℕ) → (j ≡ 0 → ⊥) → getD ends (j - 1) 0 ≡ block-start ends j

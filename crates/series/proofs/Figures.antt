@@ -6,7 +6,8 @@ use Rattle.integers.specs.Division.{floor, rounded, modulo}
 use Rattle.cosine.specs.Cosine.{cosine-by, horner, y-of, even-part, odd-part, q-of, r-of, w-of, working-cosine, cosine}
 use Rattle.cosine.specs.Terms.{term-angle, term-cosine, term-value}
 use Rattle.packed.specs.declared.Term.{Term}
-use Rattle.series.specs.Sums.{block-sum, running-sum, longitude-blocks, latitude-blocks, radius-blocks, coordinates}
+use Rattle.pieces.specs.Sums.{block-sum}
+use Rattle.series.specs.Sums.{running-sum, longitude-blocks, latitude-blocks, radius-blocks, coordinates}
 
 unfoldable pub constant-rate : List (List Term)
 constant-rate = [] ∷ (record { a = pos 300000000000; b = 0; c = pos 0 } ∷ []) ∷ [] ∷ [] ∷ [] ∷ [] ∷ [] ∷ [] ∷ [] ∷ [] ∷ [] ∷ [] ∷ [] ∷ [] ∷ [] ∷ [] ∷ [] ∷ [] ∷ []

@@ -8,11 +8,7 @@ pub mod Distance
 pub mod Answered
 pub mod Promise
 pub mod Figures
-mod Summing
 pub mod Blocks
 pub mod Filled
 pub mod Answering
 mod Stepping
-mod Adding
-mod Filling
-mod Parting

@@ -17,10 +17,11 @@ use Rattle.packed.specs.Limits.{total-limit, series-limit, block-count}
 use Rattle.packed.specs.Allowed.{BlockFits}
 use Rattle.packed.specs.Tables.{terms-at, table-blocks}
 use Rattle.packed.proofs.Tabled.{block-start, rising, within-table, block-there}
-use Rattle.series.specs.Sums.{block-sum}
+use Rattle.pieces.specs.Sums.{block-sum}
+use Rattle.pieces.proofs.Adding.{cells-fit, cells-are}
+use Rattle.pieces.proofs.Sizes.{block-size}
 use Rattle.series.specs.Tables.{Table}
-use Rattle.series.proofs.Adding.{cells-fit, cells-are}
-use Rattle.series.proofs.Sizes.{block-size, carried-size}
+use Rattle.series.proofs.Sizes.{carried-size}
 
 module _ (la : List ℤ) (lb : List ℕ) (lc : List ℤ) (ends : List ℕ) (h : Table la lb lc ends) (j : ℕ) (hj : j < block-count) where
   abbrev block : List Term

@@ -2,4 +2,3 @@
 pub mod Sums
 pub mod Exact
 pub mod Tables
-pub mod Parted

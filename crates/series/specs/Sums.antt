@@ -1,4 +1,4 @@
--- Document 01, "Working cosine and sums": S_i, V and L, B, R at t; and what the call answers.
+-- Document 01, "Working cosine and sums": V and L, B, R at t; and what the call answers.
 use mathlib.Core.Bool.{cond}
 use mathlib.Core.List.{List, [], _∷_}
 use Prim.Native.Nat.{ℕ, _*_}
@@ -9,17 +9,12 @@ use Rattle.units.specs.Units.{millennium, in-limit}
 use Rattle.units.specs.declared.Instant.{Instant}
 use Rattle.units.specs.declared.Coordinates.{Coordinates}
 use Rattle.units.specs.declared.Refusal.the-variants.{PastLimit}
-use Rattle.cosine.specs.Terms.{term-value}
 use Rattle.packed.specs.declared.Term.{Term}
 use Rattle.packed.specs.Limits.{powers}
 use Rattle.packed.specs.Series.{Parsed, accepted, refused, parse}
+use Rattle.pieces.specs.Sums.{block-sum}
 use Rattle.series.specs.declared.CoordinatesAnswer.{CoordinatesAnswer}
 use Rattle.series.specs.declared.CoordinatesAnswer.the-variants.{At, NoCoordinates}
-
--- "S_i is the sum of block i."
-unfoldable pub block-sum : ℤ → List Term → ℤ
-block-sum t [] = pos 0
-block-sum t (x ∷ xs) = term-value (x .a) (x .b) (x .c) t +ℤ block-sum t xs
 
 -- "V = S_5, then for i = 4 to 0, V becomes S_i + rounded V*t/T": V of the blocks of a coordinate from power i on.
 unfoldable pub running-sum : ℤ → List (List Term) → ℤ

@@ -9,15 +9,16 @@ ghost use Rattle.units.specs.Units.{millennium, t-limit, in-limit as within-lim
 ghost use Rattle.cosine.specs.Prepared.{Ready};
 ghost use Rattle.packed.specs.Limits.{series-limit, total-limit, powers, block-count};
 ghost use Rattle.packed.specs.Tables.{Sized, terms-at, table-blocks};
-ghost use Rattle.series.specs.Sums.{block-sum, running-sum, coordinates as coordinates-of};
 ghost use Rattle.packed.specs.Allowed.{BlockFits};
-ghost use Rattle.series.specs.Parted.{piece-limit};
+ghost use Rattle.pieces.specs.Sums.{block-sum};
+ghost use Rattle.pieces.specs.Parted.{piece-limit};
+ghost use Rattle.series.specs.Sums.{running-sum, coordinates as coordinates-of};
 ghost use Rattle.series.specs.Tables.{Table};
-use crate::halves::sum_piece;
 use arith::muldiv::mul_div_round;
 use arith::signed::abs;
 use arith::signed::add;
 use cosine::term::Prepared;
+use pieces::sum_piece;
 use units::Coordinates;
 use units::Instant;
 

@@ -2,7 +2,6 @@
 ghost use mathlib.Core.Path.{_≡_};
 ghost use Rattle.series.specs.Sums.{coordinates-answer};
 
-mod halves;
 pub mod inner;
 
 use crate::inner::coordinates;

@@ -5,8 +5,8 @@ use lib.IntN.{ℤ}
 use native.Mathlib.Omega.{arith}
 use mir.Syntax.{w64}
 use mir.Val.{toZ}
-use Rattle.series.proofs.Adding.{add-fits, add-is}
-use Rattle.series.proofs.Summing.{Summed, summed-none, piece-fits, sum-small, summed-piece, summed-all}
+use Rattle.pieces.proofs.Adding.{add-fits, add-is}
+use Rattle.pieces.proofs.Summing.{Summed, summed-none, piece-fits, sum-small, summed-piece, summed-all}
 use Rattle.series.proofs.inner.sum_of.Statement.{statement}
 use Rattle.series.proofs.inner.sum_of.Tie as tie
 

@@ -3,7 +3,7 @@ use mathlib.Core.Path.{_≡_}
 use mathlib.Core.List.{[]}
 use lib.ListN.{getD}
 use Rattle.packed.specs.Tables.{table-blocks}
-use Rattle.series.specs.Sums.{block-sum}
+use Rattle.pieces.specs.Sums.{block-sum}
 use Rattle.series.proofs.Stepping.{inside, sum-asks, sum-is, carried-asks, step-fits, step-is}
 use borrow.Author.Needs.{needs}
 use Rattle.series.proofs.inner.with_block.Statement.{statement}

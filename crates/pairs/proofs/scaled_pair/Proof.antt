@@ -1,0 +1,39 @@
+-- `pairs::scaled_pair` meets its contract. Assumes nothing.
+use mathlib.Core.Path.{_≡_, sym, ap₂, _∙_, subst}
+use lib.IntN.{pos, _+ℤ_, _-ℤ_, _*ℤ_}
+use mir.Syntax.{w64}
+use mir.Val.{SFits}
+use borrow.Author.Needs.{needs}
+use Rattle.integers.specs.Division.{rounded}
+use Rattle.units.specs.Units.{U}
+use Rattle.arith.proofs.Cells.{Cell}
+use Rattle.arith.proofs.Signs.{back, ok}
+use Rattle.pairs.proofs.Values.{value-back, two-fit}
+use Rattle.pairs.proofs.scaled_pair.Statement.{statement}
+use Rattle.pairs.proofs.scaled_pair.Tie as tie
+
+scaled-requires : tie.Need-scaled-requires
+scaled-requires c κs = search needs
+
+scaled-requires-2 : tie.Need-scaled-requires-2
+scaled-requires-2 c κs = search needs
+
+-- what `add` is given
+given : (c : tie.After-scaled2) → (let s = c .before .before .args in
+    Cell (c .before .scaled .result) +ℤ Cell (c .scaled2 .result) ≡ rounded (s .a *ℤ (pos (s .c .one) -ℤ pos U)) U +ℤ rounded (s .b *ℤ (pos (s .c .two) -ℤ pos U)) U)
+given c =
+    let x = c .before .scaled in
+    let y = c .scaled2 in
+    let s = c .before .before in
+    ap₂ _+ℤ_ (value-back (x .result) (s .args .a) (s .args .c .one) (ok (x .ok)) (s .fits .a) (x .ensures)) (value-back (y .result) (s .args .b) (s .args .c .two) (ok (y .ok)) (s .fits .b) (y .ensures))
+
+add-requires : tie.Need-add-requires
+add-requires c κs =
+    let s = c .before .before in
+    subst (λ z. SFits w64 z) (sym (given c)) (two-fit (s .args .a) (s .args .b) (s .args .c .one) (s .args .c .two) (s .pre .0) (s .pre .1) (s .pre .2) (s .pre .3))
+
+returns : tie.Need-returns
+returns c = back (c .add .result) (ok (c .add .ok)) ∙ c .add .ensures ∙ given (c .before)
+
+pub scaled-pair-spec : {M : Type 1} → statement M
+scaled-pair-spec = tie.close (tie.spec scaled-requires scaled-requires-2 add-requires returns)

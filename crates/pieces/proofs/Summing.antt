@@ -1,0 +1,169 @@
+-- A block's sum in pieces: what is summed and what is left are the block's sum. Assumes nothing.
+use mathlib.Core.Path.{_≡_, refl, sym, ap, _∙_, subst}
+use mathlib.Core.List.{List, [], _∷_, _++_}
+use Prim.Native.Nat.{ℕ, zero, suc, _+_, _-_, _^_, _≤_, _<_}
+use native.Mathlib.Omega.{arith}
+use lib.IntN.{ℤ, pos, natAbs, _+ℤ_, +ℤ-assoc, +ℤ-idl, +ℤ-idr}
+use lib.ListN.{length, getD}
+use Rattle.integers.proofs.Order.{natAbs-+}
+use Rattle.arith.proofs.Cells.{Cell, cell}
+use Rattle.units.specs.Units.{a-limit, b-limit, c-limit}
+use Rattle.cosine.specs.Terms.{term-value}
+use Rattle.packed.specs.declared.Term.{Term}
+use Rattle.packed.specs.Limits.{total-limit, series-limit}
+use Rattle.packed.specs.Allowed.{TermFits, AllFit, none, more, BlockFits, total-of}
+use Rattle.packed.specs.Tables.{term-at, terms-at}
+use Rattle.pieces.specs.Sums.{block-sum}
+use Rattle.pieces.specs.Parted.{piece-limit}
+use Rattle.pieces.proofs.Sizes.{value-size, block-size}
+
+-- ---- terms and more terms
+
+sum-append : (t : ℤ) (xs ys : List Term) → block-sum t (xs ++ ys) ≡ block-sum t xs +ℤ block-sum t ys
+unfolding block-sum
+sum-append t [] ys = sym (+ℤ-idl (block-sum t ys))
+sum-append t (x ∷ xs) ys =
+    ap (λ (z : ℤ). term-value (x .a) (x .b) (x .c) t +ℤ z) (sum-append t xs ys)
+    ∙ sym (+ℤ-assoc (term-value (x .a) (x .b) (x .c) t) (block-sum t xs) (block-sum t ys))
+
+total-append : (xs ys : List Term) → total-of (xs ++ ys) ≡ total-of xs + total-of ys
+unfolding total-of
+total-append [] ys = omega arith
+total-append (x ∷ xs) ys = let e = total-append xs ys in omega arith
+
+first-fit : (xs ys : List Term) → AllFit (xs ++ ys) → AllFit xs
+first-fit [] ys h = none
+first-fit (x ∷ xs) ys (more h k) = more h (first-fit xs ys k)
+
+rest-fit : (xs ys : List Term) → AllFit (xs ++ ys) → AllFit ys
+rest-fit [] ys h = h
+rest-fit (x ∷ xs) ys (more h k) = rest-fit xs ys k
+
+module _ (la : List ℤ) (lb : List ℕ) (lc : List ℤ) where
+  terms-append : (m n i : ℕ) → terms-at la lb lc i (m + n) ≡ terms-at la lb lc i m ++ terms-at la lb lc (i + m) n
+  unfolding terms-at
+  terms-append zero n i = let e : 0 + n ≡ n = omega arith in let f : i + 0 ≡ i = omega arith in rw (e, f)
+  terms-append (suc m) n i =
+      let e : suc m + n ≡ suc (m + n) = omega arith in
+      let f : i + suc m ≡ i + 1 + m = omega arith in
+      rw (e, f) (ap (λ (xs : List Term). term-at la lb lc i ∷ xs) (terms-append m n (i + 1)))
+
+  terms-length : (n i : ℕ) → length (terms-at la lb lc i n) ≡ n
+  unfolding terms-at
+  terms-length zero i = refl
+  terms-length (suc n) i = ap suc (terms-length n (i + 1))
+
+  one-term : (i : ℕ) → terms-at la lb lc i (i + 1 - i) ≡ term-at la lb lc i ∷ []
+  unfolding terms-at
+  one-term i = let e : i + 1 - i ≡ 1 = omega arith in rw e
+
+-- ---- the pieces
+
+-- sum is the sum of the terms before place i
+pub record Summed (t : ℤ) (la : List ℤ) (lb : List ℕ) (lc : List ℤ) (from to : ℕ) (sum : ℤ) (i : ℕ) : Type 0 where
+  pub within : i ≤ to
+  pub space : to ≤ series-limit
+  pub limits : AllFit (terms-at la lb lc i (to - i))
+  pub small : natAbs sum + total-of (terms-at la lb lc i (to - i)) ≤ total-limit
+  pub left : sum +ℤ block-sum t (terms-at la lb lc i (to - i)) ≡ block-sum t (terms-at la lb lc from (to - from))
+
+module _ {t : ℤ} {la : List ℤ} {lb : List ℕ} {lc : List ℤ} {from to : ℕ} where
+  pub summed-none : from ≤ to → to ≤ series-limit → BlockFits (terms-at la lb lc from (to - from)) → Summed t la lb lc from to (pos 0) from
+  summed-none h k b = record { within = h; space = k; limits = b .terms; small = let s = b .total in omega arith; left = zero-plus (block-sum t (terms-at la lb lc from (to - from))) }
+    where
+      zero-plus : (x : ℤ) → pos 0 +ℤ x ≡ x
+      zero-plus x = +ℤ-idl x
+
+  module _ {sum : ℤ} {i : ℕ} (s : Summed t la lb lc from to sum i) (j : ℕ) (h : i ≤ j) (k : j ≤ to) where
+    abbrev piece : List Term
+    piece = terms-at la lb lc i (j - i)
+
+    abbrev rest : List Term
+    rest = terms-at la lb lc j (to - j)
+
+    cut : terms-at la lb lc i (to - i) ≡ piece ++ rest
+    cut = joined (to - i) (j - i) (to - j) j (omega arith) (omega arith)
+      where
+        joined : (m n r j : ℕ) → m ≡ n + r → j ≡ i + n → terms-at la lb lc i m ≡ terms-at la lb lc i n ++ terms-at la lb lc j r
+        joined m n r j e f = rw (e, f) (terms-append la lb lc n r i)
+
+    sizes : natAbs sum + (total-of piece + total-of rest) ≤ total-limit
+    sizes = let l = subst (λ (xs : List Term). natAbs sum + total-of xs ≤ total-limit) cut (s .small) in let e = total-append piece rest in omega arith
+
+    pub piece-fits : j ≤ i + piece-limit → BlockFits piece
+    piece-fits l = record {
+      few = let e = terms-length la lb lc (j - i) i in omega arith;
+      terms = first-fit piece rest (subst AllFit cut (s .limits));
+      total = let z = sizes in omega arith;
+    }
+
+    module _ (v : ℤ) (e : v ≡ block-sum t piece) where
+      size : natAbs sum + (natAbs v + total-of rest) ≤ total-limit
+      size = let l = sizes in let m = subst (λ (x : ℤ). natAbs x ≤ total-of piece) (sym e) (block-size t piece) in omega arith
+
+      pub sum-small : natAbs sum + natAbs v < 2 ^ 63
+      sum-small = let l = size in omega arith
+
+      pub summed-piece : Summed t la lb lc from to (sum +ℤ v) j
+      summed-piece = record {
+        within = k;
+        space = s .space;
+        limits = rest-fit piece rest (subst AllFit cut (s .limits));
+        small = let l = size in let n = natAbs-+ sum v in omega arith;
+        left =
+            ap (λ (x : ℤ). sum +ℤ x +ℤ block-sum t rest) e
+            ∙ +ℤ-assoc sum (block-sum t piece) (block-sum t rest)
+            ∙ ap (λ (x : ℤ). sum +ℤ x) (sym (ap (block-sum t) cut ∙ sum-append t piece rest)) ∙ s .left;
+      }
+
+  -- a piece of one term
+  module _ {sum : ℤ} {i : ℕ} (s : Summed t la lb lc from to sum i) (h : i < to) where
+    abbrev a : ℤ
+    a = getD la i (pos 0)
+
+    abbrev b : ℕ
+    b = getD lb i 0
+
+    abbrev c : ℤ
+    c = getD lc i (pos 0)
+
+    term-allowed : (natAbs a < a-limit) × (b < b-limit) × (natAbs c < c-limit)
+    unfolding term-at
+    term-allowed = let l = only (subst AllFit (one-term la lb lc i) (piece-fits s (i + 1) (omega arith) (omega arith) (omega arith) .terms)) in (l .a-below, l .b-below, l .c-below)
+      where
+        only : {x : Term} → AllFit (x ∷ []) → TermFits x
+        only (more h k) = h
+
+    a-cell : Cell a ≡ a
+    a-cell = cell a (let l = term-allowed .0 in omega arith)
+
+    c-cell : Cell c ≡ c
+    c-cell = cell c (let l = term-allowed .2 in omega arith)
+
+    pub term-asks : (natAbs (Cell a) < a-limit) × (b < b-limit) × (natAbs (Cell c) < c-limit)
+    term-asks = let l = term-allowed in rw (a-cell, c-cell) l
+
+    pub same-value : term-value (Cell a) b (Cell c) t ≡ term-value a b c t
+    same-value = rw (a-cell, c-cell)
+
+    pub value-below : natAbs (term-value a b c t) < a-limit
+    value-below = let l = term-allowed .0 in let m = value-size a b c t in omega arith
+
+    pub summed-term : Summed t la lb lc from to (sum +ℤ term-value a b c t) (i + 1)
+    unfolding block-sum term-at
+    summed-term = summed-piece s (i + 1) (omega arith) (omega arith) (term-value a b c t) (sym (ap (block-sum t) (one-term la lb lc i) ∙ one (term-value a b c t)))
+      where
+        one : (x : ℤ) → x +ℤ pos 0 ≡ x
+        one x = +ℤ-idr x
+
+  pub summed-all : {sum : ℤ} {i : ℕ} → Summed t la lb lc from to sum i → to ≤ i → sum ≡ block-sum t (terms-at la lb lc from (to - from))
+  summed-all {sum} {i} s h = sym (no-more sum) ∙ s .left
+    where
+      none-left : terms-at la lb lc i (to - i) ≡ []
+      none-left = ap (λ (n : ℕ). terms-at la lb lc i n) (zero-left to i h) ∙ unfold terms-at in refl
+        where
+          zero-left : (to i : ℕ) → to ≤ i → to - i ≡ 0
+          zero-left to i h = omega arith
+
+      no-more : (x : ℤ) → x +ℤ block-sum t (terms-at la lb lc i (to - i)) ≡ x
+      no-more x = ap (λ (xs : List Term). x +ℤ block-sum t xs) none-left ∙ unfold block-sum in +ℤ-idr x

@@ -1,0 +1,157 @@
+// The sum of up to 256 terms. Their angles are worked out first, and each term is put into one of two tables by the parity of
+// its quarter; then each table is summed. So no branch hangs on a quarter, which is as good as random from term to term.
+// A table has one place more than a piece has terms: a term of amplitude 0 stands past the last one, for a last pair to end with.
+ghost use mathlib.Core.Path.{_≡_};
+ghost use Prim.Native.Nat.{_+_, _-_, _≤_, _<_};
+ghost use lib.ListN.{length};
+ghost use Rattle.cosine.specs.Halves.{even-value, odd-value};
+ghost use Rattle.cosine.specs.Prepared.{Ready};
+ghost use Rattle.packed.specs.Limits.{series-limit};
+ghost use Rattle.packed.specs.Tables.{Sized, terms-at};
+ghost use Rattle.packed.specs.Allowed.{BlockFits};
+ghost use Rattle.pieces.specs.Sums.{block-sum};
+ghost use Rattle.pieces.specs.Parted.{piece-limit, room, half-sum, Put, Half, Closed, Parted};
+use arith::signed::add;
+use cosine::term::Prepared;
+use cosine::term::Worked;
+use cosine::term::worked_term;
+use pairs::Pair;
+use pairs::even_values;
+use pairs::odd_values;
+
+// How many terms each table has.
+pub struct Counts {
+    pub evens: usize,
+    pub odds: usize,
+}
+
+// Puts a term at the next free place of both tables; only the count of the one that it belongs to moves on.
+fn put_term(
+    w: Worked,
+    n: Counts,
+    ea: &mut [i64; 257],
+    ev: &mut [u64; 257],
+    oa: &mut [i64; 257],
+    ov: &mut [u64; 257],
+) -> Counts
+    requires { ⌜ (w .odd ≤ 1) × (n .evens < room) × (n .odds < room) ⌝ }
+    ensures { λ r. ⌜ Put w n (now (ea .entry)) (now (ev .entry)) (now (oa .entry)) (now (ov .entry)) (now (ea .exit)) (now (ev .exit)) (now (oa .exit)) (now (ov .exit)) r ⌝ }
+{
+    let evens = n.evens;
+    let odds = n.odds;
+    let odd = w.odd as usize;
+    let a = w.a;
+    ea[evens] = a;
+    ev[evens] = w.v;
+    oa[odds] = a;
+    ov[odds] = w.v;
+    Counts {
+        evens: evens + (1 - odd),
+        odds: odds + odd,
+    }
+}
+
+// Parts the terms from place from up to place to.
+fn part_terms(
+    p: Prepared,
+    a: &[i64; 8192],
+    b: &[u64; 8192],
+    c: &[i64; 8192],
+    from: usize,
+    to: usize,
+    ea: &mut [i64; 257],
+    ev: &mut [u64; 257],
+    oa: &mut [i64; 257],
+    ov: &mut [u64; 257],
+) -> Counts
+    requires { ⌜ Ready p × Sized (now a) (now b) (now c) × (from ≤ to) × (to ≤ series-limit) × (to ≤ from + piece-limit) × BlockFits (terms-at (now a) (now b) (now c) from (to - from)) × (length (now ea) ≡ room) × (length (now ev) ≡ room) × (length (now oa) ≡ room) × (length (now ov) ≡ room) ⌝ }
+    ensures { λ r. ⌜ Parted (p .t) (terms-at (now (a .entry)) (now (b .entry)) (now (c .entry)) from (to - from)) (now (ea .exit)) (now (ev .exit)) (now (oa .exit)) (now (ov .exit)) r ⌝ }
+{
+    let mut n = Counts { evens: 0, odds: 0 };
+    let mut i = from;
+    while i < to {
+        n = put_term(worked_term(p, a[i], b[i], c[i]), n, ea, ev, oa, ov);
+        i = i + 1;
+    }
+    let none = Worked {
+        a: 0,
+        v: 1000000000,
+        odd: 0,
+    };
+    put_term(none, n, ea, ev, oa, ov);
+    n
+}
+
+// The sum of the even table with the two terms from place i.
+fn even_two(ea: &[i64; 257], ev: &[u64; 257], i: usize, sum: i64) -> i64
+    requires { ⌜ Half even-value (now ea) (now ev) (i + 2) × (sum ≡ half-sum even-value (now ea) (now ev) i) ⌝ }
+    ensures { λ r. ⌜ r ≡ half-sum even-value (now (ea .entry)) (now (ev .entry)) (i + 2) ⌝ }
+{
+    let v = Pair {
+        one: ev[i],
+        two: ev[i + 1],
+    };
+    add(sum, even_values(ea[i], ea[i + 1], v))
+}
+
+// The sum of the even table.
+fn sum_evens(ea: &[i64; 257], ev: &[u64; 257], n: usize) -> i64
+    requires { ⌜ Closed even-value (now ea) (now ev) n ⌝ }
+    ensures { λ r. ⌜ r ≡ half-sum even-value (now (ea .entry)) (now (ev .entry)) n ⌝ }
+{
+    let mut sum: i64 = 0;
+    let mut i = 0;
+    while i < n {
+        sum = even_two(ea, ev, i, sum);
+        i = i + 2;
+    }
+    sum
+}
+
+// The sum of the odd table with the two terms from place i.
+fn odd_two(oa: &[i64; 257], ov: &[u64; 257], i: usize, sum: i64) -> i64
+    requires { ⌜ Half odd-value (now oa) (now ov) (i + 2) × (sum ≡ half-sum odd-value (now oa) (now ov) i) ⌝ }
+    ensures { λ r. ⌜ r ≡ half-sum odd-value (now (oa .entry)) (now (ov .entry)) (i + 2) ⌝ }
+{
+    let v = Pair {
+        one: ov[i],
+        two: ov[i + 1],
+    };
+    add(sum, odd_values(oa[i], oa[i + 1], v))
+}
+
+// The sum of the odd table.
+fn sum_odds(oa: &[i64; 257], ov: &[u64; 257], n: usize) -> i64
+    requires { ⌜ Closed odd-value (now oa) (now ov) n ⌝ }
+    ensures { λ r. ⌜ r ≡ half-sum odd-value (now (oa .entry)) (now (ov .entry)) n ⌝ }
+{
+    let mut sum: i64 = 0;
+    let mut i = 0;
+    while i < n {
+        sum = odd_two(oa, ov, i, sum);
+        i = i + 2;
+    }
+    sum
+}
+
+// The sum of the terms from place from up to place to.
+pub fn sum_piece(
+    p: Prepared,
+    a: &[i64; 8192],
+    b: &[u64; 8192],
+    c: &[i64; 8192],
+    from: usize,
+    to: usize,
+) -> i64
+    requires { ⌜ Ready p × Sized (now a) (now b) (now c) × (from ≤ to) × (to ≤ series-limit) × (to ≤ from + piece-limit) × BlockFits (terms-at (now a) (now b) (now c) from (to - from)) ⌝ }
+    ensures { λ r. ⌜ r ≡ block-sum (p .t) (terms-at (now (a .entry)) (now (b .entry)) (now (c .entry)) from (to - from)) ⌝ }
+{
+    let mut ea = [0i64; 257];
+    let mut ev = [0u64; 257];
+    let mut oa = [0i64; 257];
+    let mut ov = [0u64; 257];
+    let n = part_terms(p, a, b, c, from, to, &mut ea, &mut ev, &mut oa, &mut ov);
+    let even = sum_evens(&ea, &ev, n.evens);
+    let odd = sum_odds(&oa, &ov, n.odds);
+    add(even, odd)
+}
