@@ -54,7 +54,7 @@ pub fn first(y: u64, d: u64) -> u64
     1000000000 - ((y + d / 2) as u32 / d as u32) as u64
 }
 
-pub fn even_series(y: u64) -> u64
+fn even_series(y: u64) -> u64
     requires { ⌜ y ≤ 617000000 ⌝ }
     ensures { λ r. ⌜ (pos r ≡ horner (pos y) evens) × (r ≤ 1000000000) ⌝ }
 {
@@ -66,7 +66,7 @@ pub fn even_series(y: u64) -> u64
     step(y, h2, 2)
 }
 
-pub fn odd_series(y: u64) -> u64
+fn odd_series(y: u64) -> u64
     requires { ⌜ y ≤ 617000000 ⌝ }
     ensures { λ r. ⌜ (pos r ≡ horner (pos y) odds) × (r ≤ 1000000000) ⌝ }
 {
@@ -87,7 +87,7 @@ pub fn difference(a: u64, b: u64) -> i64
 }
 
 // 10^9 more than the cosine at the quarter k, from v and y. The odd part is the rounded v*h / U, less h.
-pub fn lifted(k: u64, v: u64, y: u64) -> u64
+fn lifted(k: u64, v: u64, y: u64) -> u64
     requires { ⌜ (k < 4) × (v ≤ 1785398164) × (pos y ≡ y-of (pos v -ℤ pos U)) × (y ≤ 617000000) ⌝ }
     ensures { λ r. ⌜ (pos r ≡ pos U +ℤ cosine-by negℤ k (even-part (pos v -ℤ pos U)) (odd-part (pos v -ℤ pos U))) × (r ≤ 2000000000) ⌝ }
 {

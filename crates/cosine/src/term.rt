@@ -46,7 +46,7 @@ pub struct Worked {
 }
 
 // x + k, which is not negative.
-pub fn raised(x: i64, k: u64) -> u64
+fn raised(x: i64, k: u64) -> u64
     requires { ⌜ (natAbs x ≤ k) × (k < 2 ^ 62) ⌝ }
     ensures { λ r. ⌜ pos r ≡ x +ℤ pos k ⌝ }
 {
@@ -54,7 +54,7 @@ pub fn raised(x: i64, k: u64) -> u64
 }
 
 // g times T q + r, brought below T times the turn again.
-pub fn times(g: u64, q: u64, r: u64) -> Carried
+fn times(g: u64, q: u64, r: u64) -> Carried
     requires { ⌜ (g ≤ 32768) × (q < turn) × (r < millennium) ⌝ }
     ensures { λ z. ⌜ (z .q ≡ (g * q + g * r / millennium) % turn) × (z .r ≡ g * r % millennium) ⌝ }
 {
@@ -96,17 +96,7 @@ pub fn prepare(at: Instant) -> Prepared
 }
 
 // The sum of four products and a fifth number.
-pub fn combined(
-    g0: u64,
-    g1: u64,
-    g2: u64,
-    g3: u64,
-    x0: u64,
-    x1: u64,
-    x2: u64,
-    x3: u64,
-    x4: u64,
-) -> u64
+fn combined(g0: u64, g1: u64, g2: u64, g3: u64, x0: u64, x1: u64, x2: u64, x3: u64, x4: u64) -> u64
     requires { ⌜ (g0 < 32768) × (g1 < 32768) × (g2 < 32768) × (g3 < 32768) × (x0 < turn) × (x1 < turn) × (x2 < turn) × (x3 < turn) × (x4 ≤ 2 * turn) ⌝ }
     ensures { λ r. ⌜ (r ≡ g0 * x0 + g1 * x1 + g2 * x2 + g3 * x3 + x4) × (r < 9000000000000000000) ⌝ }
 {
@@ -114,7 +104,7 @@ pub fn combined(
 }
 
 // A term's angle, but for whole turns.
-pub fn angle(p: Prepared, b: u64, c: i64) -> u64
+fn angle(p: Prepared, b: u64, c: i64) -> u64
     requires { ⌜ Ready p × (b < b-limit) × (natAbs c < c-limit) ⌝ }
     ensures { λ r. ⌜ (modulo (pos r) turn ≡ term-angle b c (p .t)) × (r < 2 ^ 63) ⌝ }
 {
@@ -147,7 +137,7 @@ pub fn term_value(p: Prepared, a: i64, b: u64, c: i64) -> i64
 }
 
 // The amplitude with the sign of the quarter k.
-pub fn turned(a: i64, k: u64) -> i64
+fn turned(a: i64, k: u64) -> i64
     requires { ⌜ natAbs a < a-limit ⌝ }
     ensures { λ r. ⌜ (k < 2 → r ≡ a) × (2 ≤ k → r ≡ negℤ a) × (natAbs r ≡ natAbs a) ⌝ }
 {

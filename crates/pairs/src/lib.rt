@@ -72,7 +72,7 @@ fn odd_series_pair(y: Pair) -> Pair
 }
 
 // 10^9 more than the cosines at an even quarter, for the sign that the amplitude has.
-pub fn even_pair(v: Pair) -> Pair
+fn even_pair(v: Pair) -> Pair
     requires { ⌜ InRange (v .one) × InRange (v .two) ⌝ }
     ensures { λ r. ⌜ (pos (r .one) ≡ pos U +ℤ even-part (pos (v .one) -ℤ pos U)) × (pos (r .two) ≡ pos U +ℤ even-part (pos (v .two) -ℤ pos U)) × (r .one ≤ 2000000000) × (r .two ≤ 2000000000) ⌝ }
 {
@@ -92,7 +92,7 @@ fn odd_lifted(v: u64, h: u64) -> u64
 }
 
 // 10^9 more than the cosines at an odd quarter, for the sign that the amplitude has.
-pub fn odd_pair(v: Pair) -> Pair
+fn odd_pair(v: Pair) -> Pair
     requires { ⌜ InRange (v .one) × InRange (v .two) ⌝ }
     ensures { λ r. ⌜ (pos (r .one) ≡ pos U -ℤ odd-part (pos (v .one) -ℤ pos U)) × (pos (r .two) ≡ pos U -ℤ odd-part (pos (v .two) -ℤ pos U)) × (r .one ≤ 2000000000) × (r .two ≤ 2000000000) ⌝ }
 {

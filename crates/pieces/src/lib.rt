@@ -1,6 +1,7 @@
 // The sum of up to 256 terms. Their angles are worked out first, and each term is put into one of two tables by the parity of
 // its quarter; then each table is summed. So no branch hangs on a quarter, which is as good as random from term to term.
-// A table has one place more than a piece has terms: a term of amplitude 0 stands past the last one, for a last pair to end with.
+// A table has one place more than a piece has terms: a term of amplitude 0 stands past the last one, for a last pair to end
+// with. For the crates above.
 ghost use mathlib.Core.Path.{_≡_};
 ghost use Prim.Native.Nat.{_+_, _-_, _≤_, _<_};
 ghost use lib.ListN.{length};

@@ -41,7 +41,7 @@ fn piece_end(i: usize, to: usize) -> usize
 }
 
 // The sum of the terms from place from up to place to.
-pub fn sum_of(
+fn sum_of(
     p: Prepared,
     a: &[i64; 8192],
     b: &[u64; 8192],
@@ -102,7 +102,7 @@ fn with_block(
 }
 
 // V of the coordinate whose six blocks begin with block first.
-pub fn coordinate(
+fn coordinate(
     p: Prepared,
     a: &[i64; 8192],
     b: &[u64; 8192],

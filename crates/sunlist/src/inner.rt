@@ -48,14 +48,7 @@ fn separation(u: Vector, v: Vector) -> i64
 }
 
 // The figures of two usable places: e is Earth's, g the geocentric vector and d its length.
-fn figures(
-    planet: Coordinates,
-    earth: Coordinates,
-    e: Vector,
-    g: Vector,
-    d: u64,
-    k: u64,
-) -> Figures
+fn figures(planet: Coordinates, earth: Coordinates, e: Vector, g: Vector, d: u64, k: u64) -> Figures
     requires { ⌜ (k ≤ 2700) × (places-usable planet earth ≡ true) × (e ≡ place-of earth) × (g ≡ geocentric-of (place-of planet) (place-of earth)) × (d ≡ distance-of planet earth) ⌝ }
     ensures { λ r. ⌜ r ≡ figures-of k planet earth ⌝ }
 {
