@@ -1,4 +1,4 @@
--- What the quick way to read a term has read.
+-- What the quick way to read a term has read. Held by the code, no part of document 01.
 use mathlib.Core.Path.{_≡_}
 use mathlib.Core.List.{List}
 use Prim.Native.Nat.{ℕ, zero, suc, _+_, _*_, _-_, _^_, _≤_}
