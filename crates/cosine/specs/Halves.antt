@@ -5,6 +5,7 @@ use Rattle.integers.specs.Division.{rounded}
 use Rattle.units.specs.Units.{U}
 use Rattle.cosine.specs.Cosine.{even-part, odd-part}
 
+-- Its value at an even quarter, and at an odd one.
 unfoldable pub even-value : ℤ → ℕ → ℤ
 even-value a v = rounded (a *ℤ even-part (pos v -ℤ pos U)) U
 

@@ -1,4 +1,4 @@
-// The working cosine and sine of an angle that is not negative. All of these are for the crates above.
+// The working cosine and sine of an angle that is not negative. What is public is for this crate and those above.
 // The working angle w is held as v = w + 10^9, so that everything up to the answer is a natural number.
 ghost use mathlib.Core.Path.{_≡_};
 ghost use Prim.Native.Nat.{_*_, _<_, _≤_, _^_};
@@ -46,7 +46,7 @@ pub fn step(y: u64, h: u64, d: u64) -> u64
     1000000000 - (y * h + 500000000 * d) / (1000000000 * d)
 }
 
-// The first step, from h = U: y*h / (U*d) is y/d. The quotient of 32 bits is the short one.
+// The first step, from h = U: y*h / (U*d) is y/d, which fits 32 bits, where a quotient is quicker.
 pub fn first(y: u64, d: u64) -> u64
     requires { ⌜ (y ≤ 617000000) × (0 < d) × (d ≤ 156) ⌝ }
     ensures { λ r. ⌜ (pos r ≡ pos U -ℤ rounded (pos y *ℤ pos U) (U * d)) × (r ≤ 1000000000) ⌝ }
@@ -107,7 +107,7 @@ fn lifted(k: u64, v: u64, y: u64) -> u64
 }
 
 // 10^9 more than the cosine of an angle that is not negative, with no remainder by the turn.
-pub fn lifted_cosine(x: u64) -> u64
+fn lifted_cosine(x: u64) -> u64
     requires { ⌜ x < 2 ^ 63 ⌝ }
     ensures { λ r. ⌜ (pos r ≡ pos U +ℤ cosine (pos x)) × (r ≤ 2000000000) ⌝ }
 {

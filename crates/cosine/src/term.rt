@@ -1,4 +1,4 @@
-// A term of a series at an instant: its angle, its value. All of these are for the crates above.
+// A term of a series at an instant: its angle, its value. What is public is for the crates above.
 // Angles are worked modulo the turn while they are divided by T, so that no product passes 64 bits.
 ghost use mathlib.Core.Path.{_≡_};
 ghost use Prim.Native.Nat.{_+_, _*_, _/_, _%_, _<_, _≤_, _^_};
@@ -9,7 +9,6 @@ ghost use Rattle.cosine.specs.Halves.{half-value, InRange};
 ghost use Rattle.cosine.specs.Prepared.{Ready};
 ghost use Rattle.cosine.specs.Terms.{term-angle, term-value};
 use crate::inner::difference;
-use crate::inner::lifted_cosine;
 use crate::inner::offset;
 use crate::inner::quarters;
 use arith::signed::add;
@@ -33,7 +32,8 @@ pub struct Prepared {
     pub r4: u64,
 }
 
-pub struct Carried {
+// T q + r.
+struct Carried {
     pub q: u64,
     pub r: u64,
 }
@@ -128,15 +128,7 @@ pub fn scaled(a: i64, c: u64) -> i64
     difference(x + 10000000000000000, 10000000 * c + m)
 }
 
-// A term's value, by itself. The sum of a block works two terms at a time: the crate `pairs`.
-pub fn term_value(p: Prepared, a: i64, b: u64, c: i64) -> i64
-    requires { ⌜ Ready p × (natAbs a < a-limit) × (b < b-limit) × (natAbs c < c-limit) ⌝ }
-    ensures { λ r. ⌜ r ≡ term-value a b c (p .t) ⌝ }
-{
-    scaled(a, lifted_cosine(angle(p, b, c)))
-}
-
-// The amplitude with the sign of the quarter k.
+// The amplitude with the sign of the quarter k. Both values are cheap, so that the compiler chooses one without a jump.
 fn turned(a: i64, k: u64) -> i64
     requires { ⌜ natAbs a < a-limit ⌝ }
     ensures { λ r. ⌜ (k < 2 → r ≡ a) × (2 ≤ k → r ≡ negℤ a) × (natAbs r ≡ natAbs a) ⌝ }
@@ -144,7 +136,7 @@ fn turned(a: i64, k: u64) -> i64
     if k < 2 { a } else { sub(0, a) }
 }
 
-// A term with its angle worked out. With no branch on the quarter, which is as good as random from term to term.
+// A term with its angle worked out. Nothing here jumps on the quarter, which is as good as random from term to term.
 pub fn worked_term(p: Prepared, a: i64, b: u64, c: i64) -> Worked
     requires { ⌜ Ready p × (natAbs a < a-limit) × (b < b-limit) × (natAbs c < c-limit) ⌝ }
     ensures { λ r. ⌜ (half-value (r .odd) (r .a) (r .v) ≡ term-value a b c (p .t)) × (natAbs (r .a) ≡ natAbs a) × (r .odd ≤ 1) × InRange (r .v) ⌝ }

@@ -1,4 +1,5 @@
-// All of these are for the crates above.
+// The angle of a number of units, the direction and the latitude of a vector: document 01, "Places". What is public is for the
+// crates above.
 ghost use mathlib.Core.Path.{_≡_};
 ghost use Prim.Native.Nat.{_+_, _-_, _*_, _<_, _≤_, _^_};
 ghost use lib.IntN.{pos, natAbs, _+ℤ_, _*ℤ_};

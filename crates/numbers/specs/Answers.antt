@@ -1,5 +1,5 @@
 -- What the functions of this crate answer for what the definitions of Numbers read and write: the offset past it stands for the
--- bytes from there.
+-- bytes from there. Held by the code, no part of document 01.
 use mathlib.Core.Bool.{Bool, cond}
 use mathlib.Core.List.{List}
 use Prim.Native.Nat.{ℕ, _+_}

@@ -7,17 +7,17 @@ ghost use Prim.Native.Nat.{_+_, _<_, _≤_, _^_};
 ghost use Rattle.numbers.specs.Usual.{tops, Begun, Usual, UsualTerm};
 
 // What the bytes of the first groups come to, with their top bits; or that a group is the last.
-struct Run {
+struct Groups {
     sum: u64,
     usual: bool,
 }
 
-const NO_RUN: Run = Run {
+const NO_GROUPS: Groups = Groups {
     sum: 0,
     usual: false,
 };
 
-// A number and the offset past it; or that it has another length.
+// A number and the offset past it; or that it has another length or a last group of 0.
 struct Quick {
     v: u64,
     to: usize,
@@ -30,7 +30,7 @@ const NO_NUMBER: Quick = Quick {
     usual: false,
 };
 
-// A term as it is packed and the offset past it; or that one of its numbers has another length.
+// A term as it is packed and the offset past it; or that one of its numbers is not read so, or fewer than 24 bytes are left.
 pub struct QuickTerm {
     pub a: u64,
     pub b: u64,
@@ -65,8 +65,9 @@ fn byte_at(s: &[u8], i: usize) -> u64
     s[i] as u64
 }
 
-// Two groups more that are not the last, after k groups.
-fn two_more(s: &[u8], at: usize, k: usize, scale: u64, sum: u64) -> Run
+// Two groups more that are not the last, after k groups. Here and below the sums are worked before the tests, so that they need not
+// wait for them.
+fn two_more(s: &[u8], at: usize, k: usize, scale: u64, sum: u64) -> Groups
     requires { ⌜ Begun (now s) at k sum × (scale ≡ 128 ^ k) × (k ≤ 6) × (at + 8 ≤ length (now s)) ⌝ }
     ensures { λ r. ⌜ (r .usual ≡ true → Begun (now (s .entry)) at (k + 2) (r .sum)) ⌝ }
 {
@@ -74,12 +75,12 @@ fn two_more(s: &[u8], at: usize, k: usize, scale: u64, sum: u64) -> Run
     let y = byte_at(s, at + k + 1);
     let both = sum + x * scale + y * (128 * scale);
     if x < 128 {
-        return NO_RUN;
+        return NO_GROUPS;
     }
     if y < 128 {
-        return NO_RUN;
+        return NO_GROUPS;
     }
-    Run {
+    Groups {
         sum: both,
         usual: true,
     }
@@ -134,13 +135,13 @@ fn quick_a(s: &[u8], at: usize) -> Quick
 }
 
 // The first four groups of a number, none of them the last.
-fn first_four(s: &[u8], at: usize) -> Run
+fn first_four(s: &[u8], at: usize) -> Groups
     requires { ⌜ at + 8 ≤ length (now s) ⌝ }
     ensures { λ r. ⌜ (r .usual ≡ true → Begun (now (s .entry)) at 4 (r .sum)) ⌝ }
 {
     let two = two_more(s, at, 0, 1, 0);
     if !two.usual {
-        return NO_RUN;
+        return NO_GROUPS;
     }
     two_more(s, at, 2, SCALE_2, two.sum)
 }

@@ -1,8 +1,8 @@
 // Nutation and obliquity at an instant: document 01, "Places".
 pub mod inner;
-pub mod moon;
-pub mod polynomial;
-pub mod rows;
+mod moon;
+mod polynomial;
+mod rows;
 
 // D, M, M', F and the longitude of the node, each less its whole turns, in 10^-8 arcsecond.
 pub struct Arguments {

@@ -1,4 +1,4 @@
-// The five arguments at t milliseconds. For this crate and those above.
+// The five arguments at t milliseconds. For this crate alone.
 ghost use mathlib.Core.Path.{_≡_};
 ghost use mathlib.Core.List.{[], _∷_};
 ghost use Prim.Native.Nat.{_-_, _<_, _≤_, _^_};

@@ -1,4 +1,4 @@
-// Polynomials in the time, highest power first, each product rounded. For this crate and those above.
+// Polynomials in the time, highest power first, each product rounded. For this crate alone.
 ghost use mathlib.Core.Path.{_≡_};
 ghost use mathlib.Core.List.{[], _∷_};
 ghost use Prim.Native.Nat.{_+_, _-_, _*_, _<_, _^_};

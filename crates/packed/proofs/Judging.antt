@@ -1,6 +1,6 @@
 -- The numbers of a term, each case of its judgement. Assumes nothing.
 use mathlib.Core.Path.{_≡_, refl}
-use mathlib.Core.Bool.{Bool, true, false, cond, _&&_, false≢true}
+use mathlib.Core.Bool.{Bool, true, false, cond}
 use mathlib.Core.List.{List}
 use Prim.Native.Nat.{ℕ, _+_, _*_, _-_, _≤_, _<_}
 use native.Mathlib.Nat.{mul-le-mul, le-refl}
@@ -9,13 +9,14 @@ use native.Mathlib.Omega.{arith}
 use borrow.Author.Tests.{lt-ltb, le-ltb, lt-leb, le-leb, eq-eqb, ne-eqb}
 use lib.IntN.{ℤ, natAbs}
 use lib.ListN.{drop}
+use Rattle.integers.proofs.Tests.{both}
 use Rattle.units.specs.Units.{U, a-limit, b-limit, c-limit}
 use Rattle.units.specs.declared.Refusal.{Refusal}
 use Rattle.units.specs.declared.Refusal.the-variants.{OverLimit, TotalOverLimit, TooCoarse}
 use Rattle.numbers.specs.Numbers.{Read, got, bad, next, number, unfolded}
 use Rattle.numbers.proofs.Reading.{After, moved, stopped, cond-after, next-after, number-after, later}
 use Rattle.packed.specs.declared.Sums.{Sums}
-use Rattle.packed.specs.Limits.{total-limit, coarse-limit, coarse-share, constant, weight, a-fits, b-fits, c-fits, total-fits, coarse-fits, term-fits}
+use Rattle.packed.specs.Limits.{total-limit, coarse-limit, coarse-share, constant, weight, a-fits, b-fits, c-fits, total-fits, coarse-fits, term-may-come}
 use Rattle.packed.specs.Series.{judged, read-a, read-b, read-c, read-term}
 use Rattle.packed.specs.Answers.{term-of}
 
@@ -150,15 +151,11 @@ module _ (f : ℕ) (s : Sums) (at : ℕ) (x : List ℕ) where
       term-got c last rest e = rw (ea, eb, e)
 
   -- All tests at once.
-  pub term-fit : (a to : ℕ) (y : List ℕ) → number at x ≡ got a to y → (b end : ℕ) (z : List ℕ) → number to y ≡ got b end z → (c last : ℕ) (rest : List ℕ) → number end z ≡ got c last rest → term-fits f s (term-of a b c) ≡ true → read-term f s at x ≡ got (term-of a b c) last rest
-  unfolding read-term read-a read-b read-c next judged term-fits
+  pub term-fit : (a to : ℕ) (y : List ℕ) → number at x ≡ got a to y → (b end : ℕ) (z : List ℕ) → number to y ≡ got b end z → (c last : ℕ) (rest : List ℕ) → number end z ≡ got c last rest → term-may-come f s (term-of a b c) ≡ true → read-term f s at x ≡ got (term-of a b c) last rest
+  unfolding read-term read-a read-b read-c next judged term-may-come
   term-fit a to y ea b end z eb c last rest ec fit =
       let p = both (a-fits (unfolded a)) _ fit in
       let q = both (total-fits s (unfolded a)) _ (p .1) in
       let r = both (b-fits b) _ (q .1) in
       let t = both (c-fits (unfolded c)) _ (r .1) in
       rw (ea, p .0, q .0, eb, r .0, ec, t .0, t .1)
-    where
-      both : (p q : Bool) → (p && q) ≡ true → (p ≡ true) × (q ≡ true)
-      both true q e = (refl, e)
-      both false q e = absurd (false≢true e)

@@ -1,5 +1,5 @@
 -- What the functions of this crate answer for what the definitions of Series read: the offset past it stands for the bytes from
--- there.
+-- there. Held by the code, no part of document 01.
 use mathlib.Core.Path.{_≡_}
 use mathlib.Core.List.{List, _++_, map}
 use Prim.Native.Nat.{ℕ, _+_}

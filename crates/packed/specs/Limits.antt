@@ -93,6 +93,6 @@ unfoldable pub coarse-fits : ℕ → Sums → ℤ → ℕ → ℤ → Bool
 coarse-fits f s a b c = leb (s .coarse + weight f a b c) coarse-limit
 
 -- All of that: a term may come.
-unfoldable pub term-fits : ℕ → Sums → Term → Bool
-term-fits f s t =
+unfoldable pub term-may-come : ℕ → Sums → Term → Bool
+term-may-come f s t =
     a-fits (t .a) && (total-fits s (t .a) && (b-fits (t .b) && (c-fits (t .c) && coarse-fits f s (t .a) (t .b) (t .c))))

@@ -1,4 +1,5 @@
--- A term table: the numbers a, b, c of all terms in order, and for each block the place where it ends.
+-- A term table: the numbers a, b, c of all terms in order, and for each block the place where it ends. Held by the code, no part of
+-- document 01.
 use mathlib.Core.Path.{_≡_}
 use mathlib.Core.List.{List, [], _∷_}
 use Prim.Native.Nat.{ℕ, zero, suc, _+_, _-_}

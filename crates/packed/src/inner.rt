@@ -14,7 +14,7 @@ ghost use Prim.Native.Nat.{_+_, _-_, _<_, _≤_};
 ghost use Rattle.units.specs.Units.{a-limit};
 ghost use Rattle.numbers.specs.Numbers.{folded, unfolded};
 ghost use Rattle.numbers.specs.Answers.{shown, plain, at-offset};
-ghost use Rattle.packed.specs.Limits.{total-limit, coarse-limit, series-limit, block-count, factor, weight, added, opened, term-fits};
+ghost use Rattle.packed.specs.Limits.{total-limit, coarse-limit, series-limit, block-count, factor, weight, added, opened, term-may-come};
 ghost use Rattle.packed.specs.Series.{read-a, read-b, read-c, read-term, read-terms, summed, read-block, after-block, parse, checked};
 ghost use Rattle.packed.specs.Tables.{Sized, unpacked};
 ghost use Rattle.packed.specs.Answers.{shown-term, term-of, walked, Stored, Filled};
@@ -130,9 +130,9 @@ fn read_term_slowly(bytes: &[u8], at: usize, f: u64, sums: Sums) -> TermRead
 }
 
 // A term may come after these sums, in a block with this factor.
-fn term_fits(f: u64, sums: Sums, a: u64, b: u64, c: u64) -> bool
+fn term_may_come(f: u64, sums: Sums, a: u64, b: u64, c: u64) -> bool
     requires { ⌜ (f ≤ 32) × (sums .total ≤ total-limit) × (sums .coarse ≤ coarse-limit) ⌝ }
-    ensures { λ r. ⌜ r ≡ term-fits f sums (term-of a b c) ⌝ }
+    ensures { λ r. ⌜ r ≡ term-may-come f sums (term-of a b c) ⌝ }
 {
     let total = sums.total;
     let coarse = sums.coarse;
@@ -155,15 +155,15 @@ fn term_fits(f: u64, sums: Sums, a: u64, b: u64, c: u64) -> bool
     true
 }
 
-// The term at an offset, in a block with this factor, after these sums. The answer of the slow way is made anew, so that
-// the quick one need not be in memory.
+// The term at an offset, in a block with this factor, after these sums. The slow way's answer is taken
+// apart and made again, so that the compiler need not keep the quick way's in memory.
 fn read_term_at(bytes: &[u8], at: usize, f: u64, sums: Sums) -> TermRead
     requires { ⌜ (f ≤ 32) × (sums .total ≤ total-limit) × (sums .coarse ≤ coarse-limit) ⌝ }
     ensures { λ r. ⌜ r ≡ shown-term (at-offset (read-term f sums) at (now (bytes .entry))) ⌝ }
 {
     let q = quick_term(bytes, at);
     if q.usual {
-        if term_fits(f, sums, q.a, q.b, q.c) {
+        if term_may_come(f, sums, q.a, q.b, q.c) {
             return TermRead::Found(q.a, q.b, q.c, q.to);
         }
     }

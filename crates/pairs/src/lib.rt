@@ -12,6 +12,7 @@ use cosine::inner::square;
 use cosine::inner::step;
 use cosine::term::scaled;
 
+// A number for each lane.
 pub struct Pair {
     pub one: u64,
     pub two: u64,
@@ -71,7 +72,7 @@ fn odd_series_pair(y: Pair) -> Pair
     step_pair(y, h2, 6)
 }
 
-// 10^9 more than the cosines at an even quarter, for the sign that the amplitude has.
+// 10^9 more than the even parts, the cosines at quarter 0; the sign of quarter 2 is on the amplitude.
 fn even_pair(v: Pair) -> Pair
     requires { ⌜ InRange (v .one) × InRange (v .two) ⌝ }
     ensures { λ r. ⌜ (pos (r .one) ≡ pos U +ℤ even-part (pos (v .one) -ℤ pos U)) × (pos (r .two) ≡ pos U +ℤ even-part (pos (v .two) -ℤ pos U)) × (r .one ≤ 2000000000) × (r .two ≤ 2000000000) ⌝ }
@@ -91,7 +92,7 @@ fn odd_lifted(v: u64, h: u64) -> u64
     1000000000 + h - (v * h + 500000000) / 1000000000
 }
 
-// 10^9 more than the cosines at an odd quarter, for the sign that the amplitude has.
+// 10^9 less the odd parts, 10^9 more than the cosines at quarter 1; the sign of quarter 3 is on the amplitude.
 fn odd_pair(v: Pair) -> Pair
     requires { ⌜ InRange (v .one) × InRange (v .two) ⌝ }
     ensures { λ r. ⌜ (pos (r .one) ≡ pos U -ℤ odd-part (pos (v .one) -ℤ pos U)) × (pos (r .two) ≡ pos U -ℤ odd-part (pos (v .two) -ℤ pos U)) × (r .one ≤ 2000000000) × (r .two ≤ 2000000000) ⌝ }
@@ -104,25 +105,25 @@ fn odd_pair(v: Pair) -> Pair
 }
 
 // The sum of two rounded a c / U, for cosines that are 10^9 too great.
-fn scaled_pair(a: i64, b: i64, c: Pair) -> i64
-    requires { ⌜ (natAbs a < a-limit) × (natAbs b < a-limit) × (c .one ≤ 2000000000) × (c .two ≤ 2000000000) ⌝ }
-    ensures { λ r. ⌜ r ≡ rounded (a *ℤ (pos (c .one) -ℤ pos U)) U +ℤ rounded (b *ℤ (pos (c .two) -ℤ pos U)) U ⌝ }
+fn scaled_pair(a1: i64, a2: i64, c: Pair) -> i64
+    requires { ⌜ (natAbs a1 < a-limit) × (natAbs a2 < a-limit) × (c .one ≤ 2000000000) × (c .two ≤ 2000000000) ⌝ }
+    ensures { λ r. ⌜ r ≡ rounded (a1 *ℤ (pos (c .one) -ℤ pos U)) U +ℤ rounded (a2 *ℤ (pos (c .two) -ℤ pos U)) U ⌝ }
 {
-    add(scaled(a, c.one), scaled(b, c.two))
+    add(scaled(a1, c.one), scaled(a2, c.two))
 }
 
 // The sum of two terms' values, both at an even quarter.
-pub fn even_values(a: i64, b: i64, v: Pair) -> i64
-    requires { ⌜ (natAbs a < a-limit) × (natAbs b < a-limit) × InRange (v .one) × InRange (v .two) ⌝ }
-    ensures { λ r. ⌜ r ≡ even-value a (v .one) +ℤ even-value b (v .two) ⌝ }
+pub fn even_values(a1: i64, a2: i64, v: Pair) -> i64
+    requires { ⌜ (natAbs a1 < a-limit) × (natAbs a2 < a-limit) × InRange (v .one) × InRange (v .two) ⌝ }
+    ensures { λ r. ⌜ r ≡ even-value a1 (v .one) +ℤ even-value a2 (v .two) ⌝ }
 {
-    scaled_pair(a, b, even_pair(v))
+    scaled_pair(a1, a2, even_pair(v))
 }
 
 // The same, both at an odd quarter.
-pub fn odd_values(a: i64, b: i64, v: Pair) -> i64
-    requires { ⌜ (natAbs a < a-limit) × (natAbs b < a-limit) × InRange (v .one) × InRange (v .two) ⌝ }
-    ensures { λ r. ⌜ r ≡ odd-value a (v .one) +ℤ odd-value b (v .two) ⌝ }
+pub fn odd_values(a1: i64, a2: i64, v: Pair) -> i64
+    requires { ⌜ (natAbs a1 < a-limit) × (natAbs a2 < a-limit) × InRange (v .one) × InRange (v .two) ⌝ }
+    ensures { λ r. ⌜ r ≡ odd-value a1 (v .one) +ℤ odd-value a2 (v .two) ⌝ }
 {
-    scaled_pair(a, b, odd_pair(v))
+    scaled_pair(a1, a2, odd_pair(v))
 }

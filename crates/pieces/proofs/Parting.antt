@@ -19,7 +19,7 @@ use Rattle.packed.specs.Allowed.{BlockFits}
 use Rattle.packed.specs.Tables.{terms-at}
 use Rattle.pieces.specs.declared.Counts.{Counts}
 use Rattle.pieces.specs.Sums.{block-sum}
-use Rattle.pieces.specs.Parted.{piece-limit, room, half-sum, Put, Small, Half, Parted}
+use Rattle.pieces.specs.Parted.{piece-limit, room, half-sum, PutInBoth, Small, Half, Parted}
 use Rattle.pieces.proofs.Adding.{cells-fit, cells-are}
 use Rattle.pieces.proofs.Filling.{sum-same, half-none, half-less, half-same, sum-stored, half-more, half-closed, half-below}
 use Rattle.pieces.proofs.Sizes.{no-share}
@@ -126,7 +126,7 @@ module _ {t : ℤ} {la : List ℤ} {lb : List ℕ} {lc : List ℤ} {from to : �
         short = p .short;
       }
 
-      pub partly-more : {ea′ : List ℤ} {ev′ : List ℕ} {oa′ : List ℤ} {ov′ : List ℕ} {r : Counts} → Put w n ea ev oa ov ea′ ev′ oa′ ov′ r → Partly t la lb lc from to ea′ ev′ oa′ ov′ r (i + 1)
+      pub partly-more : {ea′ : List ℤ} {ev′ : List ℕ} {oa′ : List ℤ} {ov′ : List ℕ} {r : Counts} → PutInBoth w n ea ev oa ov ea′ ev′ oa′ ov′ r → Partly t la lb lc from to ea′ ev′ oa′ ov′ r (i + 1)
       partly-more q = rw (q .evens-a, q .evens-v, q .odds-a, q .odds-v, q .count) moved
 
     ended : to ≤ i → Parted t (terms-at la lb lc from (to - from)) (set ea (n .evens) (pos 0)) (set ev (n .evens) U) (set oa (n .odds) (pos 0)) (set ov (n .odds) U) n
@@ -136,7 +136,7 @@ module _ {t : ℤ} {la : List ℤ} {lb : List ℕ} {lc : List ℤ} {from to : �
       sum = ap₂ _+ℤ_ (same-evens (p .holding) evens-free odds-free (pos 0) U) (same-odds (p .holding) evens-free odds-free (pos 0) U) ∙ p .holding .sum ∙ summed-all (p .summed) h;
     }
 
-    pub partly-all : to ≤ i → {ea′ : List ℤ} {ev′ : List ℕ} {oa′ : List ℤ} {ov′ : List ℕ} {r : Counts} → Put (record { a = pos 0; v = U; odd = 0 }) n ea ev oa ov ea′ ev′ oa′ ov′ r → Parted t (terms-at la lb lc from (to - from)) ea′ ev′ oa′ ov′ n
+    pub partly-all : to ≤ i → {ea′ : List ℤ} {ev′ : List ℕ} {oa′ : List ℤ} {ov′ : List ℕ} {r : Counts} → PutInBoth (record { a = pos 0; v = U; odd = 0 }) n ea ev oa ov ea′ ev′ oa′ ov′ r → Parted t (terms-at la lb lc from (to - from)) ea′ ev′ oa′ ov′ n
     partly-all h q = rw (q .evens-a, q .evens-v, q .odds-a, q .odds-v) (ended h)
 
 -- ---- the sum of both tables

@@ -6,12 +6,12 @@ use native.Mathlib.Omega.{arith}
 use lib.IntN.{ℤ, pos, natAbs, _*ℤ_, zero-*ℤ}
 use Rattle.integers.specs.Division.{rounded}
 use Rattle.integers.proofs.Rounding.{rounded-zero}
-use Rattle.integers.proofs.Order.{natAbs-+, natAbs-le}
+use Rattle.integers.proofs.Order.{natAbs-+}
 use Rattle.arith.proofs.Ranges.{scaled-within}
 use Rattle.units.specs.Units.{U}
 use Rattle.cosine.specs.Cosine.{cosine}
 use Rattle.cosine.specs.Terms.{term-angle, term-cosine, term-value}
-use Rattle.cosine.proofs.Ranges.{cosine-range}
+use Rattle.cosine.proofs.Ranges.{cosine-size}
 use Rattle.packed.specs.declared.Term.{Term}
 use Rattle.packed.specs.Allowed.{total-of}
 use Rattle.pieces.specs.Sums.{block-sum}
@@ -22,9 +22,7 @@ no-share z d h = ap (λ (x : ℤ). rounded x d) (zero-*ℤ z) ∙ rounded-zero d
 
 pub value-size : (a : ℤ) (b : ℕ) (c t : ℤ) → natAbs (term-value a b c t) ≤ natAbs a
 unfolding term-value term-cosine
-value-size a b c t =
-    let r = cosine-range (pos (term-angle b c t)) in
-    scaled-within a (cosine (pos (term-angle b c t))) U (natAbs a) (omega arith) (omega arith) (natAbs-le (cosine (pos (term-angle b c t))) U (r .least) (r .most))
+value-size a b c t = scaled-within a (cosine (pos (term-angle b c t))) U (natAbs a) (omega arith) (omega arith) (cosine-size (pos (term-angle b c t)))
 
 pub block-size : (t : ℤ) (xs : List Term) → natAbs (block-sum t xs) ≤ total-of xs
 unfolding block-sum total-of

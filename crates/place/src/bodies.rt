@@ -1,4 +1,4 @@
-// From two packed series to the sight that an apparent place is made of. For this crate and those above.
+// From two packed series to the sight that an apparent place is made of. For this crate alone.
 ghost use mathlib.Core.Path.{_≡_};
 ghost use Prim.Native.Nat.{_≤_};
 ghost use lib.IntN.{natAbs};

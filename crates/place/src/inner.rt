@@ -1,4 +1,4 @@
-// The steps to an apparent place. For this crate and those above.
+// The steps to an apparent place. For this crate alone.
 ghost use mathlib.Core.Path.{_≡_};
 ghost use Prim.Native.Nat.{_<_, _≤_, _^_};
 ghost use lib.IntN.{pos, natAbs};

@@ -3,9 +3,9 @@ ghost use mathlib.Core.Path.{_≡_};
 ghost use Rattle.place.specs.Place.{place-answer};
 ghost use Rattle.place.specs.Mount.{mount-answer};
 
-pub mod bodies;
+mod bodies;
 mod doubles;
-pub mod inner;
+mod inner;
 
 use crate::bodies::sighting;
 use crate::doubles::figures;

@@ -1,4 +1,4 @@
-// One minute decided. For the list and for the crates above.
+// One minute decided. For list.rt.
 ghost use mathlib.Core.Path.{_≡_};
 ghost use mathlib.Core.Bool.{true};
 ghost use Prim.Native.Nat.{_≤_, _<_, _^_};

@@ -3,7 +3,7 @@ ghost use mathlib.Core.Path.{_≡_};
 ghost use lib.ListN.{length};
 ghost use Rattle.sunlist.specs.SunList.{sun-list, sun-list-out};
 
-pub mod inner;
+mod inner;
 mod list;
 mod window;
 

@@ -9,13 +9,13 @@ use Rattle.packed.proofs.inner.read_term_at.Tie as tie
 quick-term-requires : tie.Need-quick-term-requires
 quick-term-requires c κs = search needs
 
-term-fits-requires : tie.Need-term-fits-requires
-term-fits-requires c κs = search needs
+term-may-come-requires : tie.Need-term-may-come-requires
+term-may-come-requires c κs = search needs
 
 returns : tie.Need-returns
 returns c =
     let u = c .before .before .before .quick-term .ensures (c .before .before .if1 .taken) in
-    show-found (term-fit _ _ _ _ _ _ _ (u .read-a) _ _ _ (u .read-b) _ _ _ (u .read-c) (sym (c .before .term-fits .ensures) ∙ c .if2 .taken))
+    show-found (term-fit _ _ _ _ _ _ _ (u .read-a) _ _ _ (u .read-b) _ _ _ (u .read-c) (sym (c .before .term-may-come .ensures) ∙ c .if2 .taken))
 
 read-term-slowly-requires : tie.Need-read-term-slowly-requires
 read-term-slowly-requires c κs = search needs
@@ -37,7 +37,7 @@ read-term-at-spec =
     tie.close
     (tie.spec
     quick-term-requires
-    term-fits-requires
+    term-may-come-requires
     returns
     read-term-slowly-requires
     enum-known-t
