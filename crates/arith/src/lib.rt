@@ -3,5 +3,5 @@ pub mod compare;
 pub mod muldiv;
 pub mod residue;
 pub mod root;
-pub mod round;
+mod round;
 pub mod signed;

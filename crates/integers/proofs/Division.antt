@@ -108,11 +108,6 @@ sgn-natAbs (negsuc n) = refl
 pub rounded-by : (z : ℤ) (d : ℕ) → 0 < d → rounded z d ≡ sgn (negative z) (near (negative z) (natAbs z) d)
 rounded-by z d h = ap (λ t. rounded t d) (sym (sgn-natAbs z)) ∙ rounded-near (negative z) (natAbs z) d h
 
--- from the sign, and the quotient and remainder of the magnitude
-pub rounded-of : (n : ℤ) (d q r z : ℕ) (s : Bool) → 0 < d → s ≡ negative n → q * d + r ≡ natAbs n → z ≡ near s (q * d + r) d → sgn s z ≡ rounded n d
-rounded-of n d q r z s h e m p =
-    ap (λ t. sgn s t) (p ∙ ap (λ t. near s t d) m) ∙ ap (λ t. sgn t (near t (natAbs n) d)) e ∙ sym (rounded-by n d h)
-
 div-below : (n d k : ℕ) → n < d * (k + 1) → n / d ≤ k
 div-below n d k u =
     let e = div-add-mod n d in

@@ -155,8 +155,8 @@ fn term_may_come(f: u64, sums: Sums, a: u64, b: u64, c: u64) -> bool
     true
 }
 
-// The term at an offset, in a block with this factor, after these sums. The slow way's answer is taken
-// apart and made again, so that the compiler need not keep the quick way's in memory.
+// The term at an offset, in a block with this factor, after these sums. The slow way's answer is taken apart and made again,
+// so that the compiler need not keep the quick way's in memory.
 fn read_term_at(bytes: &[u8], at: usize, f: u64, sums: Sums) -> TermRead
     requires { ⌜ (f ≤ 32) × (sums .total ≤ total-limit) × (sums .coarse ≤ coarse-limit) ⌝ }
     ensures { λ r. ⌜ r ≡ shown-term (at-offset (read-term f sums) at (now (bytes .entry))) ⌝ }
