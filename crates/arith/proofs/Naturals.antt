@@ -1,27 +1,27 @@
--- What `naturalOr` gives, and what it tells of its number. Assumes nothing.
+-- What `natural-or` gives, and what it tells of its number. Assumes nothing.
 use mathlib.Core.Path.{_≡_, refl}
 use mathlib.Core.Bool.{true}
 use Prim.Native.Nat.{ℕ}
 use lib.IntN.{ℤ, pos, negsuc}
 use Rattle.integers.specs.Signs.{negative}
 use Rattle.integers.proofs.Tests.{false-true}
-use Rattle.arith.specs.Signed.{naturalOr}
+use Rattle.arith.specs.machine.Signed.{natural-or}
 
-pub natural-of-negative : (x : ℤ) (other : ℕ) → negative x ≡ true → naturalOr x other ≡ other
-unfolding naturalOr negative
+pub natural-of-negative : (x : ℤ) (other : ℕ) → negative x ≡ true → natural-or x other ≡ other
+unfolding natural-or negative
 natural-of-negative (negsuc n) other e = refl
 natural-of-negative (pos n) other e = absurd (false-true e)
 
-pub natural-of-pos : (n other : ℕ) → naturalOr (pos n) other ≡ n
-unfolding naturalOr
+pub natural-of-pos : (n other : ℕ) → natural-or (pos n) other ≡ n
+unfolding natural-or
 natural-of-pos n other = refl
 
-pub natural-of-negsuc : (n other : ℕ) → naturalOr (negsuc n) other ≡ other
-unfolding naturalOr
+pub natural-of-negsuc : (n other : ℕ) → natural-or (negsuc n) other ≡ other
+unfolding natural-or
 natural-of-negsuc n other = refl
 
 -- a value other than `other` is the number's own
-pub natural-back : (x : ℤ) (other : ℕ) → (naturalOr x other ≡ other → ⊥) → pos (naturalOr x other) ≡ x
-unfolding naturalOr
+pub natural-back : (x : ℤ) (other : ℕ) → (natural-or x other ≡ other → ⊥) → pos (natural-or x other) ≡ x
+unfolding natural-or
 natural-back (pos n) other f = refl
 natural-back (negsuc n) other f = absurd (f refl)

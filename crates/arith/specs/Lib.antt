@@ -1,2 +1,2 @@
 -- What the contracts cite is in the crate `integers`, but for this.
-pub mod Signed
+pub mod machine

@@ -8,7 +8,7 @@ ghost use lib.Signed.{_≤ℤ_};
 ghost use mir.Syntax.{w64};
 ghost use mir.Val.{SFits};
 ghost use Rattle.integers.specs.Signs.{negative, sgn, differ};
-ghost use Rattle.arith.specs.Signed.{naturalOr};
+ghost use Rattle.arith.specs.machine.Signed.{natural-or};
 
 pub fn add(a: i64, b: i64) -> i64
     requires { ⌜ SFits w64 (a +ℤ b) ⌝ }
@@ -85,7 +85,7 @@ pub fn signs_differ(a: i64, b: i64) -> bool
 
 // x where it is not negative, else `other`: a number that the caller's test of the range refuses.
 pub fn natural_or(x: i64, other: u64) -> u64
-    ensures { λ r. ⌜ r ≡ naturalOr x other ⌝ }
+    ensures { λ r. ⌜ r ≡ natural-or x other ⌝ }
 {
     if is_neg(x) {
         return other;

@@ -14,9 +14,9 @@ use Rattle.integers.proofs.Division.{floor-is, modulo-is}
 use Rattle.units.specs.Units.{in-limit}
 use Rattle.units.specs.declared.Instant.{Instant}
 use Rattle.units.specs.declared.Refusal.the-variants.{NoSuchDate, PastLimit}
-use Rattle.arith.specs.Signed.{naturalOr}
+use Rattle.arith.specs.machine.Signed.{natural-or}
 use Rattle.calendar.specs.Calendar.{between, first-bad, first-bad-of-four, noon-number, day-of-date, instant, instant-of-date, day-of-instant, ms-of-instant, date-of-instant}
-use Rattle.calendar.specs.Shifted.{date-at, plain}
+use Rattle.calendar.specs.machine.Shifted.{date-at, plain}
 use Rattle.calendar.specs.declared.Date.{Date}
 use Rattle.calendar.specs.declared.DayAnswer.the-variants.{Day, NoDay}
 use Rattle.calendar.specs.declared.InstantAnswer.the-variants.{At, NoInstant}
@@ -39,7 +39,7 @@ module _ (y m d : ℤ) (bad : ℕ) (e : bad ≡ first-bad y m d) where
   unfolding first-bad-of-four
   four-date ms h = rw (← e, ne-eqb bad 0 h)
 
-  pub four-ms : (ms : ℤ) (k : ℕ) → bad ≡ 0 → k ≡ naturalOr ms 86400000 → 86399999 < k → 4 ≡ first-bad-of-four y m d ms
+  pub four-ms : (ms : ℤ) (k : ℕ) → bad ≡ 0 → k ≡ natural-or ms 86400000 → 86399999 < k → 4 ≡ first-bad-of-four y m d ms
   unfolding first-bad-of-four
   four-ms ms k h f l = rw (← e, eq-eqb bad 0 h) (go (upto ms 86399999))
     where
@@ -47,7 +47,7 @@ module _ (y m d : ℤ) (bad : ℕ) (e : bad ≡ first-bad y m d) where
       go (outside g b) = rw b
       go (inside n p q r b) = absurd (omega (arith, r 86400000))
 
-  pub four-none : (ms : ℤ) (k : ℕ) → bad ≡ 0 → k ≡ naturalOr ms 86400000 → k ≤ 86399999 → 0 ≡ first-bad-of-four y m d ms
+  pub four-none : (ms : ℤ) (k : ℕ) → bad ≡ 0 → k ≡ natural-or ms 86400000 → k ≤ 86399999 → 0 ≡ first-bad-of-four y m d ms
   unfolding first-bad-of-four
   four-none ms k h f l = rw (← e, eq-eqb bad 0 h) (go (upto ms 86399999))
     where
@@ -61,7 +61,7 @@ pub record Fields (y m d ms : ℤ) : Type 0 where
   pub k : ℕ
   pub ms-is : ms ≡ pos k
   pub small : k < 86400000
-  pub natural : (o : ℕ) → naturalOr ms o ≡ k
+  pub natural : (o : ℕ) → natural-or ms o ≡ k
 
 pub fields : (y m d ms : ℤ) → first-bad-of-four y m d ms ≡ 0 → Fields y m d ms
 unfolding first-bad-of-four
@@ -83,7 +83,7 @@ module _ (y m d ms : ℤ) (bad : ℕ) (e : bad ≡ first-bad-of-four y m d ms) w
   unfolding instant-of-date
   instant-refused h = rw (← e, ne-eqb bad 0 h)
 
-  module _ (h : bad ≡ 0) (n k : ℕ) (f : pos n ≡ noon-number y m d) (g : k ≡ naturalOr ms 0) (t : ℤ) (i : t ≡ instant (pos n) (pos k)) (a : ℕ) (j : a ≡ natAbs t) where
+  module _ (h : bad ≡ 0) (n k : ℕ) (f : pos n ≡ noon-number y m d) (g : k ≡ natural-or ms 0) (t : ℤ) (i : t ≡ instant (pos n) (pos k)) (a : ℕ) (j : a ≡ natAbs t) where
     known : t ≡ instant (noon-number y m d) ms
     known =
         let r = fields y m d ms (sym e ∙ h) in

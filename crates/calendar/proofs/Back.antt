@@ -5,7 +5,7 @@ use Prim.Native.Nat.{ℕ, _+_, _*_, _/_, _%_, _-_, _≤_, _<_}
 use native.Mathlib.Decide.{decLe, ℕ-discrete}
 use native.Mathlib.Omega.{arith}
 use borrow.Author.Tests.{lt-ltb, le-ltb}
-use Rattle.calendar.specs.Shifted.{leap-day, month-days, key, Sound, march-year, march-month, julian, with-beta, noon, century, julian-count, year-of, day-of, month-of, from-march, date-at}
+use Rattle.calendar.specs.machine.Shifted.{leap-day, month-days, key, Sound, march-year, march-month, julian, with-beta, noon, century, julian-count, year-of, day-of, month-of, from-march, date-at}
 use Rattle.calendar.proofs.Facts.{Leap, not4, old, plain, cent, quad, leap, february, other, sound}
 use Rattle.calendar.proofs.Round.{F, Y, C, Y-is, C-is, month-part, slot-len}
 

@@ -11,10 +11,10 @@ use Rattle.units.specs.Units.{in-limit}
 use Rattle.units.specs.declared.Instant.{Instant}
 use Rattle.units.specs.declared.Refusal.{Refusal}
 use Rattle.units.specs.declared.Refusal.the-variants.{NoSuchDate, PastLimit}
-use Rattle.arith.specs.Signed.{naturalOr}
+use Rattle.arith.specs.machine.Signed.{natural-or}
 use Rattle.arith.proofs.Naturals.{natural-back as field-back}
 use Rattle.calendar.specs.Calendar.{between, first-bad, first-bad-of-four, noon-number, day-of-date, date-of-day, instant, limited, instant-of-date, day-of-instant, ms-of-instant, date-of-instant}
-use Rattle.calendar.specs.Shifted.{year-index, bad-field, Sound, noon, date-at, plain}
+use Rattle.calendar.specs.machine.Shifted.{year-index, bad-field, Sound, noon, date-at, plain}
 use Rattle.calendar.specs.declared.Date.{Date}
 use Rattle.calendar.specs.declared.Shifted.{Shifted}
 use Rattle.calendar.specs.declared.DayAnswer.the-variants.{Day, NoDay}
@@ -55,14 +55,14 @@ module _ (y m d : ℤ) (e : first-bad y m d ≡ 0) where
   year-back : pos (year-index y) -ℤ pos 4716 ≡ y
   year-back = go (year-of-index y)
     where
-      o : Ok (year-index y) (naturalOr m 0) (naturalOr d 0)
+      o : Ok (year-index y) (natural-or m 0) (natural-or d 0)
       o = ok _ _ _ (sound-of y m d e)
 
       go : Year y → pos (year-index y) -ℤ pos 4716 ≡ y
       go (year c f p q i k) = rw f (same (nat c -ᵢ nat 4716) i (omega arith))
       go (missing f k) = absurd (omega (arith, o .least))
 
-  pub plain-back : plain (date-at (noon (year-index y) (naturalOr m 0) (naturalOr d 0))) ≡ date y m d
+  pub plain-back : plain (date-at (noon (year-index y) (natural-or m 0) (natural-or d 0))) ≡ date y m d
   plain-back =
       let s = sound-of y m d e in
       let o = ok _ _ _ s in
@@ -77,7 +77,7 @@ module _ (s : Shifted) (p : Sound (s .index) (s .month) (s .day)) where
   year-is = is-same (nat (s .index) -ᵢ nat 4716) (omega arith)
 
   pub plain-exists : first-bad (plain s .year) (plain s .month) (plain s .day) ≡ 0
-  unfolding naturalOr
+  unfolding natural-or
   plain-exists =
       sym (bad-law (plain s .year) (pos (s .month)) (pos (s .day)))
       ∙ ap (λ (c : ℕ). bad-field c (s .month) (s .day)) (index-of (plain s .year) (s .index) (p .least) (p .small) year-is)
@@ -146,7 +146,7 @@ unfolding day-of-date
 numbered-as y m d n e =
     let p = pick-day (eqb (first-bad y m d) 0) (noon-number y m d) n (NoSuchDate (first-bad y m d)) e in
     let b : first-bad y m d ≡ 0 = eqb-true _ _ (p .0) in
-    record { k = noon (year-index y) (naturalOr m 0) (naturalOr d 0); is = sym (p .1) ∙ sym (noon-law y m d b); small = noon-small y m d b; back = plain-back y m d b }
+    record { k = noon (year-index y) (natural-or m 0) (natural-or d 0); is = sym (p .1) ∙ sym (noon-law y m d b); small = noon-small y m d b; back = plain-back y m d b }
 
 pub same-date : {z w : Date} → On z ≡ On w → z ≡ w
 same-date e = cc
@@ -207,7 +207,7 @@ pub moment-back : (y m d ms : ℤ) (t : Instant) → Timed y m d ms t → date-o
 unfolding date-of-instant
 moment-back y m d ms t i =
     let a = i .all in
-    let n = noon (year-index y) (naturalOr m 0) (naturalOr d 0) in
+    let n = noon (year-index y) (natural-or m 0) (natural-or d 0) in
     let r : ms ≡ pos (a .k) = a .ms-is in
     let v = sym r in
     let q = sym ((λ x. instant (noon-law y m d (a .date) x) (v x)) ∙ i .is) in

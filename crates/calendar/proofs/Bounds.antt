@@ -7,7 +7,7 @@ use mathlib.Core.Path.{_≡_, refl}
 use native.Mathlib.Decide.{decLe}
 use borrow.Author.Tests.{le-leb, lt-leb, eqb-false}
 use lib.IntN.{ℤ, pos, negsuc}
-use Rattle.calendar.specs.Shifted.{leap-day, month-days, year-index, bad-field, Index, Sound}
+use Rattle.calendar.specs.machine.Shifted.{leap-day, month-days, year-index, bad-field, Index, Sound}
 
 pub cond-le : (b : Bool) {x y k : ℕ} → x ≤ k → y ≤ k → cond b x y ≤ k
 cond-le true p q = p

@@ -13,10 +13,10 @@ use Rattle.integers.specs.Signs.{negative}
 use Rattle.integers.proofs.Pairs.{Is}
 use Rattle.integers.proofs.Order.{fits, nat-difference-fits}
 use Rattle.units.specs.declared.Refusal.the-variants.{NoSuchDate}
-use Rattle.arith.specs.Signed.{naturalOr}
+use Rattle.arith.specs.machine.Signed.{natural-or}
 use Rattle.arith.proofs.Signs.{back}
 use Rattle.calendar.specs.Calendar.{between, first-bad, noon-number, date-of-day}
-use Rattle.calendar.specs.Shifted.{year-index, Sound, noon, date-at, plain}
+use Rattle.calendar.specs.machine.Shifted.{year-index, Sound, noon, date-at, plain}
 use Rattle.calendar.specs.declared.Date.{Date}
 use Rattle.calendar.specs.declared.Shifted.{Shifted}
 use Rattle.calendar.specs.declared.DateAnswer.the-variants.{On, NoDate}
@@ -85,11 +85,11 @@ plain-law s i y m d b f p q r =
 
 -- ---- a number that has to be from 0 to l
 pub data Upto (x : ℤ) (l : ℕ) : Type 0 where
-  inside : (k : ℕ) → x ≡ pos k → k ≤ l → ((o : ℕ) → naturalOr x o ≡ k) → between (pos 0) x (pos l) ≡ true → Upto x l
-  outside : ((o : ℕ) → l < o → l < naturalOr x o) → between (pos 0) x (pos l) ≡ false → Upto x l
+  inside : (k : ℕ) → x ≡ pos k → k ≤ l → ((o : ℕ) → natural-or x o ≡ k) → between (pos 0) x (pos l) ≡ true → Upto x l
+  outside : ((o : ℕ) → l < o → l < natural-or x o) → between (pos 0) x (pos l) ≡ false → Upto x l
 
 pub upto : (x : ℤ) (l : ℕ) → Upto x l
-unfolding naturalOr
+unfolding natural-or
 upto (negsuc n) l = outside (λ o h. h) refl
 upto (pos n) l = go (decLe n l)
   where
@@ -97,7 +97,7 @@ upto (pos n) l = go (decLe n l)
     go (yes h) = inside n refl h (λ o. refl) (rw (le-leb 0 n (omega arith), le-leb n l h))
     go (no h) = outside (λ o p. omega arith) (rw (le-leb 0 n (omega arith), lt-leb n l (omega arith)))
 
-pub no-date : (x : ℤ) (k : ℕ) → k ≡ naturalOr x 5373485 → 5373484 < k → NoDate (NoSuchDate 5) ≡ date-of-day x
+pub no-date : (x : ℤ) (k : ℕ) → k ≡ natural-or x 5373485 → 5373484 < k → NoDate (NoSuchDate 5) ≡ date-of-day x
 unfolding date-of-day
 no-date x k e h = go (upto x 5373484)
   where
@@ -105,7 +105,7 @@ no-date x k e h = go (upto x 5373484)
     go (outside f b) = rw b
     go (inside n p q r b) = absurd (omega (arith, r 5373485))
 
-pub on-date : (x : ℤ) (k : ℕ) (d : Date) → k ≡ naturalOr x 5373485 → k ≤ 5373484 → d ≡ plain (date-at k) → On d ≡ date-of-day x
+pub on-date : (x : ℤ) (k : ℕ) (d : Date) → k ≡ natural-or x 5373485 → k ≤ 5373484 → d ≡ plain (date-at k) → On d ≡ date-of-day x
 unfolding date-of-day
 on-date x k d e h f = go (upto x 5373484)
   where
@@ -115,19 +115,19 @@ on-date x k d e h f = go (upto x 5373484)
 
 -- ---- a date that exists, as naturals
 module _ (y m d : ℤ) (e : first-bad y m d ≡ 0) where
-  pub sound-of : Sound (year-index y) (naturalOr m 0) (naturalOr d 0)
+  pub sound-of : Sound (year-index y) (natural-or m 0) (natural-or d 0)
   sound-of = exists _ _ _ (year-known y _ refl) (bad-law y m d ∙ e)
 
-  pub noon-law : pos (noon (year-index y) (naturalOr m 0) (naturalOr d 0)) ≡ noon-number y m d
+  pub noon-law : pos (noon (year-index y) (natural-or m 0) (natural-or d 0)) ≡ noon-number y m d
   noon-law = go (year-of-index y) (field m 12) (field d 31)
     where
-      o : Ok (year-index y) (naturalOr m 0) (naturalOr d 0)
+      o : Ok (year-index y) (natural-or m 0) (natural-or d 0)
       o = ok _ _ _ sound-of
 
-      by-parts : (c k j : ℕ) → Is y c 4716 → year-index y ≡ c → m ≡ pos k → naturalOr m 0 ≡ k → d ≡ pos j → naturalOr d 0 ≡ j → pos (noon (year-index y) (naturalOr m 0) (naturalOr d 0)) ≡ noon-number y m d
+      by-parts : (c k j : ℕ) → Is y c 4716 → year-index y ≡ c → m ≡ pos k → natural-or m 0 ≡ k → d ≡ pos j → natural-or d 0 ≡ j → pos (noon (year-index y) (natural-or m 0) (natural-or d 0)) ≡ noon-number y m d
       by-parts c k j i f z p t q = rw (f, p, q, z, t) (sym (literal y c k j i (rw (f, p, q) at sound-of)))
 
-      go : Year y → Field m 12 → Field d 31 → pos (noon (year-index y) (naturalOr m 0) (naturalOr d 0)) ≡ noon-number y m d
+      go : Year y → Field m 12 → Field d 31 → pos (noon (year-index y) (natural-or m 0) (natural-or d 0)) ≡ noon-number y m d
       go (missing f g) p q = absurd (omega (arith, o .least))
       go (year c f a b i g) (low p x) q = absurd (omega (arith, o .month-least))
       go (year c f a b i g) (high k z p u v x) q = absurd (omega (arith, o .month-small))
@@ -135,5 +135,5 @@ module _ (y m d : ℤ) (e : first-bad y m d ≡ 0) where
       go (year c f a b i g) (good k z p u v x) (good j t q r s w) = by-parts c k j i f z p t q
       go (year c f a b i g) (good k z p u v x) (high j t q r s w) = by-parts c k j i f z p t q
 
-  pub noon-small : noon (year-index y) (naturalOr m 0) (naturalOr d 0) ≤ 5373484
+  pub noon-small : noon (year-index y) (natural-or m 0) (natural-or d 0) ≤ 5373484
   noon-small = numbered _ _ _ sound-of .small

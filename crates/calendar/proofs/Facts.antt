@@ -7,7 +7,7 @@ use native.Mathlib.Decide.{decLe, ℕ-discrete}
 use native.Mathlib.Omega.{arith}
 use borrow.Author.Tests.{eq-eqb, ne-eqb, lt-ltb, le-ltb, lt-leb, le-leb, ltb-false, eqb-false}
 use lib.Dec.{ltb, eqb, lit<}
-use Rattle.calendar.specs.Shifted.{leap-day, month-days, bad-field, key, in-gap, Sound}
+use Rattle.calendar.specs.machine.Shifted.{leap-day, month-days, bad-field, key, in-gap, Sound}
 
 -- a test that is not known: both ways
 pub by-lt : (P : Bool → Type 0) (a b : ℕ) → (a < b → P true) → (b ≤ a → P false) → P (ltb a b)

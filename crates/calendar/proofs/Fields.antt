@@ -12,9 +12,9 @@ use lib.ListN.{getD}
 use lib.Signed.{leZ}
 use Rattle.integers.specs.Division.{modulo}
 use Rattle.integers.proofs.Pairs.{Is, up, dn, same, same⁻¹, sub-cong, nat, int, sub-pos, sub-neg, _+ᵢ_, _*ᵢ_}
-use Rattle.arith.specs.Signed.{naturalOr}
+use Rattle.arith.specs.machine.Signed.{natural-or}
 use Rattle.calendar.specs.Calendar.{between, written, skipped, leap, month-length, first-bad}
-use Rattle.calendar.specs.Shifted.{year-index, key, leap-day, month-days, in-gap, bad-field}
+use Rattle.calendar.specs.machine.Shifted.{year-index, key, leap-day, month-days, in-gap, bad-field}
 use Rattle.integers.proofs.Tests.{every-below}
 use Rattle.calendar.proofs.Compare.{leZ-is}
 use Rattle.calendar.proofs.Facts.{Leap, not4, old, plain, cent, quad, leap as leaps}
@@ -39,12 +39,12 @@ year-of-index (negsuc n) = go (decLe n 4711)
 
 -- A field that has to be from 1 to l.
 pub data Field (x : ℤ) (l : ℕ) : Type 0 where
-  low : naturalOr x 0 ≡ 0 → between (pos 1) x (pos l) ≡ false → Field x l
-  good : (k : ℕ) → x ≡ pos k → naturalOr x 0 ≡ k → 0 < k → k ≤ l → between (pos 1) x (pos l) ≡ true → Field x l
-  high : (k : ℕ) → x ≡ pos k → naturalOr x 0 ≡ k → 0 < k → l < k → between (pos 1) x (pos l) ≡ false → Field x l
+  low : natural-or x 0 ≡ 0 → between (pos 1) x (pos l) ≡ false → Field x l
+  good : (k : ℕ) → x ≡ pos k → natural-or x 0 ≡ k → 0 < k → k ≤ l → between (pos 1) x (pos l) ≡ true → Field x l
+  high : (k : ℕ) → x ≡ pos k → natural-or x 0 ≡ k → 0 < k → l < k → between (pos 1) x (pos l) ≡ false → Field x l
 
 pub field : (x : ℤ) (l : ℕ) → Field x l
-unfolding naturalOr
+unfolding natural-or
 field (negsuc n) l = low refl refl
 field (pos zero) l = low refl refl
 field (pos (suc k)) l = go (decLe (suc k) l)
@@ -140,22 +140,22 @@ gap-law y c m d i = rw (leZ-is (nat 15821005) (written-is y c m d i), leZ-is (wr
 
 -- All three fields.
 module _ (y : ℤ) (c : ℕ) (least : 4 ≤ c) (i : Is y c 4716) (known : between (negℤ (pos 4712)) y (pos 9999) ≡ true) where
-  by-day : (m : ℕ) (d : ℤ) → 0 < m → m ≤ 12 → Field d (month-days c m) → bad-field c m (naturalOr d 0) ≡ first-bad y (pos m) d
+  by-day : (m : ℕ) (d : ℤ) → 0 < m → m ≤ 12 → Field d (month-days c m) → bad-field c m (natural-or d 0) ≡ first-bad y (pos m) d
   unfolding bad-field first-bad
   by-day m d p q (low e f) = rw (known, length-law y c m least i p q, ne-eqb c 0 (λ z. omega arith), ne-eqb m 0 (λ z. omega arith), le-ltb 12 m q, le-leb 1 m p, le-leb m 12 q, e, f)
   by-day m d p q (good k x e a b f) = rw (known, length-law y c m least i p q, ne-eqb c 0 (λ z. omega arith), ne-eqb m 0 (λ z. omega arith), le-ltb 12 m q, le-leb 1 m p, le-leb m 12 q, e, f, ne-eqb k 0 (λ z. omega arith), le-ltb (month-days c m) k b, x) (gap-law y c m k i)
   by-day m d p q (high k x e a b f) = rw (known, length-law y c m least i p q, ne-eqb c 0 (λ z. omega arith), ne-eqb m 0 (λ z. omega arith), le-ltb 12 m q, le-leb 1 m p, le-leb m 12 q, e, f, ne-eqb k 0 (λ z. omega arith), lt-ltb (month-days c m) k b)
 
-  by-month : (m d : ℤ) → Field m 12 → bad-field c (naturalOr m 0) (naturalOr d 0) ≡ first-bad y m d
+  by-month : (m d : ℤ) → Field m 12 → bad-field c (natural-or m 0) (natural-or d 0) ≡ first-bad y m d
   unfolding bad-field first-bad
   by-month m d (low e f) = rw (known, e, f, ne-eqb c 0 (λ x. omega arith))
   by-month m d (good k x e a b f) = rw (e, x) (by-day k d a b (field d (month-days c k)))
   by-month m d (high k x e a b f) = rw (known, e, f, ne-eqb c 0 (λ z. omega arith), ne-eqb k 0 (λ z. omega arith), lt-ltb 12 k b)
 
-pub bad-law : (y m d : ℤ) → bad-field (year-index y) (naturalOr m 0) (naturalOr d 0) ≡ first-bad y m d
+pub bad-law : (y m d : ℤ) → bad-field (year-index y) (natural-or m 0) (natural-or d 0) ≡ first-bad y m d
 unfolding bad-field first-bad
 bad-law y m d = go (year-of-index y)
   where
-    go : Year y → bad-field (year-index y) (naturalOr m 0) (naturalOr d 0) ≡ first-bad y m d
+    go : Year y → bad-field (year-index y) (natural-or m 0) (natural-or d 0) ≡ first-bad y m d
     go (year c e p q i k) = rw e (by-month y c p i k m d (field m 12))
     go (missing e k) = rw (e, k)

@@ -10,7 +10,7 @@ use lib.IntN.{ℤ, pos, _+ℤ_}
 use Rattle.integers.specs.Division.{floor}
 use Rattle.integers.proofs.Pairs.{Is, nat, same, _+ᵢ_, _-ᵢ_}
 use Rattle.calendar.specs.Calendar.{counted-year, counted-month, gregorian, beta, formula, noon-number}
-use Rattle.calendar.specs.Shifted.{key, Sound, march-year, march-month, julian, with-beta, noon}
+use Rattle.calendar.specs.machine.Shifted.{key, Sound, march-year, march-month, julian, with-beta, noon}
 use Rattle.calendar.proofs.Compare.{leZ-is}
 use Rattle.calendar.proofs.Fields.{is-same, written-is}
 use Rattle.calendar.proofs.Round.{Room, room}

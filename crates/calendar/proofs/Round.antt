@@ -11,7 +11,7 @@ use lib.Dec.{eqb, eqb→eq}
 use Rattle.integers.proofs.Tests.{every-below}
 use Rattle.calendar.proofs.Bounds.{leap-le, month-le}
 use Rattle.calendar.specs.declared.Shifted.{Shifted}
-use Rattle.calendar.specs.Shifted.{leap-day, month-days, key, Sound, march-year, march-month, julian, with-beta, noon, century, julian-count, year-of, day-of, month-of, from-march, in-year, of-count, date-at}
+use Rattle.calendar.specs.machine.Shifted.{leap-day, month-days, key, Sound, march-year, march-month, julian, with-beta, noon, century, julian-count, year-of, day-of, month-of, from-march, in-year, of-count, date-at}
 use Rattle.calendar.proofs.Facts.{Leap, not4, old, plain, cent, quad, leap, february, other, Ok, ok}
 
 -- the days before the month k of the year that begins in March

@@ -10,7 +10,7 @@ use Rattle.units.specs.Units.{in-limit}
 use Rattle.units.specs.declared.Instant.{Instant}
 use Rattle.units.specs.declared.Refusal.the-variants.{NoSuchDate}
 use Rattle.calendar.specs.Calendar.{leap, month-length, first-bad, first-bad-of-four, noon-number, day-of-date, date-of-day, instant, instant-of-date, date-of-instant}
-use Rattle.calendar.specs.Shifted.{date-at, plain}
+use Rattle.calendar.specs.machine.Shifted.{date-at, plain}
 use Rattle.calendar.specs.declared.Date.{Date}
 use Rattle.calendar.specs.declared.DayAnswer.{DayAnswer}
 use Rattle.calendar.specs.declared.DayAnswer.the-variants.{Day, NoDay}

@@ -10,7 +10,7 @@ use Rattle.integers.specs.Division.{floor, modulo}
 use Rattle.units.specs.Units.{in-limit}
 use Rattle.units.specs.declared.Instant.{Instant}
 use Rattle.units.specs.declared.Refusal.the-variants.{NoSuchDate, PastLimit}
-use Rattle.calendar.specs.Shifted.{plain, date-at}
+use Rattle.calendar.specs.machine.Shifted.{plain, date-at}
 use Rattle.calendar.specs.declared.DayAnswer.{DayAnswer}
 use Rattle.calendar.specs.declared.DayAnswer.the-variants.{Day, NoDay}
 use Rattle.calendar.specs.declared.DateAnswer.{DateAnswer}

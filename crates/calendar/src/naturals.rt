@@ -1,7 +1,7 @@
 // The calendar counted in naturals: a year is its index, the year plus 4716. All of this is for lib.rt.
 ghost use mathlib.Core.Path.{_≡_};
 ghost use Prim.Native.Nat.{_+_, _*_, _/_, _≤_, _<_};
-ghost use Rattle.calendar.specs.Shifted.{leap-day, month-days, bad-field, Sound, march-year, march-month, noon, julian-count, from-march, date-at};
+ghost use Rattle.calendar.specs.machine.Shifted.{leap-day, month-days, bad-field, Sound, march-year, march-month, noon, julian-count, from-march, date-at};
 use crate::Shifted;
 
 // The days that February has past its 28.

@@ -3,7 +3,7 @@ ghost use mathlib.Core.Path.{_≡_};
 ghost use Prim.Native.Nat.{_≤_, _<_};
 ghost use lib.IntN.{pos, natAbs, _+ℤ_};
 ghost use Rattle.calendar.specs.Calendar.{first-bad, first-bad-of-four, noon-number, instant};
-ghost use Rattle.calendar.specs.Shifted.{year-index, plain, date-at};
+ghost use Rattle.calendar.specs.machine.Shifted.{year-index, plain, date-at};
 use crate::Date;
 use crate::naturals::date_at;
 use crate::naturals::first_bad;

@@ -12,7 +12,7 @@ use Rattle.integers.proofs.Order.{natAbs-sub, fits}
 use Rattle.units.specs.Units.{U, turn, quarter, angle-step, a-limit}
 use Rattle.cosine.specs.Cosine.{q-of, w-of, even-part, odd-part, cosine-by}
 use Rattle.cosine.specs.Terms.{term-angle, term-value}
-use Rattle.cosine.specs.Halves.{even-value, odd-value, half-value}
+use Rattle.cosine.specs.machine.Parity.{even-value, odd-value, half-value}
 use Rattle.cosine.proofs.Natural.{cosine-from}
 use Rattle.cosine.proofs.Places.{value-is}
 

@@ -14,7 +14,7 @@ use Rattle.integers.proofs.Division.{rounded-add}
 use Rattle.integers.proofs.Order.{natAbs-low, natAbs-+, fits}
 use Rattle.units.specs.Units.{U, millennium as T, turn as P, t-limit}
 use Rattle.cosine.specs.declared.term.Prepared.{Prepared}
-use Rattle.cosine.specs.Prepared.{Residue, Ready}
+use Rattle.cosine.specs.machine.Prepared.{Residue, Ready}
 use Rattle.cosine.specs.Cosine.{cosine}
 use Rattle.cosine.specs.Terms.{term-angle, term-cosine, term-value}
 use Rattle.cosine.proofs.Natural.{rounded-nat}

@@ -11,7 +11,7 @@ use Rattle.integers.proofs.Division.{floor-is, modulo-shift}
 use Rattle.integers.proofs.Order.{≼-nat}
 use Rattle.units.specs.Units.{millennium as T, turn as P, angle-per-part}
 use Rattle.cosine.specs.Terms.{term-angle}
-use Rattle.cosine.specs.Prepared.{Residue}
+use Rattle.cosine.specs.machine.Prepared.{Residue}
 
 pub residue-+ : {n m : ℤ} {q r s t : ℕ} → Residue n q r → Residue m s t → Residue (n +ℤ m) (q + s) (r + t)
 residue-+ {n} {m} {q} {r} {s} {t} a b = record {

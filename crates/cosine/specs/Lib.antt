@@ -2,5 +2,4 @@
 pub mod Cosine
 pub mod Reference
 pub mod Terms
-pub mod Prepared
-pub mod Halves
+pub mod machine

@@ -1,8 +1,8 @@
 // Reads lines of standard input, each a date as three numbers, and prints the day number, `refused 1`, or what is wrong with the line.
-use dates::answer_last;
-use dates::answer_piece;
-use dates::reader::Line;
-use dates::reader::start;
+use date_lines::answer_last;
+use date_lines::answer_piece;
+use date_lines::reader::Line;
+use date_lines::reader::start;
 
 // The line that is being read, and whether there may be more input.
 struct State {

@@ -8,11 +8,11 @@ use arith::signed::wide;
 use calendar::InstantAnswer;
 use sunlist::ListAnswer;
 use units::Instant;
-use words::Contents;
-use words::Figure;
-use words::explain;
-use words::number_argument;
-use words::read_file;
+use command_line::Contents;
+use command_line::Figure;
+use command_line::explain;
+use command_line::number_argument;
+use command_line::read_file;
 
 // A number below a hundred as two digits.
 fn two_digits(n: u64) {

@@ -13,7 +13,7 @@ use Rattle.integers.proofs.Order.{natAbs-*, natAbs-+, fits}
 use Rattle.integers.proofs.Rounding.{rounded-scale, rounded-zero}
 use Rattle.arith.proofs.Ranges.{rounded-within}
 use Rattle.nutation.specs.Nutation.{polynomial}
-use Rattle.nutation.specs.Inner.{By, reach}
+use Rattle.nutation.specs.machine.Reduced.{By, reach}
 
 -- ---- one step
 pub room : (v n d w : ℕ) → 0 < d → n ≤ d * 20 → 20 * v < w → v * n < d * w

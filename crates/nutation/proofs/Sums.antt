@@ -12,7 +12,7 @@ use Rattle.integers.proofs.Order.{natAbs-+}
 use Rattle.units.specs.Units.{t-limit}
 use Rattle.nutation_table.specs.declared.Row.{Row}
 use Rattle.nutation_table.specs.Table.{rows, no-row}
-use Rattle.nutation_table.specs.Small.{Small}
+use Rattle.nutation_table.specs.machine.Small.{Small}
 use Rattle.nutation.specs.declared.Nutation.{Nutation}
 use Rattle.nutation.specs.Nutation.{longitude-term, obliquity-term, add-up, longitude-nutation, obliquity-nutation}
 use Rattle.nutation.proofs.Terms.{longitude-small, obliquity-small}

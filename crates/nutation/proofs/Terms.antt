@@ -23,10 +23,10 @@ use Rattle.cosine.proofs.Ranges.{cosine-size, sine-size}
 use Rattle.direction.specs.Angles.{units-angle}
 use Rattle.nutation_table.specs.declared.Row.{Row}
 use Rattle.nutation_table.specs.Table.{psi, psi-rate, eps, eps-rate, times-d, times-m, times-m1, times-f, times-node}
-use Rattle.nutation_table.specs.Small.{Small}
+use Rattle.nutation_table.specs.machine.Small.{Small}
 use Rattle.nutation.specs.declared.Arguments.{Arguments}
 use Rattle.nutation.specs.Nutation.{polynomial, argument, mean-elongation, sun-anomaly, moon-anomaly, latitude-argument, moon-node, row-sum, row-angle, argument-turn, coefficient, longitude-term, obliquity-term}
-use Rattle.nutation.specs.Inner.{By, less-turns, At, combined}
+use Rattle.nutation.specs.machine.Reduced.{By, less-turns, At, combined}
 use Rattle.nutation.proofs.Polynomials.{polynomial-scale, step-bound}
 
 -- ---- the time

@@ -1,3 +1,3 @@
 -- Document 01, "Places": nutation and obliquity.
 pub mod Nutation
-pub mod Inner
+pub mod machine

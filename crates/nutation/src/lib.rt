@@ -1,8 +1,17 @@
 // Nutation and obliquity at an instant: document 01, "Places".
-pub mod inner;
 mod moon;
 mod polynomial;
 mod rows;
+
+ghost use mathlib.Core.Path.{_≡_};
+ghost use Prim.Native.Nat.{_≤_, _^_};
+ghost use lib.IntN.{natAbs};
+ghost use Rattle.units.specs.Units.{t-limit};
+ghost use Rattle.nutation.specs.Nutation.{mean-obliquity, nutation-angle, obliquity-angle};
+use crate::polynomial::polynomial;
+use crate::rows::nutation_at;
+use arith::signed::add;
+use direction::units_angle;
 
 // D, M, M', F and the longitude of the node, each less its whole turns, in 10^-8 arcsecond.
 pub struct Arguments {
@@ -23,4 +32,26 @@ pub struct Nutation {
 pub struct Angles {
     pub nutation: i64,
     pub obliquity: i64,
+}
+
+// The mean obliquity at t milliseconds, in 10^-5 arcsecond: its polynomial is in tau, so by t/T.
+fn mean_obliquity_at(t: i64) -> i64
+    requires { ⌜ natAbs t ≤ t-limit ⌝ }
+    ensures { λ r. ⌜ (r ≡ mean-obliquity t) × (natAbs r ≤ 2 ^ 34) ⌝ }
+{
+    polynomial(t, 31557600000000, 8438144800, -46815000, -5900, 181300, 0)
+}
+
+// The nutation in longitude and the true obliquity at t milliseconds, as angles in 10^-13 radian.
+pub fn angles_at(t: i64) -> Angles
+    requires { ⌜ natAbs t ≤ t-limit ⌝ }
+    ensures { λ r. ⌜ (r .nutation ≡ nutation-angle t) × (r .obliquity ≡ obliquity-angle t) ⌝ }
+{
+    let n = nutation_at(t);
+    let mean = mean_obliquity_at(t);
+    let obliquity = add(mean, n.obliquity);
+    Angles {
+        nutation: units_angle(n.longitude, 129600000000),
+        obliquity: units_angle(obliquity, 129600000000),
+    }
 }

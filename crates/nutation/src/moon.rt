@@ -5,7 +5,7 @@ ghost use Prim.Native.Nat.{_-_, _<_, _≤_, _^_};
 ghost use lib.IntN.{natAbs};
 ghost use Rattle.units.specs.Units.{t-limit};
 ghost use Rattle.nutation.specs.Nutation.{argument};
-ghost use Rattle.nutation.specs.Inner.{reach, less-turns, At};
+ghost use Rattle.nutation.specs.machine.Reduced.{reach, less-turns, At};
 use crate::Arguments;
 use crate::polynomial::polynomial;
 use arith::residue::residue;

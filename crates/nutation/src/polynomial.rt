@@ -5,7 +5,7 @@ ghost use Prim.Native.Nat.{_+_, _-_, _*_, _<_, _^_};
 ghost use lib.IntN.{natAbs, _+ℤ_, _*ℤ_};
 ghost use Rattle.integers.specs.Division.{rounded};
 ghost use Rattle.nutation.specs.Nutation.{polynomial};
-ghost use Rattle.nutation.specs.Inner.{By, reach};
+ghost use Rattle.nutation.specs.machine.Reduced.{By, reach};
 use arith::muldiv::mul_div_round;
 use arith::signed::add;
 

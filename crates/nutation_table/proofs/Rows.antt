@@ -8,7 +8,7 @@ use lib.ListN.{getD, take, drop}
 use lib.Seq.{getD-take, getD-drop}
 use Rattle.nutation_table.specs.declared.Row.{Row}
 use Rattle.nutation_table.specs.Table.{psi, psi-rate, eps, eps-rate, times-d, times-m, times-m1, times-f, times-node, rows, no-row}
-use Rattle.nutation_table.specs.Small.{Small}
+use Rattle.nutation_table.specs.machine.Small.{Small}
 
 -- by how much the numbers of a row pass their limits, all together
 figures-over : Row → ℕ

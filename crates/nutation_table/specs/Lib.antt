@@ -1,3 +1,3 @@
 -- Document 000's table of nutation.
 pub mod Table
-pub mod Small
+pub mod machine

@@ -4,7 +4,7 @@ ghost use mathlib.Core.Path.{_≡_};
 ghost use Prim.Native.Nat.{_<_};
 ghost use lib.ListN.{getD, take, drop};
 ghost use Rattle.nutation_table.specs.Table.{rows, no-row};
-ghost use Rattle.nutation_table.specs.Small.{Small};
+ghost use Rattle.nutation_table.specs.machine.Small.{Small};
 
 // A row: the figure of the longitude in 10^-4 arcsecond and its rate in 10^-5 a century, the same of the obliquity,
 // and the multipliers of D, M, M', F and the node.

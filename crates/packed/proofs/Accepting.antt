@@ -11,16 +11,16 @@ use lib.ListN.{drop}
 use Rattle.units.specs.Units.{a-limit, b-limit, c-limit}
 use Rattle.units.specs.declared.Refusal.{Refusal}
 use Rattle.units.specs.declared.Refusal.the-variants.{OverLimit, TotalOverLimit, TooCoarse}
-use Rattle.numbers.specs.Numbers.{Read, got, bad, next, number, folded, unfolded}
-use Rattle.numbers.specs.Answers.{plain}
-use Rattle.numbers.proofs.Folding.{folded-unfolded, unfolded-folded}
-use Rattle.numbers.proofs.Reading.{After, moved}
+use Rattle.packed_numbers.specs.Numbers.{Read, got, bad, next, number, folded, unfolded}
+use Rattle.packed_numbers.specs.machine.Answers.{plain}
+use Rattle.packed_numbers.proofs.Folding.{folded-unfolded, unfolded-folded}
+use Rattle.packed_numbers.proofs.Reading.{After, moved}
 use Rattle.packed.specs.declared.Term.{Term}
-use Rattle.packed.specs.declared.Sums.{Sums}
+use Rattle.packed.specs.declared.Tally.{Tally}
 use Rattle.packed.specs.Limits.{total-limit, coarse-limit, weight, a-fits, b-fits, c-fits, total-fits, coarse-fits}
 use Rattle.packed.specs.Series.{judged, read-a, read-b, read-c, read-term}
-use Rattle.packed.specs.Answers.{shown-term, term-of}
-use Rattle.packed.specs.declared.inner.TermRead.the-variants.{Found, Wrong}
+use Rattle.packed.specs.machine.Answers.{shown-term, term-of}
+use Rattle.packed.specs.declared.terms.TermRead.the-variants.{Found, Wrong}
 use Rattle.packed.proofs.Judging.{a-got, b-got, c-got}
 
 -- Two readers, one after the other.
@@ -57,16 +57,16 @@ read-as {y = y} {i = i} {j = j} {l = l} {m = m} h g v at x k e q =
     let t : l ≡ m = cc in
     rw (w, u, t) at e
 
--- The numbers of a term that are accepted after the sums s.
-pub record GoodA (s : Sums) (a : ℤ) : Type 0 where
+-- The numbers of a term that are accepted after the tally s.
+pub record GoodA (s : Tally) (a : ℤ) : Type 0 where
   pub small : natAbs a < a-limit
   pub total : s .total + natAbs a ≤ total-limit
 
-pub record GoodC (f : ℕ) (s : Sums) (a : ℤ) (b : ℕ) (c : ℤ) : Type 0 where
+pub record GoodC (f : ℕ) (s : Tally) (a : ℤ) (b : ℕ) (c : ℤ) : Type 0 where
   pub small : natAbs c < c-limit
   pub coarse : s .coarse + weight f a b c ≤ coarse-limit
 
-pub record GoodTerm (f : ℕ) (s : Sums) (t : Term) : Type 0 where
+pub record GoodTerm (f : ℕ) (s : Tally) (t : Term) : Type 0 where
   pub good-a : GoodA s (t .a)
   pub good-b : t .b < b-limit
   pub good-c : GoodC f s (t .a) (t .b) (t .c)
@@ -76,7 +76,7 @@ pub record Accepted (P : Type 0) (at : ℕ) (x : List ℕ) (v to : ℕ) (rest : 
   pub read : number at x ≡ got v to rest
   pub good : P
 
-pub a-accepted : (s : Sums) (at : ℕ) (x : List ℕ) {a : ℤ} {to : ℕ} {rest : List ℕ} → read-a s at x ≡ got a to rest → Accepted (GoodA s a) at x (folded a) to rest
+pub a-accepted : (s : Tally) (at : ℕ) (x : List ℕ) {a : ℤ} {to : ℕ} {rest : List ℕ} → read-a s at x ≡ got a to rest → Accepted (GoodA s a) at x (folded a) to rest
 unfolding read-a a-fits total-fits
 a-accepted s at x {a} e =
     let n = next-got (number at x) _ e in
@@ -101,7 +101,7 @@ b-accepted at x {b} e =
     let small : v < b-limit = ltb-true _ _ (p .passed) in
     record { read = read-as plain plain v at x (λ n. refl) (n .first) (p .is); good = rw i at small }
 
-pub c-accepted : (f : ℕ) (s : Sums) (a : ℤ) (b at : ℕ) (x : List ℕ) {c : ℤ} {to : ℕ} {rest : List ℕ} → read-c f s a b at x ≡ got c to rest → Accepted (GoodC f s a b c) at x (folded c) to rest
+pub c-accepted : (f : ℕ) (s : Tally) (a : ℤ) (b at : ℕ) (x : List ℕ) {c : ℤ} {to : ℕ} {rest : List ℕ} → read-c f s a b at x ≡ got c to rest → Accepted (GoodC f s a b c) at x (folded c) to rest
 unfolding read-c c-fits coarse-fits
 c-accepted f s a b at x {c} e =
     let n = next-got (number at x) _ e in
@@ -120,7 +120,7 @@ abbrev whole : ℤ → ℕ → ℤ → Term
 whole a b c = record { a = a; b = b; c = c }
 
 -- A term that was read: its three numbers, and that it is within the limits.
-pub record TermAt (f : ℕ) (s : Sums) (at : ℕ) (x : List ℕ) (t : Term) (to : ℕ) (rest : List ℕ) : Type 0 where
+pub record TermAt (f : ℕ) (s : Tally) (at : ℕ) (x : List ℕ) (t : Term) (to : ℕ) (rest : List ℕ) : Type 0 where
   pub at-b : ℕ
   pub from-b : List ℕ
   pub at-c : ℕ
@@ -130,7 +130,7 @@ pub record TermAt (f : ℕ) (s : Sums) (at : ℕ) (x : List ℕ) (t : Term) (to 
   pub number-c : number at-c from-c ≡ got (folded (t .c)) to rest
   pub good : GoodTerm f s t
 
-pub term-accepted : (f : ℕ) (s : Sums) (at : ℕ) (x : List ℕ) {t : Term} {to : ℕ} {rest : List ℕ} → read-term f s at x ≡ got t to rest → TermAt f s at x t to rest
+pub term-accepted : (f : ℕ) (s : Tally) (at : ℕ) (x : List ℕ) {t : Term} {to : ℕ} {rest : List ℕ} → read-term f s at x ≡ got t to rest → TermAt f s at x t to rest
 unfolding read-term
 term-accepted f s at x {t} {to} {rest} e =
     let ra = next-got (read-a s at x) _ e in
@@ -161,7 +161,7 @@ term-accepted f s at x {t} {to} {rest} e =
     rest-of h = cc
 
 -- And back: three numbers within the limits are read as a term.
-pub term-made : (f : ℕ) (s : Sums) (at : ℕ) (x : List ℕ) (t : Term) (to : ℕ) (rest : List ℕ) → TermAt f s at x t to rest → read-term f s at x ≡ got t to rest
+pub term-made : (f : ℕ) (s : Tally) (at : ℕ) (x : List ℕ) (t : Term) (to : ℕ) (rest : List ℕ) → TermAt f s at x t to rest → read-term f s at x ≡ got t to rest
 unfolding read-term next
 term-made f s at x t to rest h =
     let g = h .good in

@@ -9,10 +9,10 @@ use lib.Dec.{leb, ltb, eqb}
 use lib.IntN.{ℤ}
 use Rattle.units.specs.declared.Refusal.{Refusal}
 use Rattle.units.specs.declared.Refusal.the-variants.{OverLimit, TotalOverLimit, TooCoarse}
-use Rattle.numbers.specs.Numbers.{Read, got, bad, next, closed, groups-from, number, unfolded}
+use Rattle.packed_numbers.specs.Numbers.{Read, got, bad, next, closed, groups-from, number, unfolded}
 use Rattle.packed.specs.declared.Term.{Term}
-use Rattle.packed.specs.declared.Sums.{Sums}
-use Rattle.packed.specs.Limits.{no-sums, block-count, opened, added, factor, count-fits, a-fits, b-fits, c-fits, total-fits, coarse-fits}
+use Rattle.packed.specs.declared.Tally.{Tally}
+use Rattle.packed.specs.Limits.{no-tally, block-count, opened, added, factor, count-fits, a-fits, b-fits, c-fits, total-fits, coarse-fits}
 use Rattle.packed.specs.Series.{judged, read-a, read-b, read-c, read-term, read-terms, read-block, read-blocks, read-series, after-block}
 
 -- The answer on x, and that on x ++ y.
@@ -44,7 +44,7 @@ number-longer : (y : List ℕ) (at : ℕ) (x : List ℕ) → Longer y (number at
 unfolding number
 number-longer y at x = groups-longer y x 0 0 at
 
-a-longer : (y : List ℕ) (s : Sums) (at : ℕ) (x : List ℕ) → Longer y (read-a s at x) (read-a s at (x ++ y))
+a-longer : (y : List ℕ) (s : Tally) (at : ℕ) (x : List ℕ) → Longer y (read-a s at x) (read-a s at (x ++ y))
 unfolding read-a
 a-longer y s at x =
     then (number at x) (number at (x ++ y)) _ (number-longer y at x) (λ v to rest.
@@ -54,32 +54,32 @@ b-longer : (y : List ℕ) (at : ℕ) (x : List ℕ) → Longer y (read-b at x) (
 unfolding read-b
 b-longer y at x = then (number at x) (number at (x ++ y)) _ (number-longer y at x) (λ v to rest. passed (b-fits v) OverLimit to same)
 
-c-longer : (y : List ℕ) (f : ℕ) (s : Sums) (a : ℤ) (b at : ℕ) (x : List ℕ) → Longer y (read-c f s a b at x) (read-c f s a b at (x ++ y))
+c-longer : (y : List ℕ) (f : ℕ) (s : Tally) (a : ℤ) (b at : ℕ) (x : List ℕ) → Longer y (read-c f s a b at x) (read-c f s a b at (x ++ y))
 unfolding read-c
 c-longer y f s a b at x =
     then (number at x) (number at (x ++ y)) _ (number-longer y at x) (λ v to rest.
     passed (c-fits (unfolded v)) OverLimit to (passed (coarse-fits f s a b (unfolded v)) TooCoarse to same))
 
-term-longer : (y : List ℕ) (f : ℕ) (s : Sums) (at : ℕ) (x : List ℕ) → Longer y (read-term f s at x) (read-term f s at (x ++ y))
+term-longer : (y : List ℕ) (f : ℕ) (s : Tally) (at : ℕ) (x : List ℕ) → Longer y (read-term f s at x) (read-term f s at (x ++ y))
 unfolding read-term
 term-longer y f s at x =
     then (read-a s at x) (read-a s at (x ++ y)) _ (a-longer y s at x) (λ a to rest.
     then (read-b to rest) (read-b to (rest ++ y)) _ (b-longer y to rest) (λ b to rest.
     then (read-c f s a b to rest) (read-c f s a b to (rest ++ y)) _ (c-longer y f s a b to rest) (λ c to rest. same)))
 
-terms-longer : (y : List ℕ) (n f : ℕ) (s : Sums) (at : ℕ) (x : List ℕ) → Longer y (read-terms n f s at x) (read-terms n f s at (x ++ y))
+terms-longer : (y : List ℕ) (n f : ℕ) (s : Tally) (at : ℕ) (x : List ℕ) → Longer y (read-terms n f s at x) (read-terms n f s at (x ++ y))
 unfolding read-terms
 terms-longer y zero f s at x = same
 terms-longer y (suc n) f s at x =
     then (read-term f s at x) (read-term f s at (x ++ y)) _ (term-longer y f s at x) (λ t to rest.
     then (read-terms n f (added f s t) to rest) (read-terms n f (added f s t) to (rest ++ y)) _ (terms-longer y n f (added f s t) to rest) (λ ts to rest. same))
 
-block-longer : (y : List ℕ) (k : ℕ) (s : Sums) (at : ℕ) (x : List ℕ) → Longer y (read-block k s at x) (read-block k s at (x ++ y))
+block-longer : (y : List ℕ) (k : ℕ) (s : Tally) (at : ℕ) (x : List ℕ) → Longer y (read-block k s at x) (read-block k s at (x ++ y))
 unfolding read-block
 block-longer y k s at x =
     then (number at x) (number at (x ++ y)) _ (number-longer y at x) (λ n to rest. passed (count-fits s n) OverLimit to (terms-longer y n (factor k) (opened k n s) to rest))
 
-blocks-longer : (y : List ℕ) (n k : ℕ) (s : Sums) (at : ℕ) (x : List ℕ) → Longer y (read-blocks n k s at x) (read-blocks n k s at (x ++ y))
+blocks-longer : (y : List ℕ) (n k : ℕ) (s : Tally) (at : ℕ) (x : List ℕ) → Longer y (read-blocks n k s at x) (read-blocks n k s at (x ++ y))
 unfolding read-blocks
 blocks-longer y zero k s at x = same
 blocks-longer y (suc n) k s at x =
@@ -100,4 +100,4 @@ number-append at x y = longer-got _ _ (number-longer y at x)
 
 pub series-append : (at : ℕ) (x y : List ℕ) {blocks : List (List Term)} {to : ℕ} {rest : List ℕ} → read-series at x ≡ got blocks to rest → read-series at (x ++ y) ≡ got blocks to (rest ++ y)
 unfolding read-series
-series-append at x y = longer-got _ _ (blocks-longer y block-count 0 no-sums at x)
+series-append at x y = longer-got _ _ (blocks-longer y block-count 0 no-tally at x)

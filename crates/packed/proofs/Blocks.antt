@@ -1,4 +1,4 @@
--- A block: each case of its count, and what holds of the sums after its terms. Assumes nothing.
+-- A block: each case of its count, and what holds of the tally after its terms. Assumes nothing.
 use mathlib.Core.Path.{_≡_, refl, sym, ap, _∙_}
 use mathlib.Core.Bool.{Bool, true, false, cond, _&&_}
 use mathlib.Core.List.{List, [], _∷_}
@@ -11,18 +11,18 @@ use lib.ListN.{length, drop}
 use Rattle.integers.proofs.Tests.{both}
 use Rattle.units.specs.declared.Refusal.{Refusal}
 use Rattle.units.specs.declared.Refusal.the-variants.{OverLimit}
-use Rattle.numbers.specs.Numbers.{Read, got, bad, next, number}
-use Rattle.numbers.proofs.Reading.{After, moved, later, next-after, number-after}
+use Rattle.packed_numbers.specs.Numbers.{Read, got, bad, next, number}
+use Rattle.packed_numbers.proofs.Reading.{After, moved, later, next-after, number-after}
 use Rattle.packed.specs.declared.Term.{Term}
-use Rattle.packed.specs.declared.Sums.{Sums}
+use Rattle.packed.specs.declared.Tally.{Tally}
 use Rattle.packed.specs.Limits.{total-limit, coarse-limit, coarse-base, block-limit, series-limit, powers, factor, opened, added, count-fits}
 use Rattle.packed.specs.Series.{judged, read-term, read-terms, read-block, summed, after-block}
-use Rattle.packed.specs.Answers.{walked}
+use Rattle.packed.specs.machine.Answers.{walked}
 use Rattle.packed.proofs.Judging.{judged-after, term-after}
 use Rattle.packed.proofs.Accepting.{next-got, judged-got, term-accepted}
 
 -- The count of a block.
-module _ (k : ℕ) (s : Sums) (at : ℕ) (x : List ℕ) where
+module _ (k : ℕ) (s : Tally) (at : ℕ) (x : List ℕ) where
   pub block-bad : (q : Refusal) → number at x ≡ bad q → read-block k s at x ≡ bad q
   unfolding read-block next
   block-bad q e = rw e
@@ -41,38 +41,38 @@ module _ (k : ℕ) (s : Sums) (at : ℕ) (x : List ℕ) where
     block-got h l = rw (e, le-leb n block-limit h, le-leb (s .terms + n) series-limit l)
 
 -- Where the readers of terms and blocks come to.
-pub terms-after : (s : List ℕ) (n f : ℕ) (sums : Sums) (at : ℕ) → After s at (read-terms n f sums at (drop at s))
+pub terms-after : (s : List ℕ) (n f : ℕ) (tally : Tally) (at : ℕ) → After s at (read-terms n f tally at (drop at s))
 unfolding read-terms
-terms-after s zero f sums at = moved refl (le-refl at)
-terms-after s (suc n) f sums at =
-    next-after (read-term f sums at (drop at s)) _ (later at (up at) (term-after s f sums at)) (λ t to.
-    next-after (read-terms n f (added f sums t) to (drop to s)) _ (terms-after s n f (added f sums t) to) (λ ts to. moved refl (le-refl to)))
+terms-after s zero f tally at = moved refl (le-refl at)
+terms-after s (suc n) f tally at =
+    next-after (read-term f tally at (drop at s)) _ (later at (up at) (term-after s f tally at)) (λ t to.
+    next-after (read-terms n f (added f tally t) to (drop to s)) _ (terms-after s n f (added f tally t) to) (λ ts to. moved refl (le-refl to)))
   where
     up : (n : ℕ) → n ≤ n + 1
     up n = omega arith
 
-pub block-after : (s : List ℕ) (k : ℕ) (sums : Sums) (at : ℕ) → After s at (read-block k sums at (drop at s))
+pub block-after : (s : List ℕ) (k : ℕ) (tally : Tally) (at : ℕ) → After s at (read-block k tally at (drop at s))
 unfolding read-block
-block-after s k sums at =
+block-after s k tally at =
     later at (up at)
-    (next-after (number at (drop at s)) _ (number-after s at) (λ n to. judged-after (count-fits sums n) OverLimit to (terms-after s n (factor k) (opened k n sums) to)))
+    (next-after (number at (drop at s)) _ (number-after s at) (λ n to. judged-after (count-fits tally n) OverLimit to (terms-after s n (factor k) (opened k n tally) to)))
   where
     up : (n : ℕ) → n ≤ n + 1
     up n = omega arith
 
 -- The terms that were read, one after the other.
-pub data TermsAt (f : ℕ) : ℕ → Sums → ℕ → List ℕ → List Term → ℕ → List ℕ → Type 0 where
-  no-terms : {s : Sums} {at : ℕ} {x : List ℕ} → TermsAt f 0 s at x [] at x
-  a-term : {n : ℕ} {s : Sums} {at : ℕ} {x : List ℕ} {t : Term} {mid : ℕ} {y : List ℕ} {ts : List Term} {to : ℕ} {rest : List ℕ} → read-term f s at x ≡ got t mid y → TermsAt f n (added f s t) mid y ts to rest → TermsAt f (suc n) s at x (t ∷ ts) to rest
+pub data TermsAt (f : ℕ) : ℕ → Tally → ℕ → List ℕ → List Term → ℕ → List ℕ → Type 0 where
+  no-terms : {s : Tally} {at : ℕ} {x : List ℕ} → TermsAt f 0 s at x [] at x
+  a-term : {n : ℕ} {s : Tally} {at : ℕ} {x : List ℕ} {t : Term} {mid : ℕ} {y : List ℕ} {ts : List Term} {to : ℕ} {rest : List ℕ} → read-term f s at x ≡ got t mid y → TermsAt f n (added f s t) mid y ts to rest → TermsAt f (suc n) s at x (t ∷ ts) to rest
 
-carry : {f n : ℕ} {s : Sums} {at : ℕ} {x : List ℕ} {y ts : List Term} {i to : ℕ} {l rest : List ℕ} → got y i l ≡ got ts to rest → TermsAt f n s at x y i l → TermsAt f n s at x ts to rest
+carry : {f n : ℕ} {s : Tally} {at : ℕ} {x : List ℕ} {y ts : List Term} {i to : ℕ} {l rest : List ℕ} → got y i l ≡ got ts to rest → TermsAt f n s at x y i l → TermsAt f n s at x ts to rest
 carry {y = y} {ts = ts} {i = i} {to = to} {l = l} {rest = rest} e h =
     let p : y ≡ ts = cc in
     let q : i ≡ to = cc in
     let r : l ≡ rest = cc in
     rw (p, q, r) at h
 
-pub terms-accepted : (n f : ℕ) (s : Sums) (at : ℕ) (x : List ℕ) (ts : List Term) (to : ℕ) (rest : List ℕ) → read-terms n f s at x ≡ got ts to rest → TermsAt f n s at x ts to rest
+pub terms-accepted : (n f : ℕ) (s : Tally) (at : ℕ) (x : List ℕ) (ts : List Term) (to : ℕ) (rest : List ℕ) → read-terms n f s at x ≡ got ts to rest → TermsAt f n s at x ts to rest
 unfolding read-terms
 terms-accepted zero f s at x ts to rest e = carry e no-terms
 terms-accepted (suc n) f s at x ts to rest e =
@@ -80,28 +80,28 @@ terms-accepted (suc n) f s at x ts to rest e =
     let b = next-got (read-terms n f (added f s (a .x)) (a .at) (a .rest)) _ (a .second) in
     carry (b .second) (a-term (a .first) (terms-accepted n f (added f s (a .x)) (a .at) (a .rest) (b .x) (b .at) (b .rest) (b .first)))
 
-pub terms-length : {f n : ℕ} {s : Sums} {at : ℕ} {x : List ℕ} {ts : List Term} {to : ℕ} {rest : List ℕ} → TermsAt f n s at x ts to rest → length ts ≡ n
+pub terms-length : {f n : ℕ} {s : Tally} {at : ℕ} {x : List ℕ} {ts : List Term} {to : ℕ} {rest : List ℕ} → TermsAt f n s at x ts to rest → length ts ≡ n
 terms-length no-terms = refl
 terms-length (a-term e h) = ap suc (terms-length h)
 
--- The sums after terms that were read: the number of terms stands, total and coarseness stay within their limits.
-pub record Within (s : Sums) : Type 0 where
+-- The tally after terms that were read: the number of terms stands, total and coarseness stay within their limits.
+pub record Within (s : Tally) : Type 0 where
   pub total : s .total ≤ total-limit
   pub coarse : s .coarse ≤ coarse-limit
 
-pub terms-within : {f n : ℕ} {s : Sums} {at : ℕ} {x : List ℕ} {ts : List Term} {to : ℕ} {rest : List ℕ} → TermsAt f n s at x ts to rest → Within s → Within (summed f s ts)
+pub terms-within : {f n : ℕ} {s : Tally} {at : ℕ} {x : List ℕ} {ts : List Term} {to : ℕ} {rest : List ℕ} → TermsAt f n s at x ts to rest → Within s → Within (summed f s ts)
 unfolding summed added
 terms-within no-terms w = w
 terms-within {f} {s = s} {at = at} {x = x} (a-term e h) w =
     let g = term-accepted f s at x e .good in
     terms-within h (record { total = g .good-a .total; coarse = g .good-c .coarse })
 
-pub summed-terms : (f : ℕ) (s : Sums) (ts : List Term) → summed f s ts .terms ≡ s .terms
+pub summed-terms : (f : ℕ) (s : Tally) (ts : List Term) → summed f s ts .terms ≡ s .terms
 unfolding summed added
 summed-terms f s [] = refl
 summed-terms f s (t ∷ ts) = summed-terms f (added f s t) ts
 
-pub opened-within : (k n : ℕ) (s : Sums) → s .coarse ≤ coarse-limit → Within (opened k n s)
+pub opened-within : (k n : ℕ) (s : Tally) → s .coarse ≤ coarse-limit → Within (opened k n s)
 unfolding opened
 opened-within k n s h = record { total = omega arith; coarse = go (eqb (k % powers) 0) }
   where
@@ -110,7 +110,7 @@ opened-within k n s h = record { total = omega arith; coarse = go (eqb (k % powe
     go false = h
 
 -- A block that was read: its count and its terms.
-pub record BlockAt (k : ℕ) (s : Sums) (at : ℕ) (x : List ℕ) (ts : List Term) (to : ℕ) (rest : List ℕ) : Type 0 where
+pub record BlockAt (k : ℕ) (s : Tally) (at : ℕ) (x : List ℕ) (ts : List Term) (to : ℕ) (rest : List ℕ) : Type 0 where
   pub at-terms : ℕ
   pub from-terms : List ℕ
   pub count : number at x ≡ got (length ts) at-terms from-terms
@@ -118,7 +118,7 @@ pub record BlockAt (k : ℕ) (s : Sums) (at : ℕ) (x : List ℕ) (ts : List Ter
   pub fewer : s .terms + length ts ≤ series-limit
   pub terms : TermsAt (factor k) (length ts) (opened k (length ts) s) at-terms from-terms ts to rest
 
-pub block-accepted : (k : ℕ) (s : Sums) (at : ℕ) (x : List ℕ) (ts : List Term) (to : ℕ) (rest : List ℕ) → read-block k s at x ≡ got ts to rest → BlockAt k s at x ts to rest
+pub block-accepted : (k : ℕ) (s : Tally) (at : ℕ) (x : List ℕ) (ts : List Term) (to : ℕ) (rest : List ℕ) → read-block k s at x ≡ got ts to rest → BlockAt k s at x ts to rest
 unfolding read-block count-fits
 block-accepted k s at x ts to rest e =
     let a = next-got (number at x) _ e in
@@ -138,13 +138,13 @@ block-accepted k s at x ts to rest e =
       terms = rw l h;
     }
 
--- The sums after a block.
-pub record AfterBlock (k : ℕ) (s : Sums) (ts : List Term) : Type 0 where
+-- The tally after a block.
+pub record AfterBlock (k : ℕ) (s : Tally) (ts : List Term) : Type 0 where
   pub terms : after-block k s ts .terms ≡ s .terms + length ts
   pub few : after-block k s ts .terms ≤ series-limit
   pub within : Within (after-block k s ts)
 
-pub block-sums : (k : ℕ) (s : Sums) (at : ℕ) (x : List ℕ) (ts : List Term) (to : ℕ) (rest : List ℕ) → s .coarse ≤ coarse-limit → BlockAt k s at x ts to rest → AfterBlock k s ts
+pub block-sums : (k : ℕ) (s : Tally) (at : ℕ) (x : List ℕ) (ts : List Term) (to : ℕ) (rest : List ℕ) → s .coarse ≤ coarse-limit → BlockAt k s at x ts to rest → AfterBlock k s ts
 unfolding after-block opened
 block-sums k s at x ts to rest h b =
     let e = summed-terms (factor k) (opened k (length ts) s) ts in
@@ -155,11 +155,11 @@ block-sums k s at x ts to rest h b =
       within = terms-within (b .terms) (opened-within k (length ts) s h);
     }
   where
-    opened-terms : (k n : ℕ) (s : Sums) → opened k n s .terms ≡ s .terms + n
+    opened-terms : (k n : ℕ) (s : Tally) → opened k n s .terms ≡ s .terms + n
     opened-terms k n s = refl
 
 -- The answer of a walk over n terms is that of the walk over the block.
-pub walked-block : (k n : ℕ) (s : Sums) (at : ℕ) (x : List ℕ) → walked (summed (factor k) (opened k n s)) (read-terms n (factor k) (opened k n s) at x) ≡ walked (after-block k s) (read-terms n (factor k) (opened k n s) at x)
+pub walked-block : (k n : ℕ) (s : Tally) (at : ℕ) (x : List ℕ) → walked (summed (factor k) (opened k n s)) (read-terms n (factor k) (opened k n s) at x) ≡ walked (after-block k s) (read-terms n (factor k) (opened k n s) at x)
 unfolding walked after-block
 walked-block k n s at x = go (read-terms n (factor k) (opened k n s) at x) (λ ts to rest e. terms-length (terms-accepted n (factor k) (opened k n s) at x ts to rest e))
   where
@@ -167,23 +167,23 @@ walked-block k n s at x = go (read-terms n (factor k) (opened k n s) at x) (λ t
     go (got ts to rest) h = rw (h ts to rest refl)
     go (bad q) h = refl
 
--- The sums with a count that fits.
-pub record Ready (s r : Sums) : Type 0 where
+-- The tally with a count that fits.
+pub record Ready (s r : Tally) : Type 0 where
   pub within : Within r
   pub from : s .terms ≤ r .terms
   pub few : r .terms ≤ series-limit
 
-pub opened-ready : (k n : ℕ) (s r : Sums) → r ≡ opened k n s → s .coarse ≤ coarse-limit → s .terms + n ≤ series-limit → Ready s r
+pub opened-ready : (k n : ℕ) (s r : Tally) → r ≡ opened k n s → s .coarse ≤ coarse-limit → s .terms + n ≤ series-limit → Ready s r
 unfolding opened
 opened-ready k n s r e h l = rw e (record { within = opened-within k n s h; from = omega arith; few = l })
 
--- The walk over the terms of a block, with the block's count, factor and sums, is the walk over the block.
-pub block-read : (k n f to : ℕ) (s r : Sums) (x : List ℕ) {b : Read (List Term)} → f ≡ factor k → r ≡ opened k n s → b ≡ read-terms n (factor k) (opened k n s) to x → read-terms (r .terms - s .terms) f r to x ≡ b
+-- The walk over the terms of a block, with the block's count, factor and tally, is the walk over the block.
+pub block-read : (k n f to : ℕ) (s r : Tally) (x : List ℕ) {b : Read (List Term)} → f ≡ factor k → r ≡ opened k n s → b ≡ read-terms n (factor k) (opened k n s) to x → read-terms (r .terms - s .terms) f r to x ≡ b
 unfolding opened
 block-read k n f to s r x ef er eb =
     let m : s .terms + n - s .terms ≡ n = omega arith in
     rw (ef, er, m) (sym eb)
 
-pub block-walked : (k n f to : ℕ) (s r : Sums) (x : List ℕ) {b : Read (List Term)} → f ≡ factor k → r ≡ opened k n s → b ≡ read-terms n (factor k) (opened k n s) to x → walked (summed f r) (read-terms (r .terms - s .terms) f r to x) ≡ walked (after-block k s) b
+pub block-walked : (k n f to : ℕ) (s r : Tally) (x : List ℕ) {b : Read (List Term)} → f ≡ factor k → r ≡ opened k n s → b ≡ read-terms n (factor k) (opened k n s) to x → walked (summed f r) (read-terms (r .terms - s .terms) f r to x) ≡ walked (after-block k s) b
 block-walked k n f to s r x {b} ef er eb =
     rw (block-read k n f to s r x ef er eb, ef, er, eb) (walked-block k n s to x)

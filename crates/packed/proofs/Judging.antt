@@ -13,12 +13,12 @@ use Rattle.integers.proofs.Tests.{both}
 use Rattle.units.specs.Units.{U, a-limit, b-limit, c-limit}
 use Rattle.units.specs.declared.Refusal.{Refusal}
 use Rattle.units.specs.declared.Refusal.the-variants.{OverLimit, TotalOverLimit, TooCoarse}
-use Rattle.numbers.specs.Numbers.{Read, got, bad, next, number, unfolded}
-use Rattle.numbers.proofs.Reading.{After, moved, stopped, cond-after, next-after, number-after, later}
-use Rattle.packed.specs.declared.Sums.{Sums}
+use Rattle.packed_numbers.specs.Numbers.{Read, got, bad, next, number, unfolded}
+use Rattle.packed_numbers.proofs.Reading.{After, moved, stopped, cond-after, next-after, number-after, later}
+use Rattle.packed.specs.declared.Tally.{Tally}
 use Rattle.packed.specs.Limits.{total-limit, coarse-limit, coarse-share, constant, weight, a-fits, b-fits, c-fits, total-fits, coarse-fits, term-may-come}
 use Rattle.packed.specs.Series.{judged, read-a, read-b, read-c, read-term}
-use Rattle.packed.specs.Answers.{term-of}
+use Rattle.packed.specs.machine.Answers.{term-of}
 
 -- Where a reader stands after a value that was judged.
 pub judged-after : {A : Type 0} {s : List ℕ} {low : ℕ} {r : Read A} (t : Bool) (refusal : ℕ → Refusal) (to : ℕ) → After s low r → After s low (judged t refusal to r)
@@ -50,7 +50,7 @@ unfolding weight constant
 weight-constant f a b c p q = rw (eq-eqb b 0 p, eq-eqb (natAbs c) 0 q)
 
 -- The number a.
-module _ (s : Sums) (at : ℕ) (x : List ℕ) where
+module _ (s : Tally) (at : ℕ) (x : List ℕ) where
   pub a-bad : (q : Refusal) → number at x ≡ bad q → read-a s at x ≡ bad q
   unfolding read-a next
   a-bad q e = rw e
@@ -84,7 +84,7 @@ module _ (at : ℕ) (x : List ℕ) where
     b-got h = rw (e, lt-ltb v b-limit h)
 
 -- The number c.
-module _ (f : ℕ) (s : Sums) (a : ℤ) (b at : ℕ) (x : List ℕ) where
+module _ (f : ℕ) (s : Tally) (a : ℤ) (b at : ℕ) (x : List ℕ) where
   pub c-bad : (q : Refusal) → number at x ≡ bad q → read-c f s a b at x ≡ bad q
   unfolding read-c next
   c-bad q e = rw e
@@ -103,35 +103,35 @@ module _ (f : ℕ) (s : Sums) (a : ℤ) (b at : ℕ) (x : List ℕ) where
     c-got h k = rw (e, lt-ltb (natAbs (unfolded v)) c-limit h, le-leb (s .coarse + weight f a b (unfolded v)) coarse-limit k)
 
 -- Where these readers come to.
-pub a-after : (s : List ℕ) (at : ℕ) (sums : Sums) → After s (at + 1) (read-a sums at (drop at s))
+pub a-after : (s : List ℕ) (at : ℕ) (tally : Tally) → After s (at + 1) (read-a tally at (drop at s))
 unfolding read-a
-a-after s at sums =
+a-after s at tally =
     next-after (number at (drop at s)) _ (number-after s at)
-    (λ v to. judged-after (a-fits (unfolded v)) OverLimit to (judged-after (total-fits sums (unfolded v)) TotalOverLimit to (moved refl (le-refl to))))
+    (λ v to. judged-after (a-fits (unfolded v)) OverLimit to (judged-after (total-fits tally (unfolded v)) TotalOverLimit to (moved refl (le-refl to))))
 
 pub b-after : (s : List ℕ) (at : ℕ) → After s (at + 1) (read-b at (drop at s))
 unfolding read-b
 b-after s at =
     next-after (number at (drop at s)) _ (number-after s at) (λ v to. judged-after (b-fits v) OverLimit to (moved refl (le-refl to)))
 
-pub c-after : (s : List ℕ) (f : ℕ) (sums : Sums) (a : ℤ) (b at : ℕ) → After s (at + 1) (read-c f sums a b at (drop at s))
+pub c-after : (s : List ℕ) (f : ℕ) (tally : Tally) (a : ℤ) (b at : ℕ) → After s (at + 1) (read-c f tally a b at (drop at s))
 unfolding read-c
-c-after s f sums a b at =
+c-after s f tally a b at =
     next-after (number at (drop at s)) _ (number-after s at)
-    (λ v to. judged-after (c-fits (unfolded v)) OverLimit to (judged-after (coarse-fits f sums a b (unfolded v)) TooCoarse to (moved refl (le-refl to))))
+    (λ v to. judged-after (c-fits (unfolded v)) OverLimit to (judged-after (coarse-fits f tally a b (unfolded v)) TooCoarse to (moved refl (le-refl to))))
 
-pub term-after : (s : List ℕ) (f : ℕ) (sums : Sums) (at : ℕ) → After s (at + 1) (read-term f sums at (drop at s))
+pub term-after : (s : List ℕ) (f : ℕ) (tally : Tally) (at : ℕ) → After s (at + 1) (read-term f tally at (drop at s))
 unfolding read-term
-term-after s f sums at =
-    next-after (read-a sums at (drop at s)) _ (a-after s at sums) (λ a to.
+term-after s f tally at =
+    next-after (read-a tally at (drop at s)) _ (a-after s at tally) (λ a to.
     next-after (read-b to (drop to s)) _ (later to (le-succ to) (b-after s to)) (λ b to.
-    next-after (read-c f sums a b to (drop to s)) _ (later to (le-succ to) (c-after s f sums a b to)) (λ c to. moved refl (le-refl to))))
+    next-after (read-c f tally a b to (drop to s)) _ (later to (le-succ to) (c-after s f tally a b to)) (λ c to. moved refl (le-refl to))))
   where
     le-succ : (n : ℕ) → n ≤ n + 1
     le-succ n = omega arith
 
 -- A term that was read, each case.
-module _ (f : ℕ) (s : Sums) (at : ℕ) (x : List ℕ) where
+module _ (f : ℕ) (s : Tally) (at : ℕ) (x : List ℕ) where
   pub term-bad-a : (q : Refusal) → read-a s at x ≡ bad q → read-term f s at x ≡ bad q
   unfolding read-term next
   term-bad-a q e = rw e

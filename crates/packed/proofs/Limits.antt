@@ -8,7 +8,7 @@ use native.Mathlib.Omega.{arith}
 use lib.IntN.{natAbs}
 use Rattle.units.specs.Units.{U}
 use Rattle.packed.specs.declared.Term.{Term}
-use Rattle.packed.specs.declared.Sums.{Sums}
+use Rattle.packed.specs.declared.Tally.{Tally}
 use Rattle.packed.specs.Limits.{total-limit, constant, weight, coarse-share, coarse-limit, added}
 use Rattle.packed.specs.Series.{summed}
 use Rattle.packed.specs.Allowed.{AllFit, none, more, total-of, moving-total, moving-count}
@@ -27,33 +27,33 @@ burden-more f t ts = go (constant (t .b) (t .c))
     go true = omega arith
     go false = omega (arith, mul-add f (coarse-share * natAbs (t .a) + U) (coarse-share * moving-total ts + U * moving-count ts))
 
--- Each term is good after the sums of those before it.
-pub data GoodTerms (f : ℕ) : Sums → List Term → Type 0 where
-  good-none : {s : Sums} → GoodTerms f s []
-  good-term : {s : Sums} {t : Term} {ts : List Term} → GoodTerm f s t → GoodTerms f (added f s t) ts → GoodTerms f s (t ∷ ts)
+-- Each term is good after the tally of those before it.
+pub data GoodTerms (f : ℕ) : Tally → List Term → Type 0 where
+  good-none : {s : Tally} → GoodTerms f s []
+  good-term : {s : Tally} {t : Term} {ts : List Term} → GoodTerm f s t → GoodTerms f (added f s t) ts → GoodTerms f s (t ∷ ts)
 
-pub terms-fit : {f : ℕ} {s : Sums} {ts : List Term} → GoodTerms f s ts → AllFit ts
+pub terms-fit : {f : ℕ} {s : Tally} {ts : List Term} → GoodTerms f s ts → AllFit ts
 terms-fit good-none = none
 terms-fit (good-term g h) = more (record { a-below = g .good-a .small; b-below = g .good-b; c-below = g .good-c .small }) (terms-fit h)
 
--- The sums after terms.
-pub summed-coarse : (f : ℕ) (s : Sums) (ts : List Term) → summed f s ts .coarse ≡ s .coarse + burden f ts
+-- The tally after terms.
+pub summed-coarse : (f : ℕ) (s : Tally) (ts : List Term) → summed f s ts .coarse ≡ s .coarse + burden f ts
 unfolding summed added
 summed-coarse f s [] = unfold burden moving-total moving-count in omega arith
 summed-coarse f s (t ∷ ts) = rw (burden-more f t ts) (summed-coarse f (added f s t) ts ∙ omega arith)
 
-pub terms-total : {f : ℕ} {s : Sums} {ts : List Term} → GoodTerms f s ts → s .total ≤ total-limit → s .total + total-of ts ≤ total-limit
+pub terms-total : {f : ℕ} {s : Tally} {ts : List Term} → GoodTerms f s ts → s .total ≤ total-limit → s .total + total-of ts ≤ total-limit
 unfolding added total-of
 terms-total good-none h = omega arith
 terms-total (good-term g k) h = let r = terms-total k (g .good-a .total) in omega arith
 
-pub terms-coarse : {f : ℕ} {s : Sums} {ts : List Term} → GoodTerms f s ts → s .coarse ≤ coarse-limit → s .coarse + burden f ts ≤ coarse-limit
+pub terms-coarse : {f : ℕ} {s : Tally} {ts : List Term} → GoodTerms f s ts → s .coarse ≤ coarse-limit → s .coarse + burden f ts ≤ coarse-limit
 unfolding added
 terms-coarse good-none h = unfold burden moving-total moving-count in omega arith
 terms-coarse {f} {s} {ts = t ∷ ts} (good-term g k) h = let r = terms-coarse k (g .good-c .coarse) in rw (burden-more f t ts) (omega arith)
 
 -- And back: terms that fit, with a total and a coarseness that fit, are good one by one.
-pub terms-good : (f : ℕ) (s : Sums) (ts : List Term) → AllFit ts → s .total + total-of ts ≤ total-limit → s .coarse + burden f ts ≤ coarse-limit → GoodTerms f s ts
+pub terms-good : (f : ℕ) (s : Tally) (ts : List Term) → AllFit ts → s .total + total-of ts ≤ total-limit → s .coarse + burden f ts ≤ coarse-limit → GoodTerms f s ts
 unfolding added total-of
 terms-good f s [] none p q = good-none
 terms-good f s (t ∷ ts) (more w h) p q =

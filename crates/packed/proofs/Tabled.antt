@@ -9,7 +9,7 @@ use Rattle.packed.specs.declared.Term.{Term}
 use Rattle.packed.specs.Limits.{series-limit, block-count}
 use Rattle.packed.specs.Series.{term-count}
 use Rattle.packed.specs.Allowed.{TermFits, AllFit, more, Allowed}
-use Rattle.packed.specs.Tables.{term-at, terms-at, blocks-at, table-blocks, block-ends, Holds}
+use Rattle.packed.specs.machine.Tables.{term-at, terms-at, blocks-at, table-blocks, block-ends, Holds}
 
 -- Where block j starts: where the one before it ends.
 abbrev pub block-start : List ℕ → ℕ → ℕ

@@ -8,8 +8,8 @@ use lib.IntN.{ℤ, pos}
 use lib.ListN.{length, getD, take, drop, take-append-drop}
 use Rattle.packed.specs.declared.Term.{Term}
 use Rattle.packed.specs.Series.{term-count}
-use Rattle.packed.specs.Tables.{term-at, terms-at, blocks-at, block-ends, table-blocks}
-use Rattle.packed.specs.Answers.{a-of, b-of, c-of}
+use Rattle.packed.specs.machine.Tables.{term-at, terms-at, blocks-at, block-ends, table-blocks}
+use Rattle.packed.specs.machine.Answers.{a-of, b-of, c-of}
 
 -- The numbers of all terms, in order.
 unfoldable pub flat : {X : Type 0} → (Term → X) → List (List Term) → List X

@@ -5,10 +5,10 @@ use Prim.Native.Nat.{ℕ}
 use native.Mathlib.Omega.{arith}
 use lib.ListN.{replicate}
 use Rattle.units.specs.declared.Refusal.the-variants.{NotShortest}
-use Rattle.numbers.specs.Numbers.{Read, got, bad, next, closed, groups-from, number, groups, encode}
-use Rattle.numbers.proofs.Shortest.{AllBytes}
+use Rattle.packed_numbers.specs.Numbers.{Read, got, bad, next, closed, groups-from, number, groups, encode}
+use Rattle.packed_numbers.proofs.Shortest.{AllBytes}
 use Rattle.packed.specs.declared.Term.{Term}
-use Rattle.packed.specs.Limits.{block-count, no-sums, opened, count-fits}
+use Rattle.packed.specs.Limits.{block-count, no-tally, opened, count-fits}
 use Rattle.packed.specs.Series.{accepted, refused, judged, read-terms, read-block, summed, after-block, read-blocks, read-series, ended, parse, pack}
 use Rattle.packed.specs.Allowed.{Allowed}
 use Rattle.packed.proofs.Judged.{good-allowed, allowed-good}
@@ -17,13 +17,13 @@ use Rattle.packed.proofs.Packing.{blocks-begin, blocks-are-good, blocks
 -- An accepted series was read to the end of its bytes.
 record ToEnd (x : List ℕ) (blocks : List (List Term)) : Type 0 where
   at : ℕ
-  is : read-blocks block-count 0 no-sums 0 x ≡ got blocks at []
+  is : read-blocks block-count 0 no-tally 0 x ≡ got blocks at []
 
 to-end : (x : List ℕ) (blocks : List (List Term)) → parse x ≡ accepted blocks → ToEnd x blocks
 unfolding parse read-series
-to-end x blocks e = go (read-blocks block-count 0 no-sums 0 x) refl e
+to-end x blocks e = go (read-blocks block-count 0 no-tally 0 x) refl e
   where
-    go : (r : Read (List (List Term))) → read-blocks block-count 0 no-sums 0 x ≡ r → ended r ≡ accepted blocks → ToEnd x blocks
+    go : (r : Read (List (List Term))) → read-blocks block-count 0 no-tally 0 x ≡ r → ended r ≡ accepted blocks → ToEnd x blocks
     go (got bs at []) p q = unfold ended in let w : bs ≡ blocks = cc in record { at = at; is = rw w at p }
     go (got bs at (b ∷ rest)) p q = unfold ended in let z : _≡_ {A = ℕ} 0 1 = cc in absurd (omega arith)
     go (bad r) p q = unfold ended in let z : _≡_ {A = ℕ} 0 1 = cc in absurd (omega arith)
@@ -32,7 +32,7 @@ to-end x blocks e = go (read-blocks block-count 0 no-sums 0 x) refl e
 pub accepted-allowed : (x : List ℕ) (blocks : List (List Term)) → parse x ≡ accepted blocks → Allowed blocks
 accepted-allowed x blocks e =
     let t = to-end x blocks e in
-    let g = blocks-are-good block-count 0 no-sums 0 x blocks (t .at) [] (t .is) in
+    let g = blocks-are-good block-count 0 no-tally 0 x blocks (t .at) [] (t .is) in
     good-allowed blocks (g .many) (g .good)
 
 -- The packed form of a series within the limits is accepted as that series.
@@ -40,14 +40,14 @@ pub pack-parse : (blocks : List (List Term)) → Allowed blocks → parse (pack 
 unfolding parse read-series ended
 pack-parse blocks a =
     let c = blocks-packed 0 [] (allowed-good blocks a) in
-    let e : read-blocks block-count 0 no-sums 0 (pack blocks) ≡ got blocks (c .to) [] = rw (append-nil (pack blocks), a .eighteen) at (c .is) in
+    let e : read-blocks block-count 0 no-tally 0 (pack blocks) ≡ got blocks (c .to) [] = rw (append-nil (pack blocks), a .eighteen) at (c .is) in
     rw e
 
 -- The bytes of an accepted series are the packed form of its blocks: no other bytes are accepted for them.
 pub parse-pack : (x : List ℕ) (blocks : List (List Term)) → AllBytes x → parse x ≡ accepted blocks → x ≡ pack blocks
 parse-pack x blocks b e =
     let t = to-end x blocks e in
-    blocks-begin block-count 0 no-sums 0 x blocks (t .at) [] b (t .is) .form ∙ append-nil (pack blocks)
+    blocks-begin block-count 0 no-tally 0 x blocks (t .at) [] b (t .is) .form ∙ append-nil (pack blocks)
 
 -- 300 is AC 02.
 pub three-hundred : encode 300 ≡ 172 ∷ 2 ∷ []

@@ -12,24 +12,24 @@ use mir.Facts.{toZ-ofZ}
 use lib.ListN.{length, take, drop, set, length-append, length-set}
 use lib.Seq.{take-suc-set}
 use Rattle.units.specs.declared.Refusal.{Refusal}
-use Rattle.numbers.specs.Numbers.{Read, got, bad, next}
-use Rattle.numbers.proofs.Reading.{After, moved}
+use Rattle.packed_numbers.specs.Numbers.{Read, got, bad, next}
+use Rattle.packed_numbers.proofs.Reading.{After, moved}
 use Rattle.packed.specs.declared.Term.{Term}
-use Rattle.packed.specs.declared.Sums.{Sums}
-use Rattle.packed.specs.declared.inner.Walk.the-variants.{Moved, Stopped}
+use Rattle.packed.specs.declared.Tally.{Tally}
+use Rattle.packed.specs.declared.table.Walk.the-variants.{Moved, Stopped}
 use Rattle.packed.specs.Limits.{total-limit, coarse-limit, series-limit, added}
 use Rattle.packed.specs.Series.{read-term, read-terms, summed}
-use Rattle.packed.specs.Tables.{Sized}
-use Rattle.packed.specs.Answers.{walked, stored, filled, Filled, a-of, b-of, c-of}
+use Rattle.packed.specs.machine.Tables.{Sized}
+use Rattle.packed.specs.machine.Answers.{walked, stored, filled, Filled, a-of, b-of, c-of}
 use Rattle.packed.proofs.Accepting.{term-accepted}
 
 -- What was read, from an answer that moved on, and from one that stopped.
-pub record Stepped {A : Type 0} (sums : A → Sums) (s : List ℕ) (r : Read A) (to : ℕ) (z : Sums) : Type 0 where
+pub record Stepped {A : Type 0} (tally : A → Tally) (s : List ℕ) (r : Read A) (to : ℕ) (z : Tally) : Type 0 where
   pub x : A
   pub is : r ≡ got x to (drop to s)
-  pub with : z ≡ sums x
+  pub with : z ≡ tally x
 
-pub walked-moved : {A : Type 0} {s : List ℕ} {low : ℕ} (g : A → Sums) (r : Read A) (to : ℕ) (z : Sums) → After s low r → walked g r ≡ Moved to z → Stepped g s r to z
+pub walked-moved : {A : Type 0} {s : List ℕ} {low : ℕ} (g : A → Tally) (r : Read A) (to : ℕ) (z : Tally) → After s low r → walked g r ≡ Moved to z → Stepped g s r to z
 unfolding walked
 walked-moved g (got x end rest) to z (moved e h) q =
     let p : end ≡ to = cc in
@@ -37,16 +37,16 @@ walked-moved g (got x end rest) to z (moved e h) q =
     record { x = x; is = rw (e, p); with = sym w }
 walked-moved g (bad r) to z h q = let n : _≡_ {A = ℕ} 0 1 = cc in absurd (omega arith)
 
-pub walked-stopped : {A : Type 0} (g : A → Sums) (r : Read A) (q : Refusal) → walked g r ≡ Stopped q → r ≡ bad q
+pub walked-stopped : {A : Type 0} (g : A → Tally) (r : Read A) (q : Refusal) → walked g r ≡ Stopped q → r ≡ bad q
 unfolding walked
 walked-stopped g (got x to rest) q e = let n : _≡_ {A = ℕ} 0 1 = cc in absurd (omega arith)
 walked-stopped g (bad r) q e = let p : r ≡ q = cc in ap bad p
 
-pub show-moved : {A : Type 0} {r : Read A} {x : A} {to : ℕ} {rest : List ℕ} {z : Sums} (g : A → Sums) → r ≡ got x to rest → z ≡ g x → Moved to z ≡ walked g r
+pub show-moved : {A : Type 0} {r : Read A} {x : A} {to : ℕ} {rest : List ℕ} {z : Tally} (g : A → Tally) → r ≡ got x to rest → z ≡ g x → Moved to z ≡ walked g r
 unfolding walked
-show-moved {to = to} g e p = ap (λ (z : Sums). Moved to z) p ∙ sym (ap (walked g) e)
+show-moved {to = to} g e p = ap (λ (z : Tally). Moved to z) p ∙ sym (ap (walked g) e)
 
-pub show-stopped : {A : Type 0} {r : Read A} {q : Refusal} (g : A → Sums) → r ≡ bad q → Stopped q ≡ walked g r
+pub show-stopped : {A : Type 0} {r : Read A} {q : Refusal} (g : A → Tally) → r ≡ bad q → Stopped q ≡ walked g r
 unfolding walked
 show-stopped g e = sym (ap (walked g) e)
 
@@ -78,7 +78,7 @@ unfolding joined next
 joined-more done t (got ts at rest) = ap (λ (l : List _). got l at rest) (sym (append-assoc done (t ∷ []) ts))
 joined-more done t (bad q) = refl
 
-summed-more : (f : ℕ) (s : Sums) (done : List Term) (t : Term) → summed f s (done ++ t ∷ []) ≡ added f (summed f s done) t
+summed-more : (f : ℕ) (s : Tally) (done : List Term) (t : Term) → summed f s (done ++ t ∷ []) ≡ added f (summed f s done) t
 unfolding summed
 summed-more f s [] t = refl
 summed-more f s (x ∷ done) t = summed-more f (added f s x) done t
@@ -98,20 +98,20 @@ unfolding filled
 filled-bad k r q la₀ lb₀ lc₀ la lb lc e z = record { filled-a = rw e tt; filled-b = rw e tt; filled-c = rw e tt; sized = z }
 
 -- The loop's invariant, with the terms that are done.
-pub record Taken (s : List ℕ) (at f from end : ℕ) (first : Sums) (la₀ : List ℤ) (lb₀ : List ℕ) (lc₀ la : List ℤ) (lb : List ℕ) (lc : List ℤ) (sums : Sums) (i k : ℕ) : Type 0 where
+pub record Taken (s : List ℕ) (at f from end : ℕ) (first : Tally) (la₀ : List ℤ) (lb₀ : List ℕ) (lc₀ la : List ℤ) (lb : List ℕ) (lc : List ℤ) (tally : Tally) (i k : ℕ) : Type 0 where
   pub done : List Term
   pub place : k ≡ from + length done
   pub bound : k ≤ end
-  pub whole : read-terms (end - from) f first at (drop at s) ≡ joined done (read-terms (end - k) f sums i (drop i s))
-  pub with : sums ≡ summed f first done
-  pub total : sums .total ≤ total-limit
-  pub coarse : sums .coarse ≤ coarse-limit
+  pub whole : read-terms (end - from) f first at (drop at s) ≡ joined done (read-terms (end - k) f tally i (drop i s))
+  pub with : tally ≡ summed f first done
+  pub total : tally .total ≤ total-limit
+  pub coarse : tally .coarse ≤ coarse-limit
   pub held-a : take k la ≡ take from la₀ ++ map a-of done
   pub held-b : take k lb ≡ take from lb₀ ++ map b-of done
   pub held-c : take k lc ≡ take from lc₀ ++ map c-of done
   pub sized : Sized la lb lc
 
-module _ (s : List ℕ) (at f from end : ℕ) (first : Sums) (la₀ : List ℤ) (lb₀ : List ℕ) (lc₀ : List ℤ) where
+module _ (s : List ℕ) (at f from end : ℕ) (first : Tally) (la₀ : List ℤ) (lb₀ : List ℕ) (lc₀ : List ℤ) where
   pub taken-none : from ≤ end → first .total ≤ total-limit → first .coarse ≤ coarse-limit → Sized la₀ lb₀ lc₀ → Taken s at f from end first la₀ lb₀ lc₀ la₀ lb₀ lc₀ first at from
   unfolding summed
   taken-none h t c z =
@@ -129,17 +129,17 @@ module _ (s : List ℕ) (at f from end : ℕ) (first : Sums) (la₀ : List ℤ) 
         sized = z;
       }
 
-  module _ (la : List ℤ) (lb : List ℕ) (lc : List ℤ) (sums : Sums) (i k : ℕ) (l : Taken s at f from end first la₀ lb₀ lc₀ la lb lc sums i k) where
+  module _ (la : List ℤ) (lb : List ℕ) (lc : List ℤ) (tally : Tally) (i k : ℕ) (l : Taken s at f from end first la₀ lb₀ lc₀ la lb lc tally i k) where
     -- One term of those that are left.
     some : (n : ℕ) → k < end → n ≡ end - (k + 1) → end - k ≡ suc n
     some n h e = omega arith
 
-    left-got : (t : Term) (to : ℕ) → k < end → read-term f sums i (drop i s) ≡ got t to (drop to s) → read-terms (end - from) f first at (drop at s) ≡ joined (l .done ++ t ∷ []) (read-terms (end - (k + 1)) f (added f sums t) to (drop to s))
+    left-got : (t : Term) (to : ℕ) → k < end → read-term f tally i (drop i s) ≡ got t to (drop to s) → read-terms (end - from) f first at (drop at s) ≡ joined (l .done ++ t ∷ []) (read-terms (end - (k + 1)) f (added f tally t) to (drop to s))
     unfolding read-terms next
     left-got t to h e =
-        l .whole ∙ rw (some (end - (k + 1)) h refl, e) (joined-more (l .done) t (read-terms (end - (k + 1)) f (added f sums t) to (drop to s)))
+        l .whole ∙ rw (some (end - (k + 1)) h refl, e) (joined-more (l .done) t (read-terms (end - (k + 1)) f (added f tally t) to (drop to s)))
 
-    pub taken-stop : (q : Refusal) → k < end → read-term f sums i (drop i s) ≡ bad q → read-terms (end - from) f first at (drop at s) ≡ bad q
+    pub taken-stop : (q : Refusal) → k < end → read-term f tally i (drop i s) ≡ bad q → read-terms (end - from) f first at (drop at s) ≡ bad q
     unfolding read-terms next joined
     taken-stop q h e = l .whole ∙ rw (some (end - (k + 1)) h refl, e)
 
@@ -147,13 +147,13 @@ module _ (s : List ℕ) (at f from end : ℕ) (first : Sums) (la₀ : List ℤ) 
     unfolding read-terms next joined
     taken-last h = let z : end - k ≡ 0 = omega arith in l .whole ∙ rw z (ap (λ (d : List Term). got d i (drop i s)) (append-nil (l .done)))
 
-    pub taken-more : (to : ℕ) (more : Sums) (la′ : List ℤ) (lb′ : List ℕ) (lc′ : List ℤ) → k < end → end ≤ series-limit → Stepped (added f sums) s (read-term f sums i (drop i s)) to more
-        → la′ ≡ stored a-of k (read-term f sums i (drop i s)) la → lb′ ≡ stored b-of k (read-term f sums i (drop i s)) lb → lc′ ≡ stored c-of k (read-term f sums i (drop i s)) lc
+    pub taken-more : (to : ℕ) (more : Tally) (la′ : List ℤ) (lb′ : List ℕ) (lc′ : List ℤ) → k < end → end ≤ series-limit → Stepped (added f tally) s (read-term f tally i (drop i s)) to more
+        → la′ ≡ stored a-of k (read-term f tally i (drop i s)) la → lb′ ≡ stored b-of k (read-term f tally i (drop i s)) lb → lc′ ≡ stored c-of k (read-term f tally i (drop i s)) lc
         → Taken s at f from end first la₀ lb₀ lc₀ la′ lb′ lc′ more to (k + 1)
     unfolding added
     taken-more to more la′ lb′ lc′ h b w ea eb ec =
         let t = w .x in
-        let g = term-accepted f sums i (drop i s) (w .is) .good in
+        let g = term-accepted f tally i (drop i s) (w .is) .good in
         let z = l .sized in
         let pa = ea ∙ store a-of k _ t to _ la (w .is) in
         let pb = eb ∙ store b-of k _ t to _ lb (w .is) in
@@ -189,8 +189,8 @@ module _ (s : List ℕ) (at f from end : ℕ) (first : Sums) (la₀ : List ℤ) 
           sized = l .sized;
         }
 
-    pub filled-stop : (q : Refusal) (la′ : List ℤ) (lb′ : List ℕ) (lc′ : List ℤ) → k < end → read-term f sums i (drop i s) ≡ bad q
-        → la′ ≡ stored a-of k (read-term f sums i (drop i s)) la → lb′ ≡ stored b-of k (read-term f sums i (drop i s)) lb → lc′ ≡ stored c-of k (read-term f sums i (drop i s)) lc
+    pub filled-stop : (q : Refusal) (la′ : List ℤ) (lb′ : List ℕ) (lc′ : List ℤ) → k < end → read-term f tally i (drop i s) ≡ bad q
+        → la′ ≡ stored a-of k (read-term f tally i (drop i s)) la → lb′ ≡ stored b-of k (read-term f tally i (drop i s)) lb → lc′ ≡ stored c-of k (read-term f tally i (drop i s)) lc
         → Filled from (read-terms (end - from) f first at (drop at s)) la₀ lb₀ lc₀ la′ lb′ lc′
     unfolding stored
     filled-stop q la′ lb′ lc′ h e ea eb ec =

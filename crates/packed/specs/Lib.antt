@@ -2,5 +2,4 @@
 pub mod Limits
 pub mod Series
 pub mod Allowed
-pub mod Tables
-pub mod Answers
+pub mod machine

@@ -1,12 +1,12 @@
--- Document 01, "Series, as text and packed": the limits of a series and the rule "not too coarse", each once. The sums are
--- judged over the part so far, so each rule is a test of what the sums are with one count or one term more.
+-- Document 01, "Series, as text and packed": the limits of a series and the rule "not too coarse", each once. The tally are
+-- judged over the part so far, so each rule is a test of what the tally are with one count or one term more.
 use mathlib.Core.Bool.{Bool, cond, _&&_}
 use Prim.Native.Nat.{ℕ, _+_, _*_, _%_, _^_}
 use lib.Dec.{leb, ltb, eqb}
 use lib.IntN.{ℤ, natAbs}
 use Rattle.units.specs.Units.{U, parts, tau-limit, a-limit, b-limit, c-limit}
 use Rattle.packed.specs.declared.Term.{Term}
-use Rattle.packed.specs.declared.Sums.{Sums}
+use Rattle.packed.specs.declared.Tally.{Tally}
 
 -- The terms of a block, the terms of a series, the total |a| of a block: at most so many.
 abbrev pub block-limit : ℕ
@@ -49,11 +49,11 @@ unfoldable pub weight : ℕ → ℤ → ℕ → ℤ → ℕ
 weight f a b c = cond (constant b c) 0 (f * (coarse-share * natAbs a + U))
 
 -- Before the first count.
-abbrev pub no-sums : Sums
-no-sums = record { terms = 0; total = 0; coarse = coarse-base }
+abbrev pub no-tally : Tally
+no-tally = record { terms = 0; total = 0; coarse = coarse-base }
 
 -- With the count n of block k: a new block, and at power 0 a new coordinate.
-unfoldable pub opened : ℕ → ℕ → Sums → Sums
+unfoldable pub opened : ℕ → ℕ → Tally → Tally
 opened k n s =
     record {
       terms = s .terms + n;
@@ -62,7 +62,7 @@ opened k n s =
     }
 
 -- With one term more, in a block with factor f.
-unfoldable pub added : ℕ → Sums → Term → Sums
+unfoldable pub added : ℕ → Tally → Term → Tally
 added f s t =
     record {
       terms = s .terms;
@@ -71,7 +71,7 @@ added f s t =
     }
 
 -- A count may come.
-unfoldable pub count-fits : Sums → ℕ → Bool
+unfoldable pub count-fits : Tally → ℕ → Bool
 count-fits s n = leb n block-limit && leb (s .terms + n) series-limit
 
 -- The numbers of a term are within their limits.
@@ -85,14 +85,14 @@ unfoldable pub c-fits : ℤ → Bool
 c-fits c = ltb (natAbs c) c-limit
 
 -- With a the block's total is within its limit.
-unfoldable pub total-fits : Sums → ℤ → Bool
+unfoldable pub total-fits : Tally → ℤ → Bool
 total-fits s a = leb (s .total + natAbs a) total-limit
 
 -- With this term the coordinate is not too coarse.
-unfoldable pub coarse-fits : ℕ → Sums → ℤ → ℕ → ℤ → Bool
+unfoldable pub coarse-fits : ℕ → Tally → ℤ → ℕ → ℤ → Bool
 coarse-fits f s a b c = leb (s .coarse + weight f a b c) coarse-limit
 
 -- All of that: a term may come.
-unfoldable pub term-may-come : ℕ → Sums → Term → Bool
+unfoldable pub term-may-come : ℕ → Tally → Term → Bool
 term-may-come f s t =
     a-fits (t .a) && (total-fits s (t .a) && (b-fits (t .b) && (c-fits (t .c) && coarse-fits f s (t .a) (t .b) (t .c))))

@@ -7,19 +7,19 @@ use lib.IntN.{ℤ}
 use lib.ListN.{length}
 use Rattle.units.specs.declared.Refusal.{Refusal}
 use Rattle.units.specs.declared.Refusal.the-variants.{OverLimit, TotalOverLimit, TooCoarse, ByteAfterEnd}
-use Rattle.numbers.specs.Numbers.{Read, got, bad, next, number, encode, folded, unfolded}
+use Rattle.packed_numbers.specs.Numbers.{Read, got, bad, next, number, encode, folded, unfolded}
 use Rattle.packed.specs.declared.Term.{Term}
 use Rattle.packed.specs.declared.Checked.{Checked}
 use Rattle.packed.specs.declared.Checked.the-variants.{Terms, NoSeries}
-use Rattle.packed.specs.declared.Sums.{Sums}
-use Rattle.packed.specs.Limits.{no-sums, opened, added, factor, count-fits, a-fits, b-fits, c-fits, total-fits, coarse-fits, block-count}
+use Rattle.packed.specs.declared.Tally.{Tally}
+use Rattle.packed.specs.Limits.{no-tally, opened, added, factor, count-fits, a-fits, b-fits, c-fits, total-fits, coarse-fits, block-count}
 
 -- A value that passes a test, or the refusal with the offset of the last byte before at.
 unfoldable pub judged : {A : Type 0} → Bool → (ℕ → Refusal) → ℕ → Read A → Read A
 judged fits refusal at r = cond fits r (bad (refusal (at - 1)))
 
--- The numbers of a term, in a block with factor f after the sums s: 4 and 5 at a, 4 at b, 4 and 6 at c.
-unfoldable pub read-a : Sums → ℕ → List ℕ → Read ℤ
+-- The numbers of a term, in a block with factor f after the tally s: 4 and 5 at a, 4 at b, 4 and 6 at c.
+unfoldable pub read-a : Tally → ℕ → List ℕ → Read ℤ
 read-a s at bytes =
     next (number at bytes) (λ v to rest.
     judged (a-fits (unfolded v)) OverLimit to (judged (total-fits s (unfolded v)) TotalOverLimit to (got (unfolded v) to rest)))
@@ -27,47 +27,47 @@ read-a s at bytes =
 unfoldable pub read-b : ℕ → List ℕ → Read ℕ
 read-b at bytes = next (number at bytes) (λ v to rest. judged (b-fits v) OverLimit to (got v to rest))
 
-unfoldable pub read-c : ℕ → Sums → ℤ → ℕ → ℕ → List ℕ → Read ℤ
+unfoldable pub read-c : ℕ → Tally → ℤ → ℕ → ℕ → List ℕ → Read ℤ
 read-c f s a b at bytes =
     next (number at bytes) (λ v to rest.
     judged (c-fits (unfolded v)) OverLimit to (judged (coarse-fits f s a b (unfolded v)) TooCoarse to (got (unfolded v) to rest)))
 
-unfoldable pub read-term : ℕ → Sums → ℕ → List ℕ → Read Term
+unfoldable pub read-term : ℕ → Tally → ℕ → List ℕ → Read Term
 read-term f s at bytes =
     next (read-a s at bytes) (λ a at bytes.
     next (read-b at bytes) (λ b at bytes.
     next (read-c f s a b at bytes) (λ c at bytes. got (record { a = a; b = b; c = c }) at bytes)))
 
 -- n terms, each judged with those before it.
-unfoldable pub read-terms : ℕ → ℕ → Sums → ℕ → List ℕ → Read (List Term)
+unfoldable pub read-terms : ℕ → ℕ → Tally → ℕ → List ℕ → Read (List Term)
 read-terms zero f s at bytes = got [] at bytes
 read-terms (suc n) f s at bytes =
     next (read-term f s at bytes) (λ t at bytes.
     next (read-terms n f (added f s t) at bytes) (λ ts at bytes. got (t ∷ ts) at bytes))
 
 -- Block k: a count, judged with the counts before it, then that many terms.
-unfoldable pub read-block : ℕ → Sums → ℕ → List ℕ → Read (List Term)
+unfoldable pub read-block : ℕ → Tally → ℕ → List ℕ → Read (List Term)
 read-block k s at bytes =
     next (number at bytes) (λ n to rest.
     judged (count-fits s n) OverLimit to (read-terms n (factor k) (opened k n s) to rest))
 
--- The sums after a block's terms.
-unfoldable pub summed : ℕ → Sums → List Term → Sums
+-- The tally after a block's terms.
+unfoldable pub summed : ℕ → Tally → List Term → Tally
 summed f s [] = s
 summed f s (t ∷ ts) = summed f (added f s t) ts
 
-unfoldable pub after-block : ℕ → Sums → List Term → Sums
+unfoldable pub after-block : ℕ → Tally → List Term → Tally
 after-block k s ts = summed (factor k) (opened k (length ts) s) ts
 
 -- n blocks from block k.
-unfoldable pub read-blocks : ℕ → ℕ → Sums → ℕ → List ℕ → Read (List (List Term))
+unfoldable pub read-blocks : ℕ → ℕ → Tally → ℕ → List ℕ → Read (List (List Term))
 read-blocks zero k s at bytes = got [] at bytes
 read-blocks (suc n) k s at bytes =
     next (read-block k s at bytes) (λ ts at bytes.
     next (read-blocks n (k + 1) (after-block k s ts) at bytes) (λ blocks at bytes. got (ts ∷ blocks) at bytes))
 
 unfoldable pub read-series : ℕ → List ℕ → Read (List (List Term))
-read-series at bytes = read-blocks block-count 0 no-sums at bytes
+read-series at bytes = read-blocks block-count 0 no-tally at bytes
 
 -- A packed series is accepted with its blocks, or refused.
 pub data Parsed : Type 0 where

@@ -1,7 +1,8 @@
 // Packed series: document 01, "Series, as text and packed".
-pub mod inner;
+pub mod table;
+mod terms;
 
-use inner::unpack;
+use table::unpack;
 use units::Refusal;
 ghost use mathlib.Core.Path.{_≡_};
 ghost use Rattle.packed.specs.Series.{parse, checked};
@@ -15,7 +16,7 @@ pub struct Term {
 
 // The part of a series so far: the terms that its counts declare, the total |a| of the block, and the coarseness sum of the
 // coordinate.
-pub struct Sums {
+pub struct Tally {
     pub terms: u64,
     pub total: u64,
     pub coarse: u64,

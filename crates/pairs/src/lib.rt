@@ -5,11 +5,11 @@ ghost use lib.IntN.{pos, natAbs, _+ℤ_, _-ℤ_, _*ℤ_};
 ghost use Rattle.integers.specs.Division.{rounded};
 ghost use Rattle.units.specs.Units.{U, a-limit};
 ghost use Rattle.cosine.specs.Cosine.{y-of, evens, odds, horner, even-part, odd-part};
-ghost use Rattle.cosine.specs.Halves.{even-value, odd-value, InRange};
+ghost use Rattle.cosine.specs.machine.Parity.{even-value, odd-value, InRange};
 use arith::signed::add;
-use cosine::inner::first;
-use cosine::inner::square;
-use cosine::inner::step;
+use cosine::working::first;
+use cosine::working::square;
+use cosine::working::step;
 use cosine::term::scaled;
 
 // A number for each lane.

@@ -13,8 +13,8 @@ use mir.Val.{SFits}
 use Rattle.integers.proofs.Order.{natAbs-+}
 use Rattle.arith.proofs.Cells.{Cell, cell}
 use Rattle.units.specs.Units.{a-limit}
-use Rattle.cosine.specs.Halves.{InRange}
-use Rattle.pieces.specs.Parted.{room, half-sum, Small, Half, Closed}
+use Rattle.cosine.specs.machine.Parity.{InRange}
+use Rattle.pieces.specs.machine.Parted.{room, half-sum, Small, Half, Closed}
 use Rattle.pieces.proofs.Adding.{cells-fit, cells-are}
 
 module _ (f : ℤ → ℕ → ℤ) where

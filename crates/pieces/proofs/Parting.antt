@@ -10,16 +10,16 @@ use mir.Val.{SFits}
 use Rattle.arith.proofs.Cells.{Cell}
 use Rattle.units.specs.Units.{U, a-limit}
 use Rattle.cosine.specs.Cosine.{even-part, odd-part}
-use Rattle.cosine.specs.Halves.{even-value, odd-value, half-value, InRange}
+use Rattle.cosine.specs.machine.Parity.{even-value, odd-value, half-value, InRange}
 use Rattle.cosine.specs.Terms.{term-value}
 use Rattle.cosine.specs.declared.term.Worked.{Worked}
 use Rattle.packed.specs.declared.Term.{Term}
 use Rattle.packed.specs.Limits.{series-limit}
 use Rattle.packed.specs.Allowed.{BlockFits}
-use Rattle.packed.specs.Tables.{terms-at}
+use Rattle.packed.specs.machine.Tables.{terms-at}
 use Rattle.pieces.specs.declared.Counts.{Counts}
 use Rattle.pieces.specs.Sums.{block-sum}
-use Rattle.pieces.specs.Parted.{piece-limit, room, half-sum, PutInBoth, Small, Half, Parted}
+use Rattle.pieces.specs.machine.Parted.{piece-limit, room, half-sum, PutInBoth, Small, Half, Parted}
 use Rattle.pieces.proofs.Adding.{cells-fit, cells-are}
 use Rattle.pieces.proofs.Filling.{sum-same, half-none, half-less, half-same, sum-stored, half-more, half-closed, half-below}
 use Rattle.pieces.proofs.Sizes.{no-share}

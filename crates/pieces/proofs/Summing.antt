@@ -12,9 +12,9 @@ use Rattle.cosine.specs.Terms.{term-value}
 use Rattle.packed.specs.declared.Term.{Term}
 use Rattle.packed.specs.Limits.{total-limit, series-limit}
 use Rattle.packed.specs.Allowed.{TermFits, AllFit, none, more, BlockFits, total-of}
-use Rattle.packed.specs.Tables.{term-at, terms-at}
+use Rattle.packed.specs.machine.Tables.{term-at, terms-at}
 use Rattle.pieces.specs.Sums.{block-sum}
-use Rattle.pieces.specs.Parted.{piece-limit}
+use Rattle.pieces.specs.machine.Parted.{piece-limit}
 use Rattle.pieces.proofs.Sizes.{value-size, block-size}
 
 -- ---- terms and more terms

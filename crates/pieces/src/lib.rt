@@ -6,13 +6,13 @@
 ghost use mathlib.Core.Path.{_≡_};
 ghost use Prim.Native.Nat.{_+_, _-_, _≤_, _<_};
 ghost use lib.ListN.{length};
-ghost use Rattle.cosine.specs.Halves.{even-value, odd-value};
-ghost use Rattle.cosine.specs.Prepared.{Ready};
+ghost use Rattle.cosine.specs.machine.Parity.{even-value, odd-value};
+ghost use Rattle.cosine.specs.machine.Prepared.{Ready};
 ghost use Rattle.packed.specs.Limits.{series-limit};
-ghost use Rattle.packed.specs.Tables.{Sized, terms-at};
+ghost use Rattle.packed.specs.machine.Tables.{Sized, terms-at};
 ghost use Rattle.packed.specs.Allowed.{BlockFits};
 ghost use Rattle.pieces.specs.Sums.{block-sum};
-ghost use Rattle.pieces.specs.Parted.{piece-limit, room, half-sum, PutInBoth, Half, Closed, Parted};
+ghost use Rattle.pieces.specs.machine.Parted.{piece-limit, room, half-sum, PutInBoth, Half, Closed, Parted};
 use arith::signed::add;
 use cosine::term::Prepared;
 use cosine::term::Worked;

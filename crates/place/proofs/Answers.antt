@@ -14,8 +14,8 @@ use Rattle.units.specs.declared.Refusal.the-variants.{PastLimit}
 use Rattle.packed.specs.declared.Term.{Term}
 use Rattle.packed.specs.Series.{Parsed, accepted, refused, parse}
 use Rattle.series.specs.Sums.{coordinates}
-use Rattle.vectors.specs.declared.Vector.{Vector}
-use Rattle.vectors.specs.Sizes.{Components}
+use Rattle.rectangular.specs.declared.Vector.{Vector}
+use Rattle.rectangular.specs.machine.Components.{Components}
 use Rattle.nutation.specs.Nutation.{nutation-angle, obliquity-angle}
 use Rattle.place.specs.declared.Apparent.{Apparent}
 use Rattle.place.specs.declared.Equatorial.{Equatorial}
@@ -31,7 +31,7 @@ use Rattle.place.specs.declared.PlaceAnswer.the-variants.{Place, NoPlace
 use Rattle.place.specs.Apparent.{earlier, apparent, equatorial}
 use Rattle.place.specs.Place.{sight-at, taken-again, taken, of-series, sighting, of-sighting, place-answer}
 use Rattle.place.specs.Mount.{mount-place, mount, mount-answer}
-use Rattle.place.specs.Sizes.{reach, equator-reach, Clear, Small}
+use Rattle.place.specs.machine.Sizes.{reach, equator-reach, Clear, Small}
 use Rattle.place.proofs.Sights.{sight-clear}
 use Rattle.place.proofs.Rebuilt.{direction-le, latitude-le, at-equator}
 

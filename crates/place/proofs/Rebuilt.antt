@@ -16,19 +16,19 @@ use Rattle.arith.proofs.Ranges.{rounded-within}
 use Rattle.units.specs.Units.{turn, t-limit}
 use Rattle.units.specs.declared.Instant.{Instant}
 use Rattle.cosine.proofs.Turns.{cosine-mod, sine-mod}
-use Rattle.vectors.specs.declared.Vector.{Vector}
-use Rattle.vectors.specs.Vectors.{length, squared}
-use Rattle.vectors.specs.Rectangular.{rectangular}
-use Rattle.vectors.specs.Sizes.{Components}
+use Rattle.rectangular.specs.declared.Vector.{Vector}
+use Rattle.rectangular.specs.Vectors.{length, squared}
+use Rattle.rectangular.specs.Rectangular.{rectangular}
+use Rattle.rectangular.specs.machine.Components.{Components}
 use Rattle.arith.proofs.Cells.{Cell, cell}
-use Rattle.vectors.proofs.Places.{squared-size, reduced, residue-small, smaller, rectangular-size}
+use Rattle.rectangular.proofs.Places.{squared-size, reduced, residue-small, smaller, rectangular-size}
 use Rattle.direction.specs.Angles.{units-angle}
 use Rattle.direction.specs.Direction.{quarter-steps, turn-steps, steps-angle, greatest, in-quarter, first-quarter, turned-in, direction, latitude}
 use Rattle.nutation.specs.Nutation.{nutation-angle, obliquity-angle}
 use Rattle.place.specs.declared.Apparent.{Apparent}
 use Rattle.place.specs.declared.Equatorial.{Equatorial}
 use Rattle.place.specs.Apparent.{rebuilt, turned, apparent, equatorial}
-use Rattle.place.specs.Sizes.{reach, length-reach, equator-reach}
+use Rattle.place.specs.machine.Sizes.{reach, length-reach, equator-reach}
 use Rattle.place.proofs.Turned.{turned-size}
 
 -- ---- the range of a direction and of a latitude

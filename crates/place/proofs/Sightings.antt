@@ -20,7 +20,7 @@ use Rattle.place.specs.declared.Sighting.{Sighting}
 use Rattle.place.specs.declared.Sighting.the-variants.{Seen, NoSight}
 use Rattle.place.specs.Apparent.{sight, earlier}
 use Rattle.place.specs.Place.{sight-at, taken-again, taken, of-series, sighting}
-use Rattle.place.specs.Sizes.{Clear}
+use Rattle.place.specs.machine.Sizes.{Clear}
 use Rattle.place.proofs.Sights.{sight-clear}
 
 -- Both bodies, worked from one prepared instant.

@@ -5,16 +5,16 @@ use Prim.Native.Nat.{ℕ, _^_}
 use native.Mathlib.Omega.{arith}
 use Rattle.integers.proofs.Tests.{both}
 use Rattle.units.specs.declared.Coordinates.{Coordinates}
-use Rattle.vectors.specs.declared.Vector.{Vector}
-use Rattle.vectors.specs.Vectors.{geocentric, radius-usable, usable}
-use Rattle.vectors.specs.Rectangular.{place, distance, places-usable}
-use Rattle.vectors.proofs.Places.{smaller, length-in}
-use Rattle.vectors.proofs.Seen.{seen-in}
+use Rattle.rectangular.specs.declared.Vector.{Vector}
+use Rattle.rectangular.specs.Vectors.{geocentric, radius-usable, usable}
+use Rattle.rectangular.specs.Rectangular.{place, distance, places-usable}
+use Rattle.rectangular.proofs.Places.{smaller, length-in}
+use Rattle.rectangular.proofs.Seen.{seen-in}
 use Rattle.place.specs.declared.Geocentric.{Geocentric}
 use Rattle.place.specs.declared.Sight.{Sight}
 use Rattle.place.specs.declared.Sight.the-variants.{Usable, Unusable}
 use Rattle.place.specs.Apparent.{sight}
-use Rattle.place.specs.Sizes.{reach, Clear}
+use Rattle.place.specs.machine.Sizes.{reach, Clear}
 
 -- Places that are not usable have no sight, and usable ones have theirs.
 pub refused : (planet earth : Coordinates) → places-usable planet earth ≡ false → Unusable ≡ sight planet earth

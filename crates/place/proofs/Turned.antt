@@ -10,11 +10,11 @@ use Rattle.integers.specs.Division.{rounded}
 use Rattle.integers.proofs.Order.{natAbs-sub, natAbs-+, fits}
 use Rattle.units.specs.Units.{U}
 use Rattle.cosine.specs.Cosine.{cosine, sine}
-use Rattle.vectors.specs.declared.Vector.{Vector}
-use Rattle.vectors.specs.Sizes.{Components}
+use Rattle.rectangular.specs.declared.Vector.{Vector}
+use Rattle.rectangular.specs.machine.Components.{Components}
 use Rattle.arith.proofs.Cells.{Cell, cell}
 use Rattle.cosine.proofs.Ranges.{cosine-size, sine-size}
-use Rattle.vectors.proofs.Places.{scaled-size, three}
+use Rattle.rectangular.proofs.Places.{scaled-size, three}
 use Rattle.place.specs.Apparent.{turned}
 
 -- Each turned component is at most the sum of two.

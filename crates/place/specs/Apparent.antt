@@ -7,9 +7,9 @@ use Rattle.units.specs.Units.{U}
 use Rattle.units.specs.declared.Instant.{Instant}
 use Rattle.units.specs.declared.Coordinates.{Coordinates}
 use Rattle.cosine.specs.Cosine.{cosine, sine}
-use Rattle.vectors.specs.declared.Vector.{Vector}
-use Rattle.vectors.specs.Vectors.{geocentric, length}
-use Rattle.vectors.specs.Rectangular.{rectangular, place, distance, places-usable}
+use Rattle.rectangular.specs.declared.Vector.{Vector}
+use Rattle.rectangular.specs.Vectors.{geocentric, length}
+use Rattle.rectangular.specs.Rectangular.{rectangular, place, distance, places-usable}
 use Rattle.direction.specs.Direction.{steps-angle, direction, latitude}
 use Rattle.nutation.specs.Nutation.{nutation-angle, obliquity-angle}
 use Rattle.place.specs.declared.Sight.{Sight}

@@ -5,16 +5,16 @@ ghost use Rattle.place.specs.Mount.{mount-answer};
 
 mod bodies;
 mod doubles;
-mod inner;
+mod steps;
 
 use crate::bodies::sighting;
 use crate::doubles::figures;
 use crate::doubles::number_of;
-use crate::inner::apparent;
-use crate::inner::equatorial;
+use crate::steps::apparent;
+use crate::steps::equatorial;
 use units::Instant;
 use units::Refusal;
-use vectors::Vector;
+use rectangular::Vector;
 
 // The geocentric vector of a planet, in parts, and its length D.
 pub struct Geocentric {

@@ -4,7 +4,7 @@
 // and in the library's own whole numbers; or a refusal, its number, words and figure.
 ghost use Prim.Native.Nat.{_<_, _≤_, _^_};
 ghost use lib.IntN.{natAbs};
-ghost use Rattle.place.specs.Sizes.{Small};
+ghost use Rattle.place.specs.machine.Sizes.{Small};
 use arith::signed::abs;
 use arith::signed::is_neg;
 use arith::signed::natural_or;
@@ -15,12 +15,12 @@ use place::Equatorial;
 use place::PlaceAnswer;
 use place::apparent_place;
 use units::Instant;
-use words::Contents;
-use words::Figure;
-use words::explain;
-use words::number_argument;
-use words::print_signed;
-use words::read_file;
+use command_line::Contents;
+use command_line::Figure;
+use command_line::explain;
+use command_line::number_argument;
+use command_line::print_signed;
+use command_line::read_file;
 
 // A number with a decimal point: n over unit, which is a power of ten.
 fn print_decimals(below: bool, n: u64, unit: u64)

@@ -12,11 +12,11 @@ use Rattle.packed.specs.declared.Term.{Term}
 use Rattle.packed.specs.declared.Checked.the-variants.{NoSeries}
 use Rattle.packed.specs.Limits.{series-limit}
 use Rattle.packed.specs.Series.{Parsed, accepted, refused, parse, checked, term-count}
-use Rattle.packed.specs.Tables.{table-blocks, unpacked}
+use Rattle.packed.specs.machine.Tables.{table-blocks, unpacked}
 use Rattle.packed.proofs.Theorems.{accepted-allowed}
 use Rattle.printer.specs.declared.Printed.the-variants.{Length, NoText}
 use Rattle.printer.specs.Printer.{plain-text, text-fits, printed, printed-out}
-use Rattle.printer.specs.Writing.{Wrote, Ordered}
+use Rattle.printer.specs.machine.Writing.{Wrote, Ordered}
 use Rattle.printer.proofs.Tables.{ends-ordered}
 
 -- The text fits, or not.

@@ -12,7 +12,7 @@ use lib.ListN.{length, set, length-append, length-set}
 use lib.Seq.{sets}
 use Rattle.text.specs.Grammar.{digits}
 use Rattle.printer.specs.Printer.{last-digits, further, further-digits, first-digit, rest-digits}
-use Rattle.printer.specs.Writing.{Room, Wrote, whole-text}
+use Rattle.printer.specs.machine.Writing.{Room, Wrote, whole-text}
 use Rattle.printer.proofs.Writing.{Left, left-room, sets-last}
 
 -- The loop that counts: some number of digits more is enough for x.

@@ -9,14 +9,14 @@ use lib.ListN.{length, length-append}
 use Rattle.integers.specs.Signs.{negative}
 use Rattle.units.specs.Units.{parts}
 use Rattle.packed.specs.declared.Term.{Term}
-use Rattle.packed.specs.declared.Sums.{Sums}
+use Rattle.packed.specs.declared.Tally.{Tally}
 use Rattle.packed.specs.Series.{term-count}
 use Rattle.packed.proofs.Accepting.{GoodTerm}
 use Rattle.packed.proofs.Limits as limits
 use Rattle.packed.proofs.Judged as judged
-use Rattle.text.specs.Grammar.{sign, countBytes, decimal}
+use Rattle.text.specs.Grammar.{sign, count-bytes, decimal}
 use Rattle.printer.specs.Printer.{plain-decimal, plain-count, plain-text}
-use Rattle.printer.specs.Writing.{whole-text, line-text, lines-text, block-text}
+use Rattle.printer.specs.machine.Writing.{whole-text, line-text, lines-text, block-text}
 use Rattle.printer.proofs.Figures.{whole-length}
 use Rattle.printer.proofs.Pieces.{decimal-size, sign-length, line-length}
 use Rattle.printer.proofs.Numerals.{further-few}
@@ -28,7 +28,7 @@ whole-short n v h = omega (arith, whole-length v, further-few n v h)
 decimal-short : (minus : Bool) (n v : ℕ) → v / parts < 10 ^ suc n → length (decimal (plain-decimal minus v)) ≤ length (sign minus) + suc n + 12
 decimal-short minus n v h = omega (arith, decimal-size minus v, whole-short n (v / parts) h)
 
-line-short : (f : ℕ) (s : Sums) (t : Term) → GoodTerm f s t → length (line-text t) ≤ 53
+line-short : (f : ℕ) (s : Tally) (t : Term) → GoodTerm f s t → length (line-text t) ≤ 53
 unfolding sign
 line-short f s t g =
     let a = decimal-short (negative (t .a)) 4 (natAbs (t .a)) (omega (arith, g .good-a .small)) in
@@ -39,19 +39,19 @@ line-short f s t g =
     let l = line-length t _ _ _ _ refl refl refl refl _ _ _ refl refl refl in
     omega arith
 
-lines-short : {f : ℕ} {s : Sums} {ts : List Term} → limits.GoodTerms f s ts → length (lines-text ts) ≤ 53 * length ts
+lines-short : {f : ℕ} {s : Tally} {ts : List Term} → limits.GoodTerms f s ts → length (lines-text ts) ≤ 53 * length ts
 lines-short limits.good-none = rw lines-none (omega arith)
 lines-short {f} {s} {ts = t ∷ ts} (limits.good-term g h) =
     rw (lines-cons t ts) (omega (arith, length-append (line-text t) (lines-text ts), line-short f s t g, lines-short h))
 
-block-short : (k : ℕ) (s : Sums) (ts : List Term) → judged.GoodBlock k s ts → length (block-text ts) ≤ 5 + 53 * length ts
-unfolding block-text countBytes plain-count
+block-short : (k : ℕ) (s : Tally) (ts : List Term) → judged.GoodBlock k s ts → length (block-text ts) ≤ 5 + 53 * length ts
+unfolding block-text count-bytes plain-count
 block-short k s ts g =
     let w = whole-short 3 (length ts) (omega (arith, g .few)) in
-    let e : countBytes (plain-count (length ts)) ≡ whole-text (length ts) = unfold whole-text in refl in
-    omega (arith, ap length e, length-append (countBytes (plain-count (length ts))) (10 ∷ lines-text ts), lines-short (g .terms))
+    let e : count-bytes (plain-count (length ts)) ≡ whole-text (length ts) = unfold whole-text in refl in
+    omega (arith, ap length e, length-append (count-bytes (plain-count (length ts))) (10 ∷ lines-text ts), lines-short (g .terms))
 
-pub text-short : {k : ℕ} {s : Sums} {bs : List (List Term)} → judged.GoodBlocks k s bs → length (plain-text bs) ≤ 5 * length bs + 53 * term-count bs
+pub text-short : {k : ℕ} {s : Tally} {bs : List (List Term)} → judged.GoodBlocks k s bs → length (plain-text bs) ≤ 5 * length bs + 53 * term-count bs
 unfolding term-count
 text-short judged.none = rw text-none (omega arith)
 text-short {k} {s} {bs = ts ∷ bs} (judged.more g h) =

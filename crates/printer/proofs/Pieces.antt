@@ -9,9 +9,9 @@ use lib.IntN.{natAbs}
 use lib.ListN.{length}
 use Rattle.integers.specs.Signs.{negative}
 use Rattle.packed.specs.declared.Term.{Term}
-use Rattle.text.specs.Grammar.{spaces, sign, digits, decimal, termBytes}
+use Rattle.text.specs.Grammar.{spaces, sign, digits, decimal, term-bytes}
 use Rattle.printer.specs.Printer.{last-digits, plain-decimal, plain-term}
-use Rattle.printer.specs.Writing.{Room, Wrote, whole-text, line-text}
+use Rattle.printer.specs.machine.Writing.{Room, Wrote, whole-text, line-text}
 use Rattle.printer.proofs.Writing.{joined, total, length-joined}
 use Rattle.printer.proofs.Figures.{length-digits, length-last}
 
@@ -57,7 +57,7 @@ plus-wrote at out e = rw e (record { end = sym (add-zero at); holds = refl })
 -- A term's line: its decimals, two spaces and the line feed.
 module _ (t : Term) (ma : Bool) (va : ℕ) (mc : Bool) (vc : ℕ) (ea : ma ≡ negative (t .a)) (fa : va ≡ natAbs (t .a)) (ec : mc ≡ negative (t .c)) (fc : vc ≡ natAbs (t .c)) where
   pub line-pieces : line-text t ≡ joined (decimal (plain-decimal ma va) ∷ (32 ∷ []) ∷ decimal (plain-decimal false (t .b)) ∷ (32 ∷ []) ∷ decimal (plain-decimal mc vc) ∷ (10 ∷ []) ∷ [])
-  unfolding line-text termBytes plain-term spaces joined
+  unfolding line-text term-bytes plain-term spaces joined
   line-pieces =
       rw (ea, fa, ec, fc)
       (append-assoc (decimal (plain-decimal (negative (t .a)) (natAbs (t .a)))) (32 ∷ (decimal (plain-decimal false (t .b)) ++ (32 ∷ decimal (plain-decimal (negative (t .c)) (natAbs (t .c)))))) (10 ∷ [])

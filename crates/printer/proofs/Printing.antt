@@ -8,10 +8,10 @@ use lib.IntN.{natAbs}
 use lib.ListN.{length}
 use Rattle.integers.specs.Signs.{negative}
 use Rattle.packed.specs.declared.Term.{Term}
-use Rattle.text.specs.Grammar.{sign, digits, decimal, countBytes}
+use Rattle.text.specs.Grammar.{sign, digits, decimal, count-bytes}
 use Rattle.printer.specs.Printer.{last-digits, first-digit, rest-digits, plain-decimal, plain-count, plain-text}
 use Rattle.printer.specs.Plain.{Spaced, PlainText}
-use Rattle.printer.specs.Writing.{line-text, lines-text, block-text}
+use Rattle.printer.specs.machine.Writing.{line-text, lines-text, block-text}
 use Rattle.printer.proofs.Writing.{joined}
 use Rattle.printer.proofs.Pieces.{line-pieces}
 use Rattle.printer.proofs.Tables.{lines-cons, lines-none, text-cons, text-none}
@@ -91,7 +91,7 @@ lines-then [] ys h = rw lines-none h
 lines-then (t ∷ ts) ys h = rw (lines-cons t ts, append-assoc (line-text t) (lines-text ts) ys) (line-then t (lines-text ts ++ ys) (lines-then ts ys h))
 
 block-then : (ts : List Term) (ys : List ℕ) → Spaced 10 ys → Spaced 10 (block-text ts ++ ys)
-unfolding block-text countBytes plain-count digits
+unfolding block-text count-bytes plain-count digits
 block-then ts ys h =
     rw (append-assoc (digits (first-digit (length ts) ∷ rest-digits (length ts))) (10 ∷ lines-text ts) ys)
     (solid-then 10 (48 + first-digit (length ts)) (digits (rest-digits (length ts))) (10 ∷ (lines-text ts ++ ys)) (digit-solid (first-digit (length ts))) (solid-digits (rest-digits (length ts))) (λ q s. feed-then q (lines-text ts ++ ys) (lines-then ts ys h)))

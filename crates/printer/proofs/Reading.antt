@@ -9,7 +9,7 @@ use Rattle.integers.proofs.Division.{sgn-natAbs}
 use Rattle.integers.proofs.Order.{natAbs-sgn}
 use Rattle.units.specs.Units as units
 use Rattle.packed.specs.declared.Term.{Term}
-use Rattle.text.specs.Grammar.{numeral, Decimal, size, value, GoodDecimal, CountLine, count, GoodCount, TermLine, GoodTerm, termIn}
+use Rattle.text.specs.Grammar.{numeral, Decimal, size, value, GoodDecimal, CountLine, count, GoodCount, TermLine, GoodTerm, term-of-line}
 use Rattle.printer.specs.Printer.{last-digits, plain-decimal, plain-count, plain-term}
 use Rattle.printer.proofs.Figures.{length-last}
 use Rattle.printer.proofs.Spacing.{PlainLine}
@@ -80,14 +80,14 @@ count-unique k g = let u = natural-unique 4 (k .first) (k .more) g (omega arith)
 whole-is : (t : Term) {x z : ℤ} {y : ℕ} → t .a ≡ x → t .b ≡ y → t .c ≡ z → record { a = x; b = y; c = z } ≡ t
 whole-is t p q r = rw (← p, ← q, ← r)
 
-pub term-plain : (t : Term) → termIn (plain-term t) ≡ t
+pub term-plain : (t : Term) → term-of-line (plain-term t) ≡ t
 unfolding plain-term
 term-plain t = whole-is t (sym (value-plain (t .a))) (sym (size-plain false (t .b))) (sym (value-plain (t .c)))
 
 line-is : (l : TermLine) {x y z : ℕ} → l .lead ≡ x → l .after-a ≡ y → l .after-b ≡ z → record { lead = x; a = l .a; after-a = y; b = l .b; after-b = z; c = l .c } ≡ l
 line-is l p q r = rw (← p, ← q, ← r)
 
-pub term-unique : (l : TermLine) → GoodTerm l → PlainLine l → l .b .minus ≡ false → plain-term (termIn l) ≡ l
+pub term-unique : (l : TermLine) → GoodTerm l → PlainLine l → l .b .minus ≡ false → plain-term (term-of-line l) ≡ l
 unfolding plain-term
 term-unique l g p m =
     let b : plain-decimal false (size (l .b)) ≡ l .b = ap (λ (x : Bool). plain-decimal x (size (l .b))) (sym m) ∙ decimal-unique (l .b) (g .b) in

@@ -2,7 +2,7 @@
 use mathlib.Core.Path.{_≡_, refl}
 use mathlib.Core.List.{List, [], _∷_, _++_, append-assoc}
 use Prim.Native.Nat.{ℕ, zero, suc}
-use Rattle.text.specs.Grammar.{spaces, decimal, countBytes, TermLine, termBytes, linesBytes, Block, blocksBytes}
+use Rattle.text.specs.Grammar.{spaces, decimal, count-bytes, TermLine, term-bytes, lines-bytes, Block, blocks-bytes}
 use Rattle.printer.specs.Plain.{Spaced, PlainText}
 
 pub record PlainLine (l : TermLine) : Type 0 where
@@ -44,8 +44,8 @@ unfolding Spaced spaces
 no-more p zero ys h = refl
 no-more p (suc n) ys h = absurd (h .1 .0 refl .0 refl)
 
-line-plain : (l : TermLine) → Spaced 10 (termBytes l) → PlainLine l
-unfolding termBytes
+line-plain : (l : TermLine) → Spaced 10 (term-bytes l) → PlainLine l
+unfolding term-bytes
 line-plain l h =
     let e = decimal (l .c) in
     let d = (32 ∷ spaces (l .after-b)) ++ e in
@@ -65,17 +65,17 @@ fed : (p : ℕ) (xs ys : List ℕ) → Spaced p (xs ++ (10 ∷ ys)) → Spaced 1
 unfolding Spaced
 fed p xs ys h = past p xs (10 ∷ ys) h .is .1
 
-lines-plain : (ls : List TermLine) (ys : List ℕ) → Spaced 10 (linesBytes ls ++ ys) → PlainLines ls × Spaced 10 ys
-unfolding linesBytes PlainLines
+lines-plain : (ls : List TermLine) (ys : List ℕ) → Spaced 10 (lines-bytes ls ++ ys) → PlainLines ls × Spaced 10 ys
+unfolding lines-bytes PlainLines
 lines-plain [] ys h = (tt, h)
 lines-plain (l ∷ ls) ys h =
-    let k : Spaced 10 (termBytes l ++ (10 ∷ (linesBytes ls ++ ys))) = rw (append-assoc (termBytes l) (10 ∷ linesBytes ls) ys) at h in
-    let r = lines-plain ls ys (fed 10 (termBytes l) (linesBytes ls ++ ys) k) in
-    ((line-plain l (front 10 (termBytes l) (10 ∷ (linesBytes ls ++ ys)) k), r .0), r .1)
+    let k : Spaced 10 (term-bytes l ++ (10 ∷ (lines-bytes ls ++ ys))) = rw (append-assoc (term-bytes l) (10 ∷ lines-bytes ls) ys) at h in
+    let r = lines-plain ls ys (fed 10 (term-bytes l) (lines-bytes ls ++ ys) k) in
+    ((line-plain l (front 10 (term-bytes l) (10 ∷ (lines-bytes ls ++ ys)) k), r .0), r .1)
 
-pub text-plain : (ks : List Block) → PlainText (blocksBytes ks) → Plain ks
-unfolding blocksBytes Plain
+pub text-plain : (ks : List Block) → PlainText (blocks-bytes ks) → Plain ks
+unfolding blocks-bytes Plain
 text-plain [] h = tt
 text-plain (k ∷ ks) h =
-    let r = lines-plain (k .lines) (blocksBytes ks) (fed 10 (countBytes (k .head)) (linesBytes (k .lines) ++ blocksBytes ks) h) in
+    let r = lines-plain (k .lines) (blocks-bytes ks) (fed 10 (count-bytes (k .head)) (lines-bytes (k .lines) ++ blocks-bytes ks) h) in
     (r .0, text-plain ks (r .1))

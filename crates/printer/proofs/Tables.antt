@@ -11,27 +11,27 @@ use lib.Seq.{drop-cons}
 use Rattle.packed.specs.declared.Term.{Term}
 use Rattle.packed.specs.Limits.{series-limit}
 use Rattle.packed.specs.Series.{term-count}
-use Rattle.packed.specs.Tables.{term-at, terms-at, blocks-at, block-ends, table-blocks}
-use Rattle.text.specs.Grammar.{termBytes, linesBytes, countBytes, blocksBytes}
+use Rattle.packed.specs.machine.Tables.{term-at, terms-at, blocks-at, block-ends, table-blocks}
+use Rattle.text.specs.Grammar.{term-bytes, lines-bytes, count-bytes, blocks-bytes}
 use Rattle.printer.specs.Printer.{plain-count, plain-term, plain-block, plain-text}
-use Rattle.printer.specs.Writing.{term, whole-text, line-text, lines-text, block-text, Ordered}
+use Rattle.printer.specs.machine.Writing.{term, whole-text, line-text, lines-text, block-text, Ordered}
 use Rattle.printer.proofs.Writing.{joined, total, length-joined, Left, left-split}
 
 -- Lines and blocks, the first apart.
 pub lines-cons : (t : Term) (ts : List Term) → lines-text (t ∷ ts) ≡ line-text t ++ lines-text ts
-unfolding lines-text line-text linesBytes
-lines-cons t ts = sym (append-assoc (termBytes (plain-term t)) (10 ∷ []) (linesBytes (map plain-term ts)))
+unfolding lines-text line-text lines-bytes
+lines-cons t ts = sym (append-assoc (term-bytes (plain-term t)) (10 ∷ []) (lines-bytes (map plain-term ts)))
 
 pub lines-none : lines-text [] ≡ []
-unfolding lines-text linesBytes
+unfolding lines-text lines-bytes
 lines-none = refl
 
 pub text-cons : (ts : List Term) (blocks : List (List Term)) → plain-text (ts ∷ blocks) ≡ block-text ts ++ plain-text blocks
-unfolding plain-text block-text lines-text blocksBytes plain-block
-text-cons ts blocks = sym (append-assoc (countBytes (plain-count (length ts))) (10 ∷ linesBytes (map plain-term ts)) (blocksBytes (map plain-block blocks)))
+unfolding plain-text block-text lines-text blocks-bytes plain-block
+text-cons ts blocks = sym (append-assoc (count-bytes (plain-count (length ts))) (10 ∷ lines-bytes (map plain-term ts)) (blocks-bytes (map plain-block blocks)))
 
 pub text-none : plain-text [] ≡ []
-unfolding plain-text blocksBytes
+unfolding plain-text blocks-bytes
 text-none = refl
 
 module _ (la : List ℤ) (lb : List ℕ) (lc : List ℤ) where
@@ -42,7 +42,7 @@ module _ (la : List ℤ) (lb : List ℕ) (lc : List ℤ) where
 
   -- The block's text: count, line feed, lines.
   pub block-pieces : (k n : ℕ) → block-text (terms-at la lb lc k n) ≡ joined (whole-text n ∷ (10 ∷ []) ∷ lines-text (terms-at la lb lc k n) ∷ [])
-  unfolding block-text countBytes plain-count whole-text joined
+  unfolding block-text count-bytes plain-count whole-text joined
   block-pieces k n = rw (length-terms k n, append-nil (lines-text (terms-at la lb lc k n)))
 
   -- One term more, from place i to place end.

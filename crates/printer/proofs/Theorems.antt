@@ -6,15 +6,15 @@ use native.Mathlib.Omega.{arith}
 use borrow.Author.Tests.{le-leb}
 use lib.ListN.{length, take, replicate, length-replicate, length-map}
 use lib.Seq.{sets}
-use Rattle.numbers.proofs.Shortest.{AllBytes}
+use Rattle.packed_numbers.proofs.Shortest.{AllBytes}
 use Rattle.packed.specs.declared.Term.{Term}
-use Rattle.packed.specs.Limits.{no-sums}
+use Rattle.packed.specs.Limits.{no-tally}
 use Rattle.packed.specs.Series.{accepted, parse, pack}
 use Rattle.packed.proofs.Judged.{allowed-good}
 use Rattle.packed.proofs.Theorems.{accepted-allowed, pack-parse, parse-pack}
 use Rattle.text.specs.declared.Outcome.the-variants.{Accepted}
 use Rattle.text.specs.Reader.{told, whole}
-use Rattle.text.specs.Grammar.{Block, blocksBytes, blocksIn, GoodText, InLimits}
+use Rattle.text.specs.Grammar.{Block, blocks-bytes, blocks-of-lines, GoodText, InLimits}
 use Rattle.text.proofs.Theorems.{read-text, accepted-text}
 use Rattle.text.proofs.Series.{front, text-allowed, reads-packed}
 use Rattle.printer.specs.declared.Printed.the-variants.{Length}
@@ -35,7 +35,7 @@ longest x blocks e =
 pub record Follows (ks : List Block) (blocks : List (List Term)) : Type 0 where
   pub good : GoodText ks
   pub limits : InLimits ks
-  pub numbers : blocksIn ks ≡ blocks
+  pub numbers : blocks-of-lines ks ≡ blocks
 
 pub follows : (x : List ℕ) (blocks : List (List Term)) → parse x ≡ accepted blocks → Follows (map plain-block blocks) blocks
 follows x blocks e =
@@ -57,19 +57,19 @@ pub print-read : (x out : List ℕ) (blocks : List (List Term)) → AllBytes x �
 unfolding plain-text
 print-read x out blocks b e h =
     let f = follows x blocks e in
-    let p : pack (blocksIn (map plain-block blocks)) ≡ x = ap pack (f .numbers) ∙ sym (parse-pack x blocks b e) in
+    let p : pack (blocks-of-lines (map plain-block blocks)) ≡ x = ap pack (f .numbers) ∙ sym (parse-pack x blocks b e) in
     let s = longest x blocks e in
     let r = read-text (map plain-block blocks) out (f .good) (f .limits) (omega (arith, s)) (rw p h) in
     (rw p at (r .0), rw p at (r .1))
 
 -- A plain text, as the reader takes it, is printed back as it was, from the bytes that the reader gives for it.
-pub read-print : (ks : List Block) (out : List ℕ) → GoodText ks → InLimits ks → PlainText (blocksBytes ks) → length (blocksBytes ks) ≤ length out
-    → (printed (parse (pack (blocksIn ks))) out ≡ Length (length (blocksBytes ks))) × (printed-out (parse (pack (blocksIn ks))) out ≡ sets out 0 (blocksBytes ks))
+pub read-print : (ks : List Block) (out : List ℕ) → GoodText ks → InLimits ks → PlainText (blocks-bytes ks) → length (blocks-bytes ks) ≤ length out
+    → (printed (parse (pack (blocks-of-lines ks))) out ≡ Length (length (blocks-bytes ks))) × (printed-out (parse (pack (blocks-of-lines ks))) out ≡ sets out 0 (blocks-bytes ks))
 unfolding printed printed-out text-fits plain-text
 read-print ks out g l p h =
     let a = text-allowed ks g l in
-    let u = blocks-unique 0 no-sums ks (g .good) l (text-plain ks p) in
-    rw (pack-parse (blocksIn ks) a, u, le-leb (length (blocksBytes ks)) (length out) h) (refl, refl)
+    let u = blocks-unique 0 no-tally ks (g .good) l (text-plain ks p) in
+    rw (pack-parse (blocks-of-lines ks) a, u, le-leb (length (blocks-bytes ks)) (length out) h) (refl, refl)
 
 -- So an accepted plain text is printed back as it was, from the bytes that the reader wrote.
 pub accepted-printed : (text buffer out : List ℕ) (n : ℕ) → told (whole text buffer .reader) ≡ Accepted n → PlainText text → length text ≤ length out

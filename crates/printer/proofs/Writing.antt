@@ -6,8 +6,8 @@ use native.Mathlib.Nat.{add-zero}
 use native.Mathlib.Omega.{arith}
 use lib.ListN.{length, set, length-append}
 use lib.Seq.{sets, length-sets, set-comm}
-use Rattle.lists.proofs.Sets.{sets-append}
-use Rattle.printer.specs.Writing.{Room, Wrote}
+use Rattle.buffers.proofs.Sets.{sets-append}
+use Rattle.printer.specs.machine.Writing.{Room, Wrote}
 
 -- The pieces of a text, joined.
 unfoldable pub joined : List (List ℕ) → List ℕ

@@ -12,7 +12,7 @@ use Rattle.units.specs.Units as units
 use Rattle.units.specs.declared.Refusal.the-variants.{NoRoom}
 use Rattle.packed.specs.declared.Term.{Term}
 use Rattle.packed.specs.Series.{Parsed, accepted, refused}
-use Rattle.text.specs.Grammar.{Decimal, CountLine, TermLine, Block, blocksBytes}
+use Rattle.text.specs.Grammar.{Decimal, CountLine, TermLine, Block, blocks-bytes}
 use Rattle.printer.specs.declared.Printed.{Printed}
 use Rattle.printer.specs.declared.Printed.the-variants.{Length, NoText}
 
@@ -66,7 +66,7 @@ plain-block ts = record { head = plain-count (length ts); lines = map plain-term
 
 -- The plain text of a series.
 unfoldable pub plain-text : List (List Term) → List ℕ
-plain-text blocks = blocksBytes (map plain-block blocks)
+plain-text blocks = blocks-bytes (map plain-block blocks)
 
 -- The printer, of what a packed series is parsed to: its refusal; then 7 with the length that the text would need. On a refusal the lent
 -- buffer stays as it was, on a success what lies past the text.

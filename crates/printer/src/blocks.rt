@@ -8,9 +8,9 @@ ghost use mathlib.Core.Path.{_≡_};
 ghost use lib.ListN.{length};
 ghost use Prim.Native.Nat.{_+_, _-_, _*_, _≤_};
 ghost use Rattle.packed.specs.Limits.{series-limit, block-count};
-ghost use Rattle.packed.specs.Tables.{Sized, terms-at, table-blocks};
+ghost use Rattle.packed.specs.machine.Tables.{Sized, terms-at, table-blocks};
 ghost use Rattle.printer.specs.Printer.{plain-text};
-ghost use Rattle.printer.specs.Writing.{Room, Wrote, block-text, Ordered};
+ghost use Rattle.printer.specs.machine.Writing.{Room, Wrote, block-text, Ordered};
 
 // A block: its count line, and the lines of its terms, which stand in the table from place from to place end.
 fn block_length(a: &[i64; 8192], b: &[u64; 8192], c: &[i64; 8192], from: usize, end: usize) -> usize

@@ -5,7 +5,7 @@ ghost use lib.ListN.{length};
 ghost use Prim.Native.Nat.{_+_, _≤_};
 ghost use Rattle.text.specs.Grammar.{sign, digits, decimal};
 ghost use Rattle.printer.specs.Printer.{last-digits, further-digits, plain-decimal};
-ghost use Rattle.printer.specs.Writing.{Room, Wrote, whole-text};
+ghost use Rattle.printer.specs.machine.Writing.{Room, Wrote, whole-text};
 
 // How many digits a number has after its first.
 fn further_digits(v: u64) -> usize

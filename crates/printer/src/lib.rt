@@ -6,15 +6,15 @@ mod lines;
 use blocks::put_blocks;
 use blocks::text_length;
 use packed::Checked;
-use packed::inner::unpack;
+use packed::table::unpack;
 use units::Refusal;
 ghost use mathlib.Core.Path.{_≡_};
 ghost use lib.ListN.{length};
 ghost use Rattle.packed.specs.Limits.{block-count};
 ghost use Rattle.packed.specs.Series.{accepted, parse};
-ghost use Rattle.packed.specs.Tables.{Sized, table-blocks};
+ghost use Rattle.packed.specs.machine.Tables.{Sized, table-blocks};
 ghost use Rattle.printer.specs.Printer.{printed, printed-out};
-ghost use Rattle.printer.specs.Writing.{Ordered};
+ghost use Rattle.printer.specs.machine.Writing.{Ordered};
 
 // What printing answers: the length of the text, or the refusal.
 pub enum Printed {

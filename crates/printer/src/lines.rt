@@ -8,8 +8,8 @@ ghost use mathlib.Core.Path.{_≡_};
 ghost use lib.ListN.{length};
 ghost use Prim.Native.Nat.{_+_, _-_, _*_, _≤_};
 ghost use Rattle.packed.specs.Limits.{series-limit};
-ghost use Rattle.packed.specs.Tables.{Sized, terms-at};
-ghost use Rattle.printer.specs.Writing.{Room, Wrote, term, line-text, lines-text};
+ghost use Rattle.packed.specs.machine.Tables.{Sized, terms-at};
+ghost use Rattle.printer.specs.machine.Writing.{Room, Wrote, term, line-text, lines-text};
 
 fn line_length(a: i64, b: u64, c: i64) -> usize
     ensures { λ r. ⌜ (r ≡ length (line-text (term a b c))) × (r ≤ 102) ⌝ }

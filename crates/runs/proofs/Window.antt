@@ -8,7 +8,7 @@ use native.Mathlib.Numerals.{add-one}
 use lib.Dec.{eqb}
 use lib.ListN.{length, getD, drop, length-append, drop-of-length-le}
 use lib.Seq.{drop-cons, sets}
-use Rattle.lists.proofs.Sets.{sets-append}
+use Rattle.buffers.proofs.Sets.{sets-append}
 use Rattle.runs.specs.Runs.{first-listed, marks, runs, flags, run-numbers}
 
 pub listed-at : (w : List ℕ) (i : ℕ) → i < length w → eqb (getD w i 0) 1 ≡ first-listed (flags (drop i w))

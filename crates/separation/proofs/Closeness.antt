@@ -11,8 +11,8 @@ use Rattle.integers.proofs.Auto.{polys, ring!, cert!, cert<!, gap, gap<, _⊞_,
 use Rattle.integers.proofs.Order.{≺-≼, product-pos, ≺-nat}
 use Rattle.integers.proofs.Bounds.{Bd, bd-*, bd-+, bd-neg, bd-self, bd-as}
 use Rattle.units.specs.Units.{U}
-use Rattle.vectors.specs.declared.Vector.{Vector}
-use Rattle.vectors.specs.Vectors.{geocentric, sun, length, unit}
+use Rattle.rectangular.specs.declared.Vector.{Vector}
+use Rattle.rectangular.specs.Vectors.{geocentric, sun, length, unit}
 use Rattle.separation.proofs.Form.{scl, sub, Bd³}
 use Rattle.separation.proofs.Sizes.{Unit³}
 use Rattle.separation.proofs.Halves.{Close}

@@ -5,7 +5,7 @@ use mathlib.Core.Bool.{true}
 use Prim.Native.Nat.{ℕ, _+_, _≤_}
 use lib.IntN.{pos}
 use Rattle.units.specs.declared.Coordinates.{Coordinates}
-use Rattle.vectors.specs.Rectangular.{places-usable}
+use Rattle.rectangular.specs.Rectangular.{places-usable}
 use Rattle.separation.specs.Exact.{Exact-coordinates, Within-arcminutes}
 use Rattle.separation.specs.Listed.{listed}
 use Rattle.separation.specs.Near.{tolerance, Near-coordinates}

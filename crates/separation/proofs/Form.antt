@@ -7,8 +7,8 @@ use Rattle.integers.specs.Order.{_≼_, _≺_}
 use Rattle.integers.proofs.Auto.{polys, ring!, cert!, gap, gap<, _⊞_, _⊛_, _·_, sqr}
 use Rattle.integers.proofs.Order.{≼-or-≺}
 use Rattle.integers.proofs.Bounds.{Bd, bd-nonneg}
-use Rattle.vectors.specs.declared.Vector.{Vector}
-use Rattle.vectors.specs.Vectors.{geocentric}
+use Rattle.rectangular.specs.declared.Vector.{Vector}
+use Rattle.rectangular.specs.Vectors.{geocentric}
 
 unfoldable pub dot : Vector → Vector → ℤ
 dot a b = a .x *ℤ b .x +ℤ a .y *ℤ b .y +ℤ a .z *ℤ b .z

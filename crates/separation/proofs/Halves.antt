@@ -8,8 +8,8 @@ use Rattle.integers.proofs.Auto.{polys, ring!, cert!, gap, _⊞_, _⊛_, sqr}
 use Rattle.integers.proofs.Order.{≺-≼, cert*!, product-pos, factor-pos}
 use Rattle.integers.specs.Fractions.{Fraction}
 use Rattle.integers.proofs.Bounds.{Bd, bd-neg, bd-as}
-use Rattle.vectors.specs.declared.Vector.{Vector}
-use Rattle.vectors.specs.Vectors.{geocentric}
+use Rattle.rectangular.specs.declared.Vector.{Vector}
+use Rattle.rectangular.specs.Vectors.{geocentric}
 use Rattle.separation.proofs.Row.{eps, Row}
 use Rattle.separation.proofs.Form.{dot, scl, sub, form, Bd³, apart, form-scl, dot-scl, bd³-nonneg}
 use Rattle.separation.proofs.Transfer.{transfer, Passes, passes, form-low}

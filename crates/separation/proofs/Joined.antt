@@ -13,9 +13,9 @@ use Rattle.integers.proofs.Order.{product-pos}
 use Rattle.units.specs.Units.{parts, angle-per-part}
 use Rattle.units.specs.declared.Coordinates.{Coordinates}
 use Rattle.cosine.specs.Cosine.{cosine, sine}
-use Rattle.vectors.specs.declared.Vector.{Vector}
-use Rattle.vectors.specs.Vectors.{sun, squared, length, unit, radius-usable, usable}
-use Rattle.vectors.specs.Rectangular.{rectangular, place, distance, places-usable}
+use Rattle.rectangular.specs.declared.Vector.{Vector}
+use Rattle.rectangular.specs.Vectors.{sun, squared, length, unit, radius-usable, usable}
+use Rattle.rectangular.specs.Rectangular.{rectangular, place, distance, places-usable}
 use Rattle.separation.specs.Exact.{Exact-coordinates, exact-sun, exact-geocentric, cosine-of-arcminutes, Within-arcminutes}
 use Rattle.separation.specs.Listed.{squared-separation, threshold, listed}
 use Rattle.integers.proofs.Tests.{is-true, and-left, and-right}

@@ -13,8 +13,8 @@ use Rattle.integers.proofs.Auto.{polys, ring!, cert!, gap, gap<, _⊞_, _⊛_, 
 use Rattle.integers.proofs.Division.{rounded-low, rounded-high}
 use Rattle.integers.proofs.Bounds.{Bd, bd-*, bd-+, bd-self, bd-le, bd-cancel, bd-as, bd-rounded}
 use Rattle.units.specs.Units.{U}
-use Rattle.vectors.specs.declared.Vector.{Vector}
-use Rattle.vectors.specs.Vectors.{geocentric}
+use Rattle.rectangular.specs.declared.Vector.{Vector}
+use Rattle.rectangular.specs.Vectors.{geocentric}
 use Rattle.separation.proofs.Form.{scl, sub, Bd³}
 
 -- R in parts, and the cosines and sines over U (working), or all five over Q (exact).

@@ -8,7 +8,7 @@ use Rattle.integers.proofs.Pairs.{nonneg}
 use Rattle.integers.proofs.Auto.{polys, cert!, cert<!, gap, gap<, _⊞_, _⊛_, _·_, sqr}
 use Rattle.integers.proofs.Order.{≺-≼}
 use Rattle.units.specs.Units.{U}
-use Rattle.vectors.specs.declared.Vector.{Vector}
+use Rattle.rectangular.specs.declared.Vector.{Vector}
 use Rattle.separation.proofs.Row.{eps}
 use Rattle.separation.proofs.Form.{dot, scl, sub, Bd³, dot-scl, bd³-nonneg}
 use Rattle.separation.proofs.Transfer.{length-low, length-high}

@@ -7,8 +7,8 @@ use Rattle.integers.specs.Order.{_≼_, _≺_}
 use Rattle.integers.proofs.Auto.{polys, cert!, cert<!, gap, gap<, gap≡, _⊞_, _⊛_, _·_, sqr}
 use Rattle.integers.proofs.Order.{≼-or-≺, ≺-≼, cert*! }
 use Rattle.integers.proofs.Bounds.{Bd}
-use Rattle.vectors.specs.declared.Vector.{Vector}
-use Rattle.vectors.specs.Vectors.{geocentric}
+use Rattle.rectangular.specs.declared.Vector.{Vector}
+use Rattle.rectangular.specs.Vectors.{geocentric}
 use Rattle.separation.proofs.Form.{dot, scl, sub, form, Bd³, turned, form-comm, moved, product-bd}
 
 -- ---- F of nearby vectors.

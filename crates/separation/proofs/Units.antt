@@ -14,8 +14,8 @@ use Rattle.integers.proofs.Order.{cert*!, ≼-nat}
 use Rattle.integers.proofs.Root.{root-spec}
 use Rattle.integers.proofs.Bounds.{bd-rounded}
 use Rattle.units.specs.Units.{U}
-use Rattle.vectors.specs.declared.Vector.{Vector}
-use Rattle.vectors.specs.Vectors.{geocentric, squared, length, unit}
+use Rattle.rectangular.specs.declared.Vector.{Vector}
+use Rattle.rectangular.specs.Vectors.{geocentric, squared, length, unit}
 use Rattle.separation.proofs.Form.{dot, scl, sub, Bd³, root-bd, product-bd}
 use Rattle.separation.proofs.Sizes.{Unit³}
 

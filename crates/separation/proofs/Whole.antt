@@ -9,8 +9,8 @@ use Rattle.integers.proofs.Order.{≺-≼, product-pos}
 use Rattle.integers.proofs.Bounds.{Bd, bd-*, bd-self, bd-as}
 use Rattle.integers.proofs.Fractions.{Over, over-*, over-+, over-neg, over-scl, over-as}
 use Rattle.units.specs.Units.{U}
-use Rattle.vectors.specs.declared.Vector.{Vector}
-use Rattle.vectors.specs.Vectors.{geocentric, sun}
+use Rattle.rectangular.specs.declared.Vector.{Vector}
+use Rattle.rectangular.specs.Vectors.{geocentric, sun}
 use Rattle.separation.specs.Exact.{Exact-coordinates, cosᶠ, sinᶠ, exact-place, exact-sun, exact-geocentric}
 use Rattle.separation.proofs.Form.{scl}
 use Rattle.separation.proofs.WholeTest.{Over³}

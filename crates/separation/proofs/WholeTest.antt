@@ -6,7 +6,7 @@ use Rattle.integers.specs.Order.{_≺_}
 use Rattle.integers.specs.Fractions.{Fraction, _*ᶠ_, _+ᶠ_}
 use Rattle.integers.proofs.Order.{product-pos}
 use Rattle.integers.proofs.Fractions.{Over, over-*, over-+, over-scl, up-pos, n-pos, le-over, over-le}
-use Rattle.vectors.specs.declared.Vector.{Vector}
+use Rattle.rectangular.specs.declared.Vector.{Vector}
 use Rattle.separation.specs.Exact.{Vectorᶠ, dotᶠ, cosine-of-arcminutes, Exact-test}
 use Rattle.separation.proofs.Form.{dot}
 use Rattle.separation.proofs.Transfer.{Passes}

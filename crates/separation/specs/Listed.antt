@@ -7,9 +7,9 @@ use Rattle.integers.specs.Division.{rounded}
 use Rattle.units.specs.Units.{turn}
 use Rattle.cosine.specs.Cosine.{sine}
 use Rattle.units.specs.declared.Coordinates.{Coordinates}
-use Rattle.vectors.specs.declared.Vector.{Vector}
-use Rattle.vectors.specs.Vectors.{geocentric, sun, squared, unit}
-use Rattle.vectors.specs.Rectangular.{place}
+use Rattle.rectangular.specs.declared.Vector.{Vector}
+use Rattle.rectangular.specs.Vectors.{geocentric, sun, squared, unit}
+use Rattle.rectangular.specs.Rectangular.{place}
 
 -- "The squared difference of the two unit vectors (geometric, Sun and planet)."
 unfoldable pub squared-separation : (sun planet : Vector) → ℤ

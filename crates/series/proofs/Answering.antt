@@ -17,10 +17,10 @@ use Rattle.packed.specs.declared.Checked.{Checked}
 use Rattle.packed.specs.declared.Checked.the-variants.{Terms, NoSeries}
 use Rattle.packed.specs.Limits.{block-count}
 use Rattle.packed.specs.Series.{Parsed, accepted, refused, parse, checked}
-use Rattle.packed.specs.Tables.{Sized, Holds, table-blocks, unpacked}
+use Rattle.packed.specs.machine.Tables.{Sized, Holds, table-blocks, unpacked}
 use Rattle.series.specs.declared.CoordinatesAnswer.the-variants.{At, NoCoordinates}
 use Rattle.series.specs.Sums.{coordinates, of-parsed, coordinates-answer}
-use Rattle.series.specs.Tables.{Table}
+use Rattle.series.specs.machine.Tables.{Table}
 use Rattle.series.proofs.Accepted.{accepted-is}
 use Rattle.series.proofs.Filled.{filled}
 

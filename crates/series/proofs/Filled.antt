@@ -7,8 +7,8 @@ use lib.ListN.{length}
 use Rattle.packed.specs.declared.Term.{Term}
 use Rattle.packed.specs.Limits.{block-count}
 use Rattle.packed.specs.Allowed.{Allowed}
-use Rattle.packed.specs.Tables.{Sized, Holds}
-use Rattle.series.specs.Tables.{Table}
+use Rattle.packed.specs.machine.Tables.{Sized, Holds}
+use Rattle.series.specs.machine.Tables.{Table}
 use Rattle.series.proofs.Accepted.{Accepted}
 
 pub filled : (la : List ℤ) (lb : List ℕ) (lc : List ℤ) (ends : List ℕ) (bs : List (List Term)) → Sized la lb lc → length ends ≡ block-count → Holds la lb lc ends bs → Accepted bs → Table la lb lc ends

@@ -15,12 +15,12 @@ use Rattle.units.specs.Units.{millennium, t-limit}
 use Rattle.packed.specs.declared.Term.{Term}
 use Rattle.packed.specs.Limits.{total-limit, series-limit, block-count}
 use Rattle.packed.specs.Allowed.{BlockFits}
-use Rattle.packed.specs.Tables.{terms-at, table-blocks}
+use Rattle.packed.specs.machine.Tables.{terms-at, table-blocks}
 use Rattle.packed.proofs.Tabled.{block-start, rising, within-table, block-there}
 use Rattle.pieces.specs.Sums.{block-sum}
 use Rattle.pieces.proofs.Adding.{cells-fit, cells-are}
 use Rattle.pieces.proofs.Sizes.{block-size}
-use Rattle.series.specs.Tables.{Table}
+use Rattle.series.specs.machine.Tables.{Table}
 use Rattle.series.proofs.Sizes.{carried-size}
 
 module _ (la : List ℤ) (lb : List ℕ) (lc : List ℤ) (ends : List ℕ) (h : Table la lb lc ends) (j : ℕ) (hj : j < block-count) where

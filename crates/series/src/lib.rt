@@ -2,13 +2,13 @@
 ghost use mathlib.Core.Path.{_≡_};
 ghost use Rattle.series.specs.Sums.{coordinates-answer};
 
-pub mod inner;
+pub mod sums;
 
-use crate::inner::coordinates;
-use crate::inner::in_limit;
+use crate::sums::coordinates;
+use crate::sums::in_limit;
 use cosine::term::prepare;
 use packed::Checked;
-use packed::inner::unpack;
+use packed::table::unpack;
 use units::Coordinates;
 use units::Instant;
 use units::Refusal;

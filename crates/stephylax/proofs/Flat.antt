@@ -6,7 +6,7 @@ use lib.IntN.{ℤ, pos, negsuc}
 use mir.Syntax.{w64}
 use mir.Val.{SFits, toZ, ofZ}
 use Rattle.arith.proofs.Signs.{back}
-use Rattle.stephylax.specs.Answers.{clip, clipZ}
+use Rattle.stephylax.specs.Answers.{clip, clipped}
 use Rattle.stephylax.specs.declared.answers.One.{One}
 use Rattle.stephylax.specs.declared.answers.Moment.{Moment}
 use Rattle.stephylax.specs.declared.answers.Three.{Three}
@@ -20,8 +20,8 @@ unfolding clip
 clip-large n h = rw (le-ltb n 9223372036854775808 h)
 
 -- a number of 64 bits stays what it is
-pub clip-held : (z : ℤ) → SFits w64 z → z ≡ clipZ z
-unfolding clipZ
+pub clip-held : (z : ℤ) → SFits w64 z → z ≡ clipped z
+unfolding clipped
 clip-held (pos n) h = clip-small n (h .sfits)
 clip-held (negsuc n) h = refl
 

@@ -39,13 +39,13 @@ use Rattle.stephylax.specs.declared.answers.Doubles.{Doubles}
 unfoldable pub clip : ℕ → ℤ
 clip n = cond (ltb n 9223372036854775808) (pos n) (pos 9223372036854775807)
 
-unfoldable pub clipZ : ℤ → ℤ
-clipZ (pos n) = clip n
-clipZ (negsuc n) = negsuc n
+unfoldable pub clipped : ℤ → ℤ
+clipped (pos n) = clip n
+clipped (negsuc n) = negsuc n
 
 -- "Refusals and what they leave": the number and the figure.
 unfoldable pub flat : Refusal → Flat
-flat r = record { refusal = number r; figure = clipZ (figure r) }
+flat r = record { refusal = number r; figure = clipped (figure r) }
 
 -- The three shapes of an answer, refused.
 unfoldable pub one-refused : Refusal → One

@@ -6,7 +6,7 @@ use Prim.Native.Nat.{ℕ, _-_, _≤_}
 use borrow.Author.Tests.{leb-true}
 use lib.IntN.{ℤ, pos, negsuc, natAbs}
 use lib.ListN.{length}
-use Rattle.arith.specs.Signed.{naturalOr}
+use Rattle.arith.specs.machine.Signed.{natural-or}
 use Rattle.units.specs.Units.{t-limit, in-limit}
 use Rattle.units.specs.declared.Instant.{Instant}
 use Rattle.units.specs.declared.Refusal.{Refusal}
@@ -16,23 +16,23 @@ use Rattle.arith.proofs.Cells.{Cell}
 use Rattle.sunlist.specs.declared.ListAnswer.{ListAnswer}
 use Rattle.sunlist.specs.declared.ListAnswer.the-variants.{NoList}
 use Rattle.sunlist.specs.SunList.{minute, window-fits, Outcome, no-numbers, of-series, outcome, answered, written, sun-list, sun-list-out}
-use Rattle.sunlist.specs.Working.{Window}
+use Rattle.sunlist.specs.machine.Working.{Window}
 use Rattle.sunlist.proofs.Limits.{fits-is, minute-in}
 
 -- A negative number is refused as 0 is.
-fits-natural : (minutes keep-out : ℤ) → window-fits minutes keep-out ≡ window-fits (pos (naturalOr minutes 0)) (pos (naturalOr keep-out 0))
-unfolding window-fits naturalOr
+fits-natural : (minutes keep-out : ℤ) → window-fits minutes keep-out ≡ window-fits (pos (natural-or minutes 0)) (pos (natural-or keep-out 0))
+unfolding window-fits natural-or
 fits-natural (pos m) (pos k) = refl
 fits-natural (negsuc m) (pos k) = refl
 fits-natural (pos m) (negsuc k) = refl
 fits-natural (negsuc m) (negsuc k) = refl
 
-natural-is : (z : ℤ) → z ≡ pos (natAbs z) → naturalOr z 0 ≡ natAbs z
-unfolding naturalOr
-natural-is z e = ap (λ (y : ℤ). naturalOr y 0) e
+natural-is : (z : ℤ) → z ≡ pos (natAbs z) → natural-or z 0 ≡ natAbs z
+unfolding natural-or
+natural-is z e = ap (λ (y : ℤ). natural-or y 0) e
 
 module _ (planet earth : List ℕ) (t0 : Instant) (minutes keep-out : ℤ) (out : List ℕ) (n k : ℕ) (cm : Cell minutes ≡ minutes) (ck : Cell keep-out ≡ keep-out)
-    (hn : n ≡ naturalOr (Cell minutes) 0) (hk : k ≡ naturalOr (Cell keep-out) 0) (b : Bool) (hb : b ≡ window-fits (pos n) (pos k)) where
+    (hn : n ≡ natural-or (Cell minutes) 0) (hk : k ≡ natural-or (Cell keep-out) 0) (b : Bool) (hb : b ≡ window-fits (pos n) (pos k)) where
   told : (o : Outcome) (r : ListAnswer) (now : List ℕ) → outcome planet earth t0 minutes keep-out ≡ o → r ≡ answered (length out) o → now ≡ written out o → (r ≡ sun-list planet earth t0 minutes keep-out (length out)) × (now ≡ sun-list-out planet earth t0 minutes keep-out out)
   unfolding sun-list sun-list-out
   told o r now e p q = (p ∙ ap (answered (length out)) (sym e), q ∙ ap (written out) (sym e))
@@ -41,11 +41,11 @@ module _ (planet earth : List ℕ) (t0 : Instant) (minutes keep-out : ℤ) (out 
   unfolding answered written
   no-list x e = told (no-numbers x) (NoList x) out e refl refl
 
-  n-is : n ≡ naturalOr minutes 0
-  n-is = hn ∙ ap (λ (z : ℤ). naturalOr z 0) cm
+  n-is : n ≡ natural-or minutes 0
+  n-is = hn ∙ ap (λ (z : ℤ). natural-or z 0) cm
 
-  k-is : k ≡ naturalOr keep-out 0
-  k-is = hk ∙ ap (λ (z : ℤ). naturalOr z 0) ck
+  k-is : k ≡ natural-or keep-out 0
+  k-is = hk ∙ ap (λ (z : ℤ). natural-or z 0) ck
 
   fits-told : window-fits minutes keep-out ≡ b
   fits-told = fits-natural minutes keep-out ∙ sym (ap₂ (λ (x y : ℕ). window-fits (pos x) (pos y)) n-is k-is) ∙ sym hb

@@ -10,7 +10,7 @@ use lib.Seq.{take-suc-set, take-all}
 use Rattle.sunlist.specs.declared.Decision.{Decision}
 use Rattle.sunlist.specs.declared.Decision.the-variants.{Listed, Clear, Unusable}
 use Rattle.sunlist.specs.SunList.{good, flag-of, first-bad, window-flags}
-use Rattle.sunlist.specs.Working.{Filled}
+use Rattle.sunlist.specs.machine.Working.{Filled}
 
 -- Before minute j of n.
 pub record Filling (at : ℕ → Decision) (n j : ℕ) (flags : List ℕ) : Type 0 where

@@ -20,7 +20,7 @@ use Rattle.sunlist.specs.declared.Decision.{Decision}
 use Rattle.sunlist.specs.declared.ListAnswer.the-variants.{NoList}
 use Rattle.sunlist.specs.Minute.{decide}
 use Rattle.sunlist.specs.SunList.{minute, window-fits, decision-at, first-bad, window-flags, numbers, of-minutes, answered, written}
-use Rattle.sunlist.specs.Working.{Window, Filled}
+use Rattle.sunlist.specs.machine.Working.{Window, Filled}
 
 -- ---- fits
 

@@ -19,13 +19,13 @@ use Rattle.arith.proofs.Ranges.{scaled-within}
 use Rattle.units.specs.Units.{U, parts, turn, angle-per-part}
 use Rattle.units.specs.declared.Coordinates.{Coordinates}
 use Rattle.cosine.specs.Cosine.{sine}
-use Rattle.vectors.specs.declared.Vector.{Vector}
-use Rattle.vectors.specs.Vectors.{geocentric, sun, squared, length, unit, radius-usable, usable}
-use Rattle.vectors.specs.Rectangular.{rectangular, place, distance, places-usable}
-use Rattle.vectors.specs.Sizes.{Components}
+use Rattle.rectangular.specs.declared.Vector.{Vector}
+use Rattle.rectangular.specs.Vectors.{geocentric, sun, squared, length, unit, radius-usable, usable}
+use Rattle.rectangular.specs.Rectangular.{rectangular, place, distance, places-usable}
+use Rattle.rectangular.specs.machine.Components.{Components}
 use Rattle.cosine.proofs.Ranges.{}
-use Rattle.vectors.proofs.Places.{within-length}
-use Rattle.vectors.proofs.Usable.{radius-least}
+use Rattle.rectangular.proofs.Places.{within-length}
+use Rattle.rectangular.proofs.Usable.{radius-least}
 use Rattle.separation.specs.Listed.{squared-separation, threshold}
 use Rattle.separation.proofs.Form.{dot}
 use Rattle.separation.proofs.Sizes.{Unit³}

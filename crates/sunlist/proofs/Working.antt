@@ -11,14 +11,14 @@ use Rattle.integers.proofs.Order.{natAbs-neg, fits, square-natAbs}
 use Rattle.units.specs.Units.{U}
 use Rattle.units.specs.declared.Coordinates.{Coordinates}
 use Rattle.cosine.specs.Cosine.{sine}
-use Rattle.vectors.specs.declared.Vector.{Vector}
-use Rattle.vectors.specs.Vectors.{geocentric, sun, squared, length, unit}
-use Rattle.vectors.specs.Rectangular.{place, distance, places-usable}
-use Rattle.vectors.specs.Sizes.{Components}
+use Rattle.rectangular.specs.declared.Vector.{Vector}
+use Rattle.rectangular.specs.Vectors.{geocentric, sun, squared, length, unit}
+use Rattle.rectangular.specs.Rectangular.{place, distance, places-usable}
+use Rattle.rectangular.specs.machine.Components.{Components}
 use Rattle.arith.proofs.Cells.{Cell, cell}
 use Rattle.cosine.proofs.Ranges.{sine-size}
-use Rattle.vectors.proofs.Places.{smaller}
-use Rattle.vectors.proofs.Radii.{geocentric-size, place-in, radius-in}
+use Rattle.rectangular.proofs.Places.{smaller}
+use Rattle.rectangular.proofs.Radii.{geocentric-size, place-in, radius-in}
 use Rattle.separation.specs.Listed.{squared-separation, threshold, listed}
 use Rattle.sunlist.specs.declared.Figures.{Figures}
 use Rattle.sunlist.specs.declared.Decision.the-variants.{Listed, Clear, Unusable}

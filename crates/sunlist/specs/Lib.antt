@@ -2,4 +2,4 @@
 pub mod Minute
 pub mod SunList
 pub mod Demand
-pub mod Working
+pub mod machine

@@ -2,8 +2,8 @@
 use mathlib.Core.Bool.{cond}
 use Prim.Native.Nat.{ℕ}
 use Rattle.units.specs.declared.Coordinates.{Coordinates}
-use Rattle.vectors.specs.Vectors.{geocentric, sun, unit}
-use Rattle.vectors.specs.Rectangular.{place, distance, places-usable}
+use Rattle.rectangular.specs.Vectors.{geocentric, sun, unit}
+use Rattle.rectangular.specs.Rectangular.{place, distance, places-usable}
 use Rattle.separation.specs.Listed.{squared-separation, threshold, listed}
 use Rattle.sunlist.specs.declared.Figures.{Figures}
 use Rattle.sunlist.specs.declared.Decision.{Decision}

@@ -3,7 +3,7 @@ ghost use mathlib.Core.Path.{_≡_};
 ghost use lib.ListN.{length};
 ghost use Rattle.sunlist.specs.SunList.{sun-list, sun-list-out};
 
-mod inner;
+mod one_minute;
 mod list;
 mod window;
 
@@ -11,7 +11,7 @@ use crate::list::of_series;
 use crate::window::fits;
 use crate::window::minute;
 use arith::signed::natural_or;
-use series::inner::in_limit;
+use series::sums::in_limit;
 use units::Instant;
 use units::Refusal;
 

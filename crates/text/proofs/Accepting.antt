@@ -8,16 +8,16 @@ use borrow.Author.Tests.{eqb-true, eqb-false, ne-eqb}
 use lib.Dec.{eqb}
 use lib.ListN.{length, length-append}
 use lib.Seq.{sets, length-sets}
-use Rattle.numbers.specs.Numbers.{encode}
-use Rattle.packed.specs.declared.Sums.{Sums}
+use Rattle.packed_numbers.specs.Numbers.{encode}
+use Rattle.packed.specs.declared.Tally.{Tally}
 use Rattle.packed.specs.Limits.{opened, added, factor}
 use Rattle.packed.specs.Series.{summed, after-block, pack-term, pack-terms, pack-block, pack}
 use Rattle.text.specs.declared.Line.{Line}
 use Rattle.text.specs.declared.Reader.{Reader}
 use Rattle.text.specs.Lexer.{fresh, lexes}
-use Rattle.text.specs.Judge.{countRefusal, termRefusal}
-use Rattle.text.specs.Reader.{stopped, nextSpot, uncounted, step, stepOut, Run, run}
-use Rattle.text.specs.Grammar.{CountLine, count, countBytes, GoodCount, TermLine, termBytes, GoodTerm, termIn, Block, linesBytes, blocksBytes, termsIn, blocksIn, AllGood, GoodBlocks, TermsInLimits, BlocksInLimits}
+use Rattle.text.specs.Judge.{count-refusal, term-refusal}
+use Rattle.text.specs.Reader.{stopped, next-spot, uncounted, step, step-out, Run, run}
+use Rattle.text.specs.Grammar.{CountLine, count, count-bytes, GoodCount, TermLine, term-bytes, GoodTerm, term-of-line, Block, lines-bytes, blocks-bytes, terms-of-lines, blocks-of-lines, AllGood, GoodBlocks, TermsInLimits, BlocksInLimits}
 use Rattle.text.proofs.Judging.{by-cases}
 use Rattle.text.proofs.Writing.{sets-append}
 use Rattle.text.proofs.Lexing.{flag}
@@ -27,17 +27,17 @@ use Rattle.text.proofs.Lines.{last, moved, Taken, not-stopped, next-lin
 use Rattle.text.proofs.Verdicts.{sp, st, count-verdict, term-verdict, count-limits, term-limits, ends-count, ends-term}
 
 -- A count line that is taken, and what is left to read.
-record CountStep (at w k : ℕ) (s : Sums) (out xs : List ℕ) : Type 0 where
+record CountStep (at w k : ℕ) (s : Tally) (out xs : List ℕ) : Type 0 where
   c : CountLine
   good : GoodCount c
   rest : List ℕ
   to : ℕ
-  is : xs ≡ countBytes c ++ (10 ∷ rest)
-  fits : countRefusal k s (count c) ≡ 0
+  is : xs ≡ count-bytes c ++ (10 ∷ rest)
+  fits : count-refusal k s (count c) ≡ 0
   room : w + length (encode (count c)) ≤ length out
   next : run (sp 20 at w k 0 s) out xs ≡ run (st to (w + length (encode (count c))) (k + 1) (count c) (opened k (count c) s)) (sets out w (encode (count c))) rest
 
-count-step : (xs : List ℕ) (at w k : ℕ) (s : Sums) (out : List ℕ) → Taken (run (sp 20 at w k 0 s) out xs) → CountStep at w k s out xs
+count-step : (xs : List ℕ) (at w k : ℕ) (s : Tally) (out : List ℕ) → Taken (run (sp 20 at w k 0 s) out xs) → CountStep at w k s out xs
 count-step xs at w k s out t =
     let n = next-line xs (sp 20 at w k 0 s) out refl refl (λ e. omega (arith, e)) t in
     let m = length (n .body) in
@@ -60,17 +60,17 @@ count-step xs at w k s out t =
     }
 
 -- A term line that is taken.
-record TermStep (at w k n : ℕ) (s : Sums) (out xs : List ℕ) : Type 0 where
+record TermStep (at w k n : ℕ) (s : Tally) (out xs : List ℕ) : Type 0 where
   t : TermLine
   good : GoodTerm t
   rest : List ℕ
   to : ℕ
-  is : xs ≡ termBytes t ++ (10 ∷ rest)
-  fits : termRefusal (factor (k - 1)) s (flag (t .b .minus)) (termIn t) ≡ 0
-  room : w + length (pack-term (termIn t)) ≤ length out
-  next : run (sp 0 at w k n s) out xs ≡ run (st to (w + length (pack-term (termIn t))) k (n - 1) (added (factor (k - 1)) s (termIn t))) (sets out w (pack-term (termIn t))) rest
+  is : xs ≡ term-bytes t ++ (10 ∷ rest)
+  fits : term-refusal (factor (k - 1)) s (flag (t .b .minus)) (term-of-line t) ≡ 0
+  room : w + length (pack-term (term-of-line t)) ≤ length out
+  next : run (sp 0 at w k n s) out xs ≡ run (st to (w + length (pack-term (term-of-line t))) k (n - 1) (added (factor (k - 1)) s (term-of-line t))) (sets out w (pack-term (term-of-line t))) rest
 
-term-step : (xs : List ℕ) (at w k n : ℕ) (s : Sums) (out : List ℕ) → Taken (run (sp 0 at w k n s) out xs) → TermStep at w k n s out xs
+term-step : (xs : List ℕ) (at w k n : ℕ) (s : Tally) (out : List ℕ) → Taken (run (sp 0 at w k n s) out xs) → TermStep at w k n s out xs
 term-step xs at w k left s out t =
     let n = next-line xs (sp 0 at w k left s) out refl refl (λ e. omega (arith, e)) t in
     let m = length (n .body) in
@@ -94,27 +94,27 @@ term-step xs at w k left s out t =
     }
 
 -- After block 18 nothing may come.
-after-step : (x : ℕ) (xs : List ℕ) (at w k n : ℕ) (s : Sums) (out : List ℕ) {P : Type 0} → Taken (run (sp 30 at w k n s) out (x ∷ xs)) → P
+after-step : (x : ℕ) (xs : List ℕ) (at w k n : ℕ) (s : Tally) (out : List ℕ) {P : Type 0} → Taken (run (sp 30 at w k n s) out (x ∷ xs)) → P
 unfolding run step uncounted
 after-step x xs at w k n s out t =
     by-cases (eqb at last)
-    (λ z. not-stopped (stopped (sp 30 at w k n s) 3) (stepOut (sp 30 at w k n s) out x) xs (λ e. omega (arith, e)) (rw z at t))
-    (λ z. not-stopped (stopped (sp 30 at w k n s) 9) (stepOut (sp 30 at w k n s) out x) xs (λ e. omega (arith, e)) (rw z at t))
+    (λ z. not-stopped (stopped (sp 30 at w k n s) 3) (step-out (sp 30 at w k n s) out x) xs (λ e. omega (arith, e)) (rw z at t))
+    (λ z. not-stopped (stopped (sp 30 at w k n s) 9) (step-out (sp 30 at w k n s) out x) xs (λ e. omega (arith, e)) (rw z at t))
 
 -- What is left of a text that is taken: the terms left of the block, then blocks.
 abbrev pub packs : List TermLine → List Block → List ℕ
-packs ls ks = pack-terms (termsIn ls) ++ pack (blocksIn ks)
+packs ls ks = pack-terms (terms-of-lines ls) ++ pack (blocks-of-lines ks)
 
-pub record Rest (w k n : ℕ) (s : Sums) (out xs : List ℕ) (end : Run) : Type 0 where
+pub record Rest (w k n : ℕ) (s : Tally) (out xs : List ℕ) (end : Run) : Type 0 where
   pub lines : List TermLine
   pub ks : List Block
-  pub is : xs ≡ linesBytes lines ++ blocksBytes ks
+  pub is : xs ≡ lines-bytes lines ++ blocks-bytes ks
   pub left : length lines ≡ n
   pub good : AllGood lines
   pub limits : TermsInLimits (factor (k - 1)) s lines
   pub count : k + length ks ≡ 18
   pub goods : GoodBlocks ks
-  pub all : BlocksInLimits k (summed (factor (k - 1)) s (termsIn lines)) ks
+  pub all : BlocksInLimits k (summed (factor (k - 1)) s (terms-of-lines lines)) ks
   pub room : w + length (packs lines ks) ≤ length out
   pub wrote : end .out ≡ sets out w (packs lines ks)
   pub written : end .reader .written ≡ w + length (packs lines ks)
@@ -130,39 +130,39 @@ module _ (w : ℕ) (x y out : List ℕ) where
   join-written : (n : ℕ) → n ≡ w + length x + length y → n ≡ w + length (x ++ y)
   join-written n e = omega (arith, e, length-append x y)
 
-pub length-terms : (ls : List TermLine) → length (termsIn ls) ≡ length ls
-unfolding termsIn
+pub length-terms : (ls : List TermLine) → length (terms-of-lines ls) ≡ length ls
+unfolding terms-of-lines
 length-terms [] = refl
 length-terms (l ∷ ls) = ap suc (length-terms ls)
 
 pub packs-block : (b : Block) (ks : List Block) → packs [] (b ∷ ks) ≡ encode (length (b .lines)) ++ packs (b .lines) ks
-unfolding pack-terms termsIn blocksIn pack pack-block
+unfolding pack-terms terms-of-lines blocks-of-lines pack pack-block
 packs-block b ks =
-    append-assoc (encode (length (termsIn (b .lines)))) (pack-terms (termsIn (b .lines))) (pack (blocksIn ks))
+    append-assoc (encode (length (terms-of-lines (b .lines)))) (pack-terms (terms-of-lines (b .lines))) (pack (blocks-of-lines ks))
     ∙ (rw (length-terms (b .lines)))
 
-pub packs-term : (t : TermLine) (ls : List TermLine) (ks : List Block) → packs (t ∷ ls) ks ≡ pack-term (termIn t) ++ packs ls ks
-unfolding pack-terms termsIn
-packs-term t ls ks = append-assoc (pack-term (termIn t)) (pack-terms (termsIn ls)) (pack (blocksIn ks))
+pub packs-term : (t : TermLine) (ls : List TermLine) (ks : List Block) → packs (t ∷ ls) ks ≡ pack-term (term-of-line t) ++ packs ls ks
+unfolding pack-terms terms-of-lines
+packs-term t ls ks = append-assoc (pack-term (term-of-line t)) (pack-terms (terms-of-lines ls)) (pack (blocks-of-lines ks))
 
 pub less : (k : ℕ) → k + 1 - 1 ≡ k
 less k = omega arith
 
-count-rest : (at w k : ℕ) (s : Sums) (out xs : List ℕ) (end : Run) (c : CountStep at w k s out xs)
+count-rest : (at w k : ℕ) (s : Tally) (out xs : List ℕ) (end : Run) (c : CountStep at w k s out xs)
     → Rest (w + length (encode (count (c .c)))) (k + 1) (count (c .c)) (opened k (count (c .c)) s) (sets out w (encode (count (c .c)))) (c .rest) end
     → Rest w k 0 s out xs end
-unfolding linesBytes blocksBytes AllGood GoodBlocks TermsInLimits BlocksInLimits summed after-block termsIn
+unfolding lines-bytes blocks-bytes AllGood GoodBlocks TermsInLimits BlocksInLimits summed after-block terms-of-lines
 count-rest at w k s out xs end c r =
     let n = count (c .c) in
     let b : Block = record { head = c .c; lines = r .lines } in
     let q : packs [] (b ∷ r .ks) ≡ encode n ++ packs (r .lines) (r .ks) = packs-block b (r .ks) ∙ ap (λ (m : ℕ). encode m ++ packs (r .lines) (r .ks)) (r .left) in
     let limits = rw (less k) at (r .limits) in
     let all = rw (less k) at (r .all) in
-    let e : length (termsIn (r .lines)) ≡ n = length-terms (r .lines) ∙ r .left in
+    let e : length (terms-of-lines (r .lines)) ≡ n = length-terms (r .lines) ∙ r .left in
     record {
       lines = [];
       ks = b ∷ r .ks;
-      is = c .is ∙ ap (λ (y : List ℕ). countBytes (c .c) ++ (10 ∷ y)) (r .is);
+      is = c .is ∙ ap (λ (y : List ℕ). count-bytes (c .c) ++ (10 ∷ y)) (r .is);
       left = refl;
       good = tt;
       limits = tt;
@@ -174,17 +174,17 @@ count-rest at w k s out xs end c r =
       written = rw q (join-written w (encode n) (packs (r .lines) (r .ks)) out (end .reader .written) (r .written));
     }
 
-term-rest : (at w k n : ℕ) (s : Sums) (out xs : List ℕ) (end : Run) (c : TermStep at w k (suc n) s out xs)
-    → Rest (w + length (pack-term (termIn (c .t)))) k n (added (factor (k - 1)) s (termIn (c .t))) (sets out w (pack-term (termIn (c .t)))) (c .rest) end
+term-rest : (at w k n : ℕ) (s : Tally) (out xs : List ℕ) (end : Run) (c : TermStep at w k (suc n) s out xs)
+    → Rest (w + length (pack-term (term-of-line (c .t)))) k n (added (factor (k - 1)) s (term-of-line (c .t))) (sets out w (pack-term (term-of-line (c .t)))) (c .rest) end
     → Rest w k (suc n) s out xs end
-unfolding linesBytes AllGood TermsInLimits summed termsIn
+unfolding lines-bytes AllGood TermsInLimits summed terms-of-lines
 term-rest at w k n s out xs end c r =
-    let x = pack-term (termIn (c .t)) in
+    let x = pack-term (term-of-line (c .t)) in
     let q = packs-term (c .t) (r .lines) (r .ks) in
     record {
       lines = c .t ∷ r .lines;
       ks = r .ks;
-      is = c .is ∙ ap (λ (y : List ℕ). termBytes (c .t) ++ (10 ∷ y)) (r .is) ∙ sym (append-assoc (termBytes (c .t)) (10 ∷ linesBytes (r .lines)) (blocksBytes (r .ks)));
+      is = c .is ∙ ap (λ (y : List ℕ). term-bytes (c .t) ++ (10 ∷ y)) (r .is) ∙ sym (append-assoc (term-bytes (c .t)) (10 ∷ lines-bytes (r .lines)) (blocks-bytes (r .ks)));
       left = ap suc (r .left);
       good = (c .good, r .good);
       limits = (term-limits (factor (k - 1)) s (c .t) (c .fits), r .limits);
@@ -196,23 +196,23 @@ term-rest at w k n s out xs end c r =
       written = rw q (join-written w x (packs (r .lines) (r .ks)) out (end .reader .written) (r .written));
     }
 
-none-rest : (xs : List ℕ) (at w k n : ℕ) (s : Sums) (out : List ℕ) → w ≤ length out → Taken (run (sp 30 at w 18 0 s) out xs)
+none-rest : (xs : List ℕ) (at w k n : ℕ) (s : Tally) (out : List ℕ) → w ≤ length out → Taken (run (sp 30 at w 18 0 s) out xs)
     → Rest w 18 0 s out xs (run (sp 30 at w 18 0 s) out xs)
-unfolding linesBytes blocksBytes AllGood GoodBlocks TermsInLimits BlocksInLimits pack-terms pack termsIn blocksIn run
+unfolding lines-bytes blocks-bytes AllGood GoodBlocks TermsInLimits BlocksInLimits pack-terms pack terms-of-lines blocks-of-lines run
 none-rest [] at w k n s out h t =
     record { lines = []; ks = []; is = refl; left = refl; good = tt; limits = tt; count = refl; goods = tt; all = tt; room = omega arith; wrote = refl; written = sym (add-zero w) }
 none-rest (x ∷ xs) at w k n s out h t = after-step x xs at w 18 0 s out t
 
-pub spot-term : (k n : ℕ) → nextSpot k (suc n) ≡ 0
-unfolding nextSpot
+pub spot-term : (k n : ℕ) → next-spot k (suc n) ≡ 0
+unfolding next-spot
 spot-term k n = rw (ne-eqb (suc n) 0 (λ e. omega (arith, e)))
 
-pub spot-count : (k : ℕ) → (k ≡ 18 → ⊥) → nextSpot k 0 ≡ 20
-unfolding nextSpot
+pub spot-count : (k : ℕ) → (k ≡ 18 → ⊥) → next-spot k 0 ≡ 20
+unfolding next-spot
 spot-count k h = rw (ne-eqb k 18 h)
 
-pub spot-after : nextSpot 18 0 ≡ 30
-unfolding nextSpot
+pub spot-after : next-spot 18 0 ≡ 30
+unfolding next-spot
 spot-after = refl
 
 shorter : (xs body rest : List ℕ) → xs ≡ body ++ (10 ∷ rest) → length rest < length xs
@@ -221,26 +221,26 @@ shorter xs body rest e = omega (arith, ap length e, length-append body (10 ∷ r
 -- Texts that are shorter than xs.
 abbrev Shorter : List ℕ → Type 0
 Shorter xs =
-    (ys : List ℕ) (at w k n : ℕ) (s : Sums) (out : List ℕ) → length ys < length xs → w ≤ length out → Taken (run (st at w k n s) out ys)
+    (ys : List ℕ) (at w k n : ℕ) (s : Tally) (out : List ℕ) → length ys < length xs → w ≤ length out → Taken (run (st at w k n s) out ys)
     → Rest w k n s out ys (run (st at w k n s) out ys)
 
-module _ (xs : List ℕ) (rec : Shorter xs) (at w k : ℕ) (s : Sums) (out : List ℕ) where
+module _ (xs : List ℕ) (rec : Shorter xs) (at w k : ℕ) (s : Tally) (out : List ℕ) where
   of-count : CountStep at w k s out xs → Taken (run (sp 20 at w k 0 s) out xs) → Rest w k 0 s out xs (run (sp 20 at w k 0 s) out xs)
   of-count c t =
       let n = count (c .c) in
       rw (c .next)
       (count-rest at w k s out xs _ c
-      (rec (c .rest) (c .to) (w + length (encode n)) (k + 1) n (opened k n s) (sets out w (encode n)) (shorter xs (countBytes (c .c)) (c .rest) (c .is))
+      (rec (c .rest) (c .to) (w + length (encode n)) (k + 1) n (opened k n s) (sets out w (encode n)) (shorter xs (count-bytes (c .c)) (c .rest) (c .is))
       (omega (arith, c .room, length-sets out w (encode n))) (rw (c .next) at t)))
 
   of-term : (n : ℕ) → TermStep at w k (suc n) s out xs → Taken (run (sp 0 at w k (suc n) s) out xs) → Rest w k (suc n) s out xs (run (sp 0 at w k (suc n) s) out xs)
   of-term n c t =
-      let x = pack-term (termIn (c .t)) in
+      let x = pack-term (term-of-line (c .t)) in
       let e : suc n - 1 ≡ n = omega arith in
       let next = rw e at (c .next) in
       rw next
       (term-rest at w k n s out xs _ c
-      (rec (c .rest) (c .to) (w + length x) k n (added (factor (k - 1)) s (termIn (c .t))) (sets out w x) (shorter xs (termBytes (c .t)) (c .rest) (c .is))
+      (rec (c .rest) (c .to) (w + length x) k n (added (factor (k - 1)) s (term-of-line (c .t))) (sets out w x) (shorter xs (term-bytes (c .t)) (c .rest) (c .is))
       (omega (arith, c .room, length-sets out w x)) (rw next at t)))
 
   rest-step : (n : ℕ) → w ≤ length out → Taken (run (st at w k n s) out xs) → Rest w k n s out xs (run (st at w k n s) out xs)
@@ -251,12 +251,12 @@ module _ (xs : List ℕ) (rec : Shorter xs) (at w k : ℕ) (s : Sums) (out : Lis
   rest-step (suc n) h t =
       let e = spot-term k n in rw e (of-term n (term-step xs at w k (suc n) s out (rw e at t)) (rw e at t))
 
-rest-of : (N : ℕ) (xs : List ℕ) (at w k n : ℕ) (s : Sums) (out : List ℕ) → length xs ≤ N → w ≤ length out → Taken (run (st at w k n s) out xs)
+rest-of : (N : ℕ) (xs : List ℕ) (at w k n : ℕ) (s : Tally) (out : List ℕ) → length xs ≤ N → w ≤ length out → Taken (run (st at w k n s) out xs)
     → Rest w k n s out xs (run (st at w k n s) out xs)
 rest-of zero xs at w k n s out l h t = rest-step xs (λ ys at w k n s out i j u. absurd (omega (arith, i))) at w k s out n h t
 rest-of (suc N) xs at w k n s out l h t =
     rest-step xs (λ ys at w k n s out i j u. rest-of N ys at w k n s out (omega (arith, i)) j u) at w k s out n h t
 
-pub rest-in : (xs : List ℕ) (at w k n : ℕ) (s : Sums) (out : List ℕ) → w ≤ length out → Taken (run (st at w k n s) out xs)
+pub rest-in : (xs : List ℕ) (at w k n : ℕ) (s : Tally) (out : List ℕ) → w ≤ length out → Taken (run (st at w k n s) out xs)
     → Rest w k n s out xs (run (st at w k n s) out xs)
 rest-in xs at w k n s out h t = rest-of (length xs) xs at w k n s out (omega arith) h t

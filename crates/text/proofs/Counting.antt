@@ -7,8 +7,8 @@ use native.Mathlib.Nat.{add-zero}
 use native.Mathlib.Omega.{arith}
 use lib.ListN.{length}
 use Rattle.text.specs.declared.Line.{Line}
-use Rattle.text.specs.Lexer.{fresh, lex, lexes, wholeCount}
-use Rattle.text.specs.Grammar.{digits, AllDigits, numeral, CountLine, count, countBytes, GoodCount}
+use Rattle.text.specs.Lexer.{fresh, lex, lexes, whole-count}
+use Rattle.text.specs.Grammar.{digits, AllDigits, numeral, CountLine, count, count-bytes, GoodCount}
 use Rattle.text.proofs.Lexing.{put}
 use Rattle.text.proofs.Unlexing.{Lexed, none, digit, pointed, spaced, kept, negated, view, count-of, no-count, count-more}
 
@@ -21,7 +21,7 @@ record More (l : Line) (s v : ℕ) (xs : List ℕ) (F : Line) : Type 0 where
   leading : v ≡ 0 → ds ≡ []
   rest : put l (s + length ds) 0 (numeral v ds) ≡ F
 
-module _ (l : Line) (s v : ℕ) (b : ℕ) (bs : List ℕ) (F : Line) (w : wholeCount F ≡ true) (low : 21 ≤ s) where
+module _ (l : Line) (s v : ℕ) (b : ℕ) (bs : List ℕ) (F : Line) (w : whole-count F ≡ true) (low : 21 ≤ s) where
   more-next : ((v′ : ℕ) → lexes (put l (s + 1) 0 v′) bs ≡ F → More l (s + 1) v′ bs F)
       → (L : Line) → Lexed (put l s 0 v) b L → lexes L bs ≡ F → More l s v (b ∷ bs) F
   unfolding digits numeral AllDigits
@@ -43,7 +43,7 @@ module _ (l : Line) (s v : ℕ) (b : ℕ) (bs : List ℕ) (F : Line) (w : wholeC
   more-next rec _ (kept i h k) q = absurd (omega arith)
   more-next rec _ (negated i h k) q = absurd (omega arith)
 
-more : (xs : List ℕ) (l : Line) (s v : ℕ) (F : Line) → wholeCount F ≡ true → 21 ≤ s → lexes (put l s 0 v) xs ≡ F → More l s v xs F
+more : (xs : List ℕ) (l : Line) (s v : ℕ) (F : Line) → whole-count F ≡ true → 21 ≤ s → lexes (put l s 0 v) xs ≡ F → More l s v xs F
 unfolding lexes digits numeral AllDigits
 more [] l s v F w h q =
     let c = count-of F w in
@@ -55,11 +55,11 @@ more (b ∷ bs) l s v F w h q =
 pub record CountIn (xs : List ℕ) (F : Line) : Type 0 where
   pub k : CountLine
   pub good : GoodCount k
-  pub is : xs ≡ countBytes k
+  pub is : xs ≡ count-bytes k
   pub line : put (fresh 20) (21 + length (k .more)) 0 (count k) ≡ F
 
-pub count-in : (xs : List ℕ) (F : Line) → wholeCount F ≡ true → lexes (fresh 20) xs ≡ F → CountIn xs F
-unfolding lexes countBytes count digits
+pub count-in : (xs : List ℕ) (F : Line) → whole-count F ≡ true → lexes (fresh 20) xs ≡ F → CountIn xs F
+unfolding lexes count-bytes count digits
 count-in [] F w q = let c = count-of F w in let e = ap (λ (x : Line). x .spot) q in absurd (omega (arith, c .low))
 count-in (b ∷ bs) F w q = go (lex (fresh 20) b) (view (fresh 20) b) q
   where

@@ -9,9 +9,9 @@ use lib.Dec.{eqb}
 use lib.ListN.{length}
 use Rattle.text.specs.declared.Reader.{Reader}
 use Rattle.text.specs.declared.Outcome.the-variants.{Accepted, Refused}
-use Rattle.text.specs.Lexer.{lex, wholeCount, wholeTerm}
+use Rattle.text.specs.Lexer.{lex, whole-count, whole-term}
 use Rattle.text.specs.Judge.{verdict}
-use Rattle.text.specs.Reader.{begun, other, uncounted, step, stepOut, run, ended, refusal, told, whole}
+use Rattle.text.specs.Reader.{begun, other, uncounted, step, step-out, run, ended, refusal, told, whole}
 use Rattle.text.specs.Grammar.{TermLine}
 use Rattle.text.proofs.Judging.{by-cases}
 use Rattle.text.proofs.Verdicts.{count-among, term-among, wrote-status}
@@ -25,9 +25,9 @@ nothing (l ∷ ls) e = absurd (omega (arith, e))
 verdict-not-one : (r : Reader) → verdict r .refusal ≡ 1 → ⊥
 unfolding verdict
 verdict-not-one r =
-    by-cases (wholeCount (r .line))
+    by-cases (whole-count (r .line))
     (λ p. rw p (count-among Not (λ e. omega (arith, e)) (λ e. omega (arith, e)) (λ e. omega (arith, e)) _ _ _))
-    (λ p. by-cases (wholeTerm (r .line))
+    (λ p. by-cases (whole-term (r .line))
     (λ q. rw (p, q) (term-among Not (λ e. omega (arith, e)) (λ e. omega (arith, e)) (λ e. omega (arith, e)) (λ e. omega (arith, e)) _ _ _ _))
     (λ q. rw (p, q) (λ e. omega (arith, e))))
   where
@@ -50,7 +50,7 @@ step-not-one r out byte h =
 run-not-one : (xs : List ℕ) (r : Reader) (out : List ℕ) → (r .status ≡ 1 → ⊥) → run r out xs .reader .status ≡ 1 → ⊥
 unfolding run
 run-not-one [] r out h = h
-run-not-one (x ∷ xs) r out h = run-not-one xs (step r out x) (stepOut r out x) (step-not-one r out x h)
+run-not-one (x ∷ xs) r out h = run-not-one xs (step r out x) (step-out r out x) (step-not-one r out x h)
 
 -- What an acceptance says.
 told-refused : (r : Reader) → eqb (r .status) 0 ≡ false → eqb (r .status) 1 ≡ false → told r ≡ Refused (refusal (r .status) (r .place))

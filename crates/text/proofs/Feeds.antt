@@ -7,10 +7,10 @@ use native.Mathlib.Omega.{arith}
 use borrow.Author.Tests.{ne-eqb}
 use Rattle.text.specs.declared.Line.{Line}
 use Rattle.text.specs.declared.Reader.{Reader}
-use Rattle.text.specs.Lexer.{fresh, lexes, wholeCount, wholeTerm}
-use Rattle.text.specs.Judge.{Verdict, countEnd, termEnd, verdict}
+use Rattle.text.specs.Lexer.{fresh, lexes, whole-count, whole-term}
+use Rattle.text.specs.Judge.{Verdict, count-end, term-end, verdict}
 use Rattle.text.specs.Reader.{stopped, wrote, step}
-use Rattle.text.specs.Grammar.{CountLine, countBytes, GoodCount, TermLine, termBytes, GoodTerm}
+use Rattle.text.specs.Grammar.{CountLine, count-bytes, GoodCount, TermLine, term-bytes, GoodTerm}
 use Rattle.text.proofs.Judging.{by-cases}
 use Rattle.text.proofs.Stepping.{verdict-count, verdict-term, verdict-early}
 use Rattle.text.proofs.Lexing.{count-run, term-run}
@@ -22,12 +22,12 @@ use Rattle.text.proofs.Verdicts.{not-count, not-term, is-whole, count-a
 pub record IsTerm (xs : List ℕ) : Type 0 where
   pub t : TermLine
   pub good : GoodTerm t
-  pub is : xs ≡ termBytes t
+  pub is : xs ≡ term-bytes t
 
 pub record IsCount (xs : List ℕ) : Type 0 where
   pub c : CountLine
   pub good : GoodCount c
-  pub is : xs ≡ countBytes c
+  pub is : xs ≡ count-bytes c
 
 Not : ℕ → Type 0
 Not n = n ≡ 3 → ⊥
@@ -36,40 +36,40 @@ three : (r : Reader) (out : List ℕ) (v : Verdict) → v .refusal ≡ 3 → wro
 unfolding wrote
 three r out v e = let z = ne-eqb (v .refusal) 0 (λ q. omega (arith, q, e)) in rw (z, e)
 
-none-term : (r : Reader) → termEnd r .refusal ≡ 3 → ⊥
+none-term : (r : Reader) → term-end r .refusal ≡ 3 → ⊥
 unfolding Not
 none-term r = term-among Not (λ e. omega (arith, e)) (λ e. omega (arith, e)) (λ e. omega (arith, e)) (λ e. omega (arith, e)) _ _ _ _
 
-none-count : (r : Reader) → countEnd r .refusal ≡ 3 → ⊥
+none-count : (r : Reader) → count-end r .refusal ≡ 3 → ⊥
 unfolding Not
 none-count r = count-among Not (λ e. omega (arith, e)) (λ e. omega (arith, e)) (λ e. omega (arith, e)) _ _ _
 
 -- By whether the line is whole.
 module _ (r : Reader) (out : List ℕ) (g : Going r) where
-  early-feed : wholeCount (r .line) ≡ false → wholeTerm (r .line) ≡ false → step r out 10 ≡ stopped r 3
+  early-feed : whole-count (r .line) ≡ false → whole-term (r .line) ≡ false → step r out 10 ≡ stopped r 3
   early-feed p q = step-feed r out g .0 ∙ three r out (verdict r) (verdict-early r p q)
 
   whole-feed : (verdict r .refusal ≡ 3 → ⊥) → step r out 10 ≡ stopped r 3 → ⊥
   whole-feed h e = wrote-status 3 (λ q. omega (arith, q)) (λ q. omega (arith, q)) r out (verdict r) h (ap (λ (q : Reader). q .status) (sym (step-feed r out g .0) ∙ e))
 
   pub feed-term : (xs : List ℕ) → r .line ≡ lexes (fresh 0) xs → (step r out 10 ≡ stopped r 3 → IsTerm xs → ⊥) × ((IsTerm xs → ⊥) → step r out 10 ≡ stopped r 3)
-  unfolding wholeTerm
+  unfolding whole-term
   feed-term xs e =
-      let n : wholeCount (r .line) ≡ false = ap (λ (l : Line). wholeCount l) e ∙ not-count xs in (
+      let n : whole-count (r .line) ≡ false = ap (λ (l : Line). whole-count l) e ∙ not-count xs in (
         (λ s t. let l = e ∙ ap (λ (ys : List ℕ). lexes (fresh 0) ys) (t .is) ∙ term-run (t .t) (t .good) in
-            let v = verdict-term r n (ap (λ (x : Line). wholeTerm x) l) in
+            let v = verdict-term r n (ap (λ (x : Line). whole-term x) l) in
             whole-feed (λ q. none-term r (sym (ap (λ (x : Verdict). x .refusal) v) ∙ q)) s),
-        (λ h. by-cases (wholeTerm (lexes (fresh 0) xs))
+        (λ h. by-cases (whole-term (lexes (fresh 0) xs))
             (λ p. let t = term-in xs (lexes (fresh 0) xs) p refl in absurd (h (record { t = t .t; good = t .good; is = t .is })))
-            (λ p. early-feed n (ap (λ (l : Line). wholeTerm l) e ∙ p))),
+            (λ p. early-feed n (ap (λ (l : Line). whole-term l) e ∙ p))),
       )
 
   pub feed-count : (xs : List ℕ) → r .line ≡ lexes (fresh 20) xs → (step r out 10 ≡ stopped r 3 → IsCount xs → ⊥) × ((IsCount xs → ⊥) → step r out 10 ≡ stopped r 3)
   feed-count xs e = (
     (λ s t. let l = e ∙ ap (λ (ys : List ℕ). lexes (fresh 20) ys) (t .is) ∙ count-run (t .c) (t .good) in
-        let v = verdict-count r (ap (λ (x : Line). wholeCount x) l ∙ is-whole (t .c) (t .good)) in
+        let v = verdict-count r (ap (λ (x : Line). whole-count x) l ∙ is-whole (t .c) (t .good)) in
         whole-feed (λ q. none-count r (sym (ap (λ (x : Verdict). x .refusal) v) ∙ q)) s),
-    (λ h. by-cases (wholeCount (lexes (fresh 20) xs))
+    (λ h. by-cases (whole-count (lexes (fresh 20) xs))
         (λ p. let t = count-in xs (lexes (fresh 20) xs) p refl in absurd (h (record { c = t .k; good = t .good; is = t .is })))
-        (λ p. early-feed (ap (λ (l : Line). wholeCount l) e ∙ p) (ap (λ (l : Line). wholeTerm l) e ∙ not-term xs))),
+        (λ p. early-feed (ap (λ (l : Line). whole-count l) e ∙ p) (ap (λ (l : Line). whole-term l) e ∙ not-term xs))),
   )

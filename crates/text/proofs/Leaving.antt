@@ -10,18 +10,18 @@ use borrow.Author.Tests.{leb-true, eqb-true, eqb-false, eq-eqb, ne-eqb}
 use lib.Dec.{leb, eqb}
 use lib.ListN.{length, length-append}
 use lib.Seq.{sets, length-sets}
-use Rattle.numbers.specs.Numbers.{encode}
+use Rattle.packed_numbers.specs.Numbers.{encode}
 use Rattle.packed.specs.Series.{pack-term}
 use Rattle.text.specs.declared.Line.{Line}
 use Rattle.text.specs.declared.Reader.{Reader}
-use Rattle.text.specs.Lexer.{fresh, lex, lexes, wholeCount, wholeTerm}
-use Rattle.text.specs.Judge.{Verdict, termOf, verdict}
-use Rattle.text.specs.Reader.{begun, stopped, inLine, nextSpot, nextLine, fits, putBytes, wrote, wroteOut, uncounted, step, stepOut, Run, run}
-use Rattle.text.specs.Grammar.{AnyLine, a-count, a-term, lineBytes, linePacked, GoodLine, anyBytes, anyPacked, GoodLines, NoFeed}
+use Rattle.text.specs.Lexer.{fresh, lex, lexes, whole-count, whole-term}
+use Rattle.text.specs.Judge.{Verdict, term-on-line, verdict}
+use Rattle.text.specs.Reader.{begun, stopped, further-in-line, next-spot, after-line, fits, put-bytes, wrote, wrote-out, uncounted, step, step-out, Run, run}
+use Rattle.text.specs.Grammar.{AnyLine, a-count, a-term, line-bytes, line-packed, GoodLine, any-bytes, any-packed, GoodLines, NoFeed}
 use Rattle.text.proofs.Judging.{by-cases}
 use Rattle.text.proofs.Writing.{sets-append}
 use Rattle.text.proofs.Stepping.{verdict-count, verdict-term}
-use Rattle.text.proofs.Lexing.{termLine}
+use Rattle.text.proofs.Lexing.{line-of-term}
 use Rattle.text.proofs.Parsing.{term-in}
 use Rattle.text.proofs.Counting.{count-in}
 use Rattle.text.proofs.Lines.{last, Going, step-in, step-bad, step-feed, stays, NextLine, feed-run, moved-none, byte-line, step-last}
@@ -46,7 +46,7 @@ record Halts (r : Reader) (out xs : List ℕ) : Type 0 where
   reading : run r out xs .reader .status ≡ 0 → NoFeed xs
 
 halt-now : (r : Reader) (out : List ℕ) (x : ℕ) (xs : List ℕ) (n : ℕ) → (n ≡ 0 → ⊥)
-    → step r out x ≡ stopped r n → stepOut r out x ≡ out → Halts r out (x ∷ xs)
+    → step r out x ≡ stopped r n → step-out r out x ≡ out → Halts r out (x ∷ xs)
 unfolding run NoFeed
 halt-now r out x xs n h e f =
     let q = ap (λ (o : List ℕ). run (step r out x) o xs) f ∙ ap (λ (s : Reader). run s out xs) e ∙ stays xs (stopped r n) out h in
@@ -58,7 +58,7 @@ halt-now r out x xs n h e f =
     }
 
 halt-later : (r : Reader) (out : List ℕ) (x : ℕ) (xs : List ℕ) → Going r → (x ≡ 10 → ⊥) → (lex (r .line) x .spot ≡ 31 → ⊥)
-    → Halts (inLine r (lex (r .line) x)) out xs → Halts r out (x ∷ xs)
+    → Halts (further-in-line r (lex (r .line) x)) out xs → Halts r out (x ∷ xs)
 unfolding run NoFeed
 halt-later r out x xs g h k e =
     let t = step-in r out x g h k in
@@ -80,7 +80,7 @@ halt-later r out x xs g h k e =
     }
 
 feed-event : (r : Reader) (out xs : List ℕ) → r .place ≡ 0 → Going r → NextLine r out (10 ∷ xs) ⊎ Halts r out (10 ∷ xs)
-unfolding lexes wrote wroteOut putBytes fits
+unfolding lexes wrote wrote-out put-bytes fits
 feed-event r out xs p g =
     let f = step-feed r out g in
     by-cases (eqb (verdict r .refusal) 0)
@@ -96,10 +96,10 @@ feed-event r out xs p g =
       next = feed-run r out xs g (eqb-true (verdict r .refusal) 0 z) (leb-true (r .written + length (verdict r .bytes)) (length out) y);
     }))
     (λ y. let q : wrote r out (verdict r) ≡ stopped r 7 = rw (z, y) in
-    let o : wroteOut r out (verdict r) ≡ out = rw (z, y) in
+    let o : wrote-out r out (verdict r) ≡ out = rw (z, y) in
     inr (halt-now r out 10 xs 7 (λ e. omega (arith, e)) (f .0 ∙ q) (f .1 ∙ o))))
     (λ z. let q : wrote r out (verdict r) ≡ stopped r (verdict r .refusal) = rw z in
-    let o : wroteOut r out (verdict r) ≡ out = rw z in
+    let o : wrote-out r out (verdict r) ≡ out = rw z in
     inr (halt-now r out 10 xs (verdict r .refusal) (eqb-false (verdict r .refusal) 0 z) (f .0 ∙ q) (f .1 ∙ o)))
 
 -- The next event: a whole line that is written, or none.
@@ -120,23 +120,23 @@ event (x ∷ xs) r out s p =
     (λ z. by-cases (eqb (r .line .spot) 30)
     (λ y. let t = after-all r out x s (eqb-false (r .at) last z) (eqb-true (r .line .spot) 30 y) in inr (halt-now r out x xs 9 (λ e. omega (arith, e)) (t .0) (t .1)))
     (λ y. inside x xs r out p (record { status = s; counts = eqb-false (r .at) last z; inside = eqb-false (r .line .spot) 30 y })
-    (event xs (inLine r (lex (r .line) x)) out refl refl)))
+    (event xs (further-in-line r (lex (r .line) x)) out refl refl)))
   where
-    last-out : (r : Reader) (out : List ℕ) (x : ℕ) → r .status ≡ 0 → r .at ≡ last → stepOut r out x ≡ out
-    last-out r out x s e = unfold stepOut uncounted in rw (eq-eqb (r .status) 0 s, eq-eqb (r .at) last e)
+    last-out : (r : Reader) (out : List ℕ) (x : ℕ) → r .status ≡ 0 → r .at ≡ last → step-out r out x ≡ out
+    last-out r out x s e = unfold step-out uncounted in rw (eq-eqb (r .status) 0 s, eq-eqb (r .at) last e)
 
     after-all : (r : Reader) (out : List ℕ) (x : ℕ) → r .status ≡ 0 → (r .at ≡ last → ⊥) → r .line .spot ≡ 30
-        → (step r out x ≡ stopped r 9) × (stepOut r out x ≡ out)
+        → (step r out x ≡ stopped r 9) × (step-out r out x ≡ out)
     after-all r out x s n e =
-        unfold step stepOut uncounted in
+        unfold step step-out uncounted in
         (rw (eq-eqb (r .status) 0 s, ne-eqb (r .at) last n, eq-eqb (r .line .spot) 30 e), rw (eq-eqb (r .status) 0 s, ne-eqb (r .at) last n, eq-eqb (r .line .spot) 30 e))
 
-    other-out : (r : Reader) (out : List ℕ) (x : ℕ) → Going r → (x ≡ 10 → ⊥) → stepOut r out x ≡ out
+    other-out : (r : Reader) (out : List ℕ) (x : ℕ) → Going r → (x ≡ 10 → ⊥) → step-out r out x ≡ out
     other-out r out x g h =
-        unfold stepOut uncounted in rw (eq-eqb (r .status) 0 (g .status), ne-eqb (r .at) last (g .counts), ne-eqb (r .line .spot) 30 (g .inside), ne-eqb x 10 h)
+        unfold step-out uncounted in rw (eq-eqb (r .status) 0 (g .status), ne-eqb (r .at) last (g .counts), ne-eqb (r .line .spot) 30 (g .inside), ne-eqb x 10 h)
 
     inside : (x : ℕ) (xs : List ℕ) (r : Reader) (out : List ℕ) → r .place ≡ 0 → Going r
-        → NextLine (inLine r (lex (r .line) x)) out xs ⊎ Halts (inLine r (lex (r .line) x)) out xs → NextLine r out (x ∷ xs) ⊎ Halts r out (x ∷ xs)
+        → NextLine (further-in-line r (lex (r .line) x)) out xs ⊎ Halts (further-in-line r (lex (r .line) x)) out xs → NextLine r out (x ∷ xs) ⊎ Halts r out (x ∷ xs)
     inside x xs r out p g e =
         by-cases (eqb x 10)
         (λ z. rw (eqb-true x 10 z) (feed-event r out xs p g))
@@ -145,7 +145,7 @@ event (x ∷ xs) r out s p =
         (other-out r out x g (eqb-false x 10 z))))
         (λ y. on e (eqb-false x 10 z) (eqb-false (lex (r .line) x .spot) 31 y)))
       where
-        on : NextLine (inLine r (lex (r .line) x)) out xs ⊎ Halts (inLine r (lex (r .line) x)) out xs → (x ≡ 10 → ⊥) → (lex (r .line) x .spot ≡ 31 → ⊥)
+        on : NextLine (further-in-line r (lex (r .line) x)) out xs ⊎ Halts (further-in-line r (lex (r .line) x)) out xs → (x ≡ 10 → ⊥) → (lex (r .line) x .spot ≡ 31 → ⊥)
             → NextLine r out (x ∷ xs) ⊎ Halts r out (x ∷ xs)
         on (inl n) h k = inl (byte-line r out x xs g h k n)
         on (inr n) h k = inr (halt-later r out x xs g h k n)
@@ -156,7 +156,7 @@ record Begins (r : Reader) : Type 0 where
   place : r .place ≡ 0
   line : (r .line ≡ fresh 0) ⊎ ((r .line ≡ fresh 20) ⊎ (r .line ≡ fresh 30))
 
-next-begins : (r : Reader) (k n : ℕ) → r .status ≡ 0 → r .place ≡ 0 → r .line ≡ fresh (nextSpot k n) → Begins r
+next-begins : (r : Reader) (k n : ℕ) → r .status ≡ 0 → r .place ≡ 0 → r .line ≡ fresh (next-spot k n) → Begins r
 next-begins r k n s p e =
     record {
       status = s;
@@ -169,21 +169,21 @@ next-begins r k n s p e =
           (λ z. inl (e ∙ ap fresh (to0 z)));
     }
   where
-    to30 : eqb n 0 ≡ true → eqb k 18 ≡ true → nextSpot k n ≡ 30
-    to30 z y = unfold nextSpot in rw (z, y)
+    to30 : eqb n 0 ≡ true → eqb k 18 ≡ true → next-spot k n ≡ 30
+    to30 z y = unfold next-spot in rw (z, y)
 
-    to20 : eqb n 0 ≡ true → eqb k 18 ≡ false → nextSpot k n ≡ 20
-    to20 z y = unfold nextSpot in rw (z, y)
+    to20 : eqb n 0 ≡ true → eqb k 18 ≡ false → next-spot k n ≡ 20
+    to20 z y = unfold next-spot in rw (z, y)
 
-    to0 : eqb n 0 ≡ false → nextSpot k n ≡ 0
-    to0 z = unfold nextSpot in rw z
+    to0 : eqb n 0 ≡ false → next-spot k n ≡ 0
+    to0 z = unfold next-spot in rw z
 
 -- A whole line is a line of the grammar, and its packed form is written.
 record LineOf (r : Reader) (out xs : List ℕ) (n : NextLine r out xs) : Type 0 where
   l : AnyLine
   good : GoodLine l
-  bytes : n .body ≡ lineBytes l
-  packed : verdict (n .before) .bytes ≡ linePacked l
+  bytes : n .body ≡ line-bytes l
+  packed : verdict (n .before) .bytes ≡ line-packed l
 
 after-kind : (xs : List ℕ) (l : Line) → 30 ≤ l .spot → 30 ≤ lexes l xs .spot
 unfolding lexes
@@ -203,26 +203,26 @@ module _ (r : Reader) (out xs : List ℕ) (n : NextLine r out xs) where
   reads-line l e = ap (λ (q : Reader). q .line) (n .reads) ∙ ap (λ (x : Line). lexes x (n .body)) e
 
   line-term : r .line ≡ fresh 0 → LineOf r out xs n
-  unfolding GoodLine lineBytes linePacked wholeCount wholeTerm
+  unfolding GoodLine line-bytes line-packed whole-count whole-term
   line-term e =
       let q = reads-line (fresh 0) e in
       let t = term-in (n .body) (lexes (fresh 0) (n .body)) (ends-term (n .before) (n .body) q (n .good)) refl in
-      let s : n .before .line ≡ termLine (t .t) = q ∙ sym (t .line) in
-      let v = verdict-term (n .before) (ap (λ (x : Line). wholeCount x) s) (ap (λ (x : Line). wholeTerm x) s) in
+      let s : n .before .line ≡ line-of-term (t .t) = q ∙ sym (t .line) in
+      let v = verdict-term (n .before) (ap (λ (x : Line). whole-count x) s) (ap (λ (x : Line). whole-term x) s) in
       record {
         l = a-term (t .t);
         good = t .good;
         bytes = t .is;
-        packed = ap (λ (x : Verdict). x .bytes) v ∙ ap (λ (x : Line). pack-term (termOf x)) s ∙ ap pack-term (term-is (t .t));
+        packed = ap (λ (x : Verdict). x .bytes) v ∙ ap (λ (x : Line). pack-term (term-on-line x)) s ∙ ap pack-term (term-is (t .t));
       }
 
   line-count : r .line ≡ fresh 20 → LineOf r out xs n
-  unfolding GoodLine lineBytes linePacked
+  unfolding GoodLine line-bytes line-packed
   line-count e =
       let q = reads-line (fresh 20) e in
       let h = ends-count (n .before) (n .body) q (n .good) in
       let t = count-in (n .body) (lexes (fresh 20) (n .body)) h refl in
-      let v = verdict-count (n .before) (ap (λ (x : Line). wholeCount x) q ∙ h) in
+      let v = verdict-count (n .before) (ap (λ (x : Line). whole-count x) q ∙ h) in
       record { l = a-count (t .k); good = t .good; bytes = t .is; packed = ap (λ (x : Verdict). x .bytes) v ∙ ap (λ (x : Line). encode (x .value)) (q ∙ sym (t .line)) }
 
   line-none : r .line ≡ fresh 30 → LineOf r out xs n
@@ -230,9 +230,9 @@ module _ (r : Reader) (out xs : List ℕ) (n : NextLine r out xs) where
       let q = reads-line (fresh 30) e in
       let k = after-kind (n .body) (fresh 30) (omega arith) in
       let L = lexes (fresh 30) (n .body) in
-      by-cases (wholeCount L)
+      by-cases (whole-count L)
       (λ z. let c = count-of L z in absurd (omega (arith, c .high)))
-      (λ z. by-cases (wholeTerm L)
+      (λ z. by-cases (whole-term L)
       (λ y. let t = term-of L y in absurd (omega (arith, t .spot)))
       (λ y. early-never (n .before) (rw q z) (rw q y) (n .good)))
 
@@ -243,16 +243,16 @@ module _ (r : Reader) (out xs : List ℕ) (n : NextLine r out xs) where
 pub record Leaves (at w : ℕ) (out xs : List ℕ) (end : Run) : Type 0 where
   pub ls : List AnyLine
   pub tail : List ℕ
-  pub is : xs ≡ anyBytes ls ++ tail
+  pub is : xs ≡ any-bytes ls ++ tail
   pub good : GoodLines ls
-  pub wrote : end .out ≡ sets out w (anyPacked ls)
-  pub written : end .reader .written ≡ w + length (anyPacked ls)
-  pub room : w + length (anyPacked ls) ≤ length out
-  pub refused : (end .reader .status ≡ 0 → ⊥) → Place (at + length (anyBytes ls)) tail (end .reader .place)
+  pub wrote : end .out ≡ sets out w (any-packed ls)
+  pub written : end .reader .written ≡ w + length (any-packed ls)
+  pub room : w + length (any-packed ls) ≤ length out
+  pub refused : (end .reader .status ≡ 0 → ⊥) → Place (at + length (any-bytes ls)) tail (end .reader .place)
   pub reading : end .reader .status ≡ 0 → NoFeed tail
 
 halted : (r : Reader) (out xs : List ℕ) → r .written ≤ length out → Halts r out xs → Leaves (r .at) (r .written) out xs (run r out xs)
-unfolding anyBytes anyPacked GoodLines
+unfolding any-bytes any-packed GoodLines
 halted r out xs m h =
     record {
       ls = [];
@@ -267,25 +267,25 @@ halted r out xs m h =
     }
 
 lined : (r : Reader) (out xs : List ℕ) (n : NextLine r out xs) → LineOf r out xs n
-    → let q = nextLine (n .before) (verdict (n .before)) in
+    → let q = after-line (n .before) (verdict (n .before)) in
     Leaves (q .at) (q .written) (sets out (n .before .written) (verdict (n .before) .bytes)) (n .rest)
     (run q (sets out (n .before .written) (verdict (n .before) .bytes)) (n .rest))
     → Leaves (r .at) (r .written) out xs (run r out xs)
-unfolding anyBytes anyPacked GoodLines
+unfolding any-bytes any-packed GoodLines
 lined r out xs n l e =
     let a : n .before .at ≡ r .at + length (n .body) = ap (λ (q : Reader). q .at) (n .reads) in
     let w : n .before .written ≡ r .written = ap (λ (q : Reader). q .written) (n .reads) in
-    let x = linePacked (l .l) in
-    let y = anyPacked (e .ls) in
+    let x = line-packed (l .l) in
+    let y = any-packed (e .ls) in
     let b = ap length (l .bytes) in
-    let c = length-append (lineBytes (l .l)) (10 ∷ anyBytes (e .ls)) in
-    let d : n .before .at + 1 + length (anyBytes (e .ls)) ≡ r .at + length (lineBytes (l .l) ++ (10 ∷ anyBytes (e .ls))) = omega (arith, a, b, c) in
+    let c = length-append (line-bytes (l .l)) (10 ∷ any-bytes (e .ls)) in
+    let d : n .before .at + 1 + length (any-bytes (e .ls)) ≡ r .at + length (line-bytes (l .l) ++ (10 ∷ any-bytes (e .ls))) = omega (arith, a, b, c) in
     record {
       ls = l .l ∷ e .ls;
       tail = e .tail;
       is =
-          n .is ∙ ap (λ (z : List ℕ). z ++ (10 ∷ n .rest)) (l .bytes) ∙ ap (λ (z : List ℕ). lineBytes (l .l) ++ (10 ∷ z)) (e .is)
-          ∙ sym (append-assoc (lineBytes (l .l)) (10 ∷ anyBytes (e .ls)) (e .tail));
+          n .is ∙ ap (λ (z : List ℕ). z ++ (10 ∷ n .rest)) (l .bytes) ∙ ap (λ (z : List ℕ). line-bytes (l .l) ++ (10 ∷ z)) (e .is)
+          ∙ sym (append-assoc (line-bytes (l .l)) (10 ∷ any-bytes (e .ls)) (e .tail));
       good = (l .good, e .good);
       wrote =
           ap (λ (z : Run). z .out) (n .next) ∙ e .wrote ∙ (rw (l .packed, w)) ∙ sym (sets-append x y out (r .written));
@@ -304,8 +304,8 @@ leaves-step : (xs : List ℕ) (r : Reader) (out : List ℕ)
 leaves-step xs r out rec b m (inl n) =
     let v = verdict (n .before) in
     lined r out xs n (line-of r out xs n b)
-    (rec (n .rest) (nextLine (n .before) v) (sets out (n .before .written) (v .bytes)) (shorter xs (n .body) (n .rest) (n .is))
-    (next-begins (nextLine (n .before) v) (v .blocks) (v .left) refl refl refl) (omega (arith, n .room, length-sets out (n .before .written) (v .bytes))))
+    (rec (n .rest) (after-line (n .before) v) (sets out (n .before .written) (v .bytes)) (shorter xs (n .body) (n .rest) (n .is))
+    (next-begins (after-line (n .before) v) (v .blocks) (v .left) refl refl refl) (omega (arith, n .room, length-sets out (n .before .written) (v .bytes))))
 leaves-step xs r out rec b m (inr h) = halted r out xs m h
 
 leaves-by : (N : ℕ) (xs : List ℕ) (r : Reader) (out : List ℕ) → length xs ≤ N → Begins r → r .written ≤ length out → Leaves (r .at) (r .written) out xs (run r out xs)

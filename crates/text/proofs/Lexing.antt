@@ -10,8 +10,8 @@ use borrow.Author.Tests.{eq-eqb, ne-eqb, lt-ltb, le-ltb, le-leb, lt-leb}
 use lib.Dec.{lit<}
 use lib.ListN.{length}
 use Rattle.text.specs.declared.Line.{Line}
-use Rattle.text.specs.Lexer.{fresh, wholeDigit, takesDigit, withDigit, withPoint, withSpace, withMinus, lex, lexes}
-use Rattle.text.specs.Grammar.{spaces, sign, digits, AllDigits, numeral, Natural, Decimal, size, decimal, GoodDecimal, CountLine, count, countBytes, GoodCount, TermLine, termBytes, GoodTerm}
+use Rattle.text.specs.Lexer.{fresh, whole-digit, takes-digit, with-digit, with-point, with-space, with-minus, lex, lexes}
+use Rattle.text.specs.Grammar.{spaces, sign, digits, AllDigits, numeral, Natural, Decimal, size, decimal, GoodDecimal, CountLine, count, count-bytes, GoodCount, TermLine, term-bytes, GoodTerm}
 
 -- The line l with another spot and decimal.
 abbrev pub put : Line → ℕ → ℕ → ℕ → Line
@@ -54,30 +54,30 @@ lexes-append l (x ∷ xs) ys = lexes-append (lex l x) xs ys
 abbrev pub big : ℕ
 big = 1000000000000000000
 
-pub lex-digit : (l : Line) (s m v d : ℕ) → d < 10 → takesDigit s m v d ≡ true → lex (put l s m v) (48 + d) ≡ put l (s + 1) m (10 * v + d)
-unfolding lex withDigit
+pub lex-digit : (l : Line) (s m v d : ℕ) → d < 10 → takes-digit s m v d ≡ true → lex (put l s m v) (48 + d) ≡ put l (s + 1) m (10 * v + d)
+unfolding lex with-digit
 lex-digit l s m v d h t =
     let e : 48 + d - 48 ≡ d = omega arith in
     rw (le-ltb (48 + d) 48 (omega arith), lt-ltb (48 + d) 58 (omega arith), e, t)
 
-pub takes-part : (s m v d : ℕ) → 7 ≤ s → s < 17 → v < big → takesDigit s m v d ≡ true
-unfolding takesDigit
+pub takes-part : (s m v d : ℕ) → 7 ≤ s → s < 17 → v < big → takes-digit s m v d ≡ true
+unfolding takes-digit
 takes-part s m v d h k b =
     rw (lt-leb big v b, le-ltb s 6 (omega arith), le-ltb s 7 (omega arith), lt-ltb s 17 (omega arith))
 
-takes-last : (m v d : ℕ) → v < big → (m ≡ 0) ⊎ (0 < v + d) → takesDigit 17 m v d ≡ true
-unfolding takesDigit wholeDigit
+takes-last : (m v d : ℕ) → v < big → (m ≡ 0) ⊎ (0 < v + d) → takes-digit 17 m v d ≡ true
+unfolding takes-digit whole-digit
 takes-last m v d b (inl e) = rw (lt-leb big v b, eq-eqb m 0 e)
 takes-last zero v d b (inr h) = rw (lt-leb big v b)
 takes-last (suc m) v d b (inr h) = rw (lt-leb big v b, ne-eqb (suc m) 0 (λ e. omega (arith, e)), lt-ltb 0 (v + d) h)
 
 -- The digits of a count (20 to 24) and the whole digits of a decimal (0 to 6).
 pub record Spots (base top : ℕ) : Type 0 where
-  pub first : (m v d : ℕ) → v < big → takesDigit base m v d ≡ true
-  pub more : (s m v d : ℕ) → base < s → s < top → v < big → 0 < v → takesDigit s m v d ≡ true
+  pub first : (m v d : ℕ) → v < big → takes-digit base m v d ≡ true
+  pub more : (s m v d : ℕ) → base < s → s < top → v < big → 0 < v → takes-digit s m v d ≡ true
 
 pub whole-spots : Spots 0 6
-unfolding takesDigit wholeDigit
+unfolding takes-digit whole-digit
 whole-spots =
     record {
       first = λ m v d b. rw (lt-leb big v b);
@@ -85,7 +85,7 @@ whole-spots =
     }
 
 pub count-spots : Spots 20 24
-unfolding takesDigit wholeDigit
+unfolding takes-digit whole-digit
 count-spots =
     record {
       first = λ m v d b. rw (lt-leb big v b);
@@ -147,20 +147,20 @@ parts-run (d ∷ c ∷ ds) l s m v n a h k p q z =
     ∙ parts-run (c ∷ ds) l (s + 1) m (10 * v + d) (n + 1) (a .1) (omega arith) (omega arith) (omega (arith, ten n, a .0)) (omega arith) z
 
 pub spaces-run : (n : ℕ) (l : Line) (v : ℕ) → lexes (put l 0 0 v) (spaces n) ≡ put l 0 0 v
-unfolding lexes spaces lex withSpace
+unfolding lexes spaces lex with-space
 spaces-run zero l v = refl
 spaces-run (suc n) l v = spaces-run n l v
 
 pub lex-point : (l : Line) (s m v : ℕ) → 1 ≤ s → s ≤ 6 → lex (put l s m v) 46 ≡ put l 7 m v
-unfolding lex withPoint
+unfolding lex with-point
 lex-point l s m v h k = rw (le-leb 1 s h, le-leb s 6 k)
 
 pub lex-keep : (l : Line) (m v : ℕ) → l .field < 2 → lex (put l 18 m v) 32 ≡ keep l m v
-unfolding lex withSpace
+unfolding lex with-space
 lex-keep l m v h = rw (lt-ltb (l .field) 2 h)
 
 sign-run : (m : Bool) (l : Line) → lexes (put l 0 0 0) (sign m) ≡ put l 0 (flag m) 0
-unfolding lexes sign lex withMinus flag
+unfolding lexes sign lex with-minus flag
 sign-run true l = refl
 sign-run false l = refl
 
@@ -200,13 +200,13 @@ decimal-run l d g =
         ∙ parts-run ds l 7 m v n a (omega arith) (omega arith) b (omega arith) z
 
 -- A count line.
-pub count-run : (k : CountLine) → GoodCount k → lexes (fresh 20) (countBytes k) ≡ put (fresh 20) (21 + length (k .more)) 0 (count k)
-unfolding countBytes count
+pub count-run : (k : CountLine) → GoodCount k → lexes (fresh 20) (count-bytes k) ≡ put (fresh 20) (21 + length (k .more)) 0 (count k)
+unfolding count-bytes count
 count-run k g = natural-run 20 24 count-spots (fresh 20) 0 (k .first) (k .more) 4 g (omega arith) (omega arith)
 
 -- A term line.
-abbrev pub termLine : TermLine → Line
-termLine t =
+abbrev pub line-of-term : TermLine → Line
+line-of-term t =
     record {
       spot = 18;
       field = 2;
@@ -229,8 +229,8 @@ next-run l m v n d h g =
     ∙ ap (λ (x : Line). lexes x (decimal d)) (gap-run l m v n h)
     ∙ decimal-run (keep l m v) d g
 
-pub term-run : (t : TermLine) → GoodTerm t → lexes (fresh 0) (termBytes t) ≡ termLine t
-unfolding termBytes
+pub term-run : (t : TermLine) → GoodTerm t → lexes (fresh 0) (term-bytes t) ≡ line-of-term t
+unfolding term-bytes
 term-run t g =
     let c : List ℕ = (32 ∷ spaces (t .after-b)) ++ decimal (t .c) in
     let b : List ℕ = decimal (t .b) ++ c in

@@ -12,7 +12,7 @@ use Rattle.text.specs.declared.Line.{Line}
 use Rattle.text.specs.declared.Reader.{Reader}
 use Rattle.text.specs.Lexer.{bad, lex, lexes}
 use Rattle.text.specs.Judge.{verdict}
-use Rattle.text.specs.Reader.{stopped, inLine, nextLine, fits, putBytes, wrote, wroteOut, other, uncounted, step, stepOut, Run, run}
+use Rattle.text.specs.Reader.{stopped, further-in-line, after-line, fits, put-bytes, wrote, wrote-out, other, uncounted, step, step-out, Run, run}
 use Rattle.text.proofs.Digits.{early}
 use Rattle.text.proofs.Judging.{by-cases}
 use Rattle.text.proofs.Unlexing.{Lexed, none, digit, pointed, spaced, kept, negated, view}
@@ -43,8 +43,8 @@ pub record Going (r : Reader) : Type 0 where
   pub inside : r .line .spot ≡ 30 → ⊥
 
 pub step-in : (r : Reader) (out : List ℕ) (byte : ℕ) → Going r → (byte ≡ 10 → ⊥) → (lex (r .line) byte .spot ≡ 31 → ⊥)
-    → (step r out byte ≡ inLine r (lex (r .line) byte)) × (stepOut r out byte ≡ out)
-unfolding step stepOut uncounted other
+    → (step r out byte ≡ further-in-line r (lex (r .line) byte)) × (step-out r out byte ≡ out)
+unfolding step step-out uncounted other
 step-in r out byte g h k =
     let t = eq-eqb (r .status) 0 (g .status) in
     let u = ne-eqb (r .at) last (g .counts) in
@@ -57,8 +57,8 @@ unfolding step uncounted other
 step-bad r out byte g h k =
     rw (eq-eqb (r .status) 0 (g .status), ne-eqb (r .at) last (g .counts), ne-eqb (r .line .spot) 30 (g .inside), ne-eqb byte 10 h, eq-eqb (lex (r .line) byte .spot) 31 k)
 
-pub step-feed : (r : Reader) (out : List ℕ) → Going r → (step r out 10 ≡ wrote r out (verdict r)) × (stepOut r out 10 ≡ wroteOut r out (verdict r))
-unfolding step stepOut uncounted
+pub step-feed : (r : Reader) (out : List ℕ) → Going r → (step r out 10 ≡ wrote r out (verdict r)) × (step-out r out 10 ≡ wrote-out r out (verdict r))
+unfolding step step-out uncounted
 step-feed r out g =
     let t = eq-eqb (r .status) 0 (g .status) in
     let u = ne-eqb (r .at) last (g .counts) in
@@ -141,13 +141,13 @@ line-run (x ∷ xs) r out ys s p c g =
     let e : r .at + 1 + length xs ≡ r .at + suc (length xs) = omega arith in
     ap (λ (o : List ℕ). run (step r out x) o (xs ++ ys)) (t .1)
     ∙ ap (λ (q : Reader). run q out (xs ++ ys)) (t .0)
-    ∙ line-run xs (inLine r (lex (r .line) x)) out ys refl refl (omega arith) g
+    ∙ line-run xs (further-in-line r (lex (r .line) x)) out ys refl refl (omega arith) g
     ∙ ap (λ (n : ℕ). run (with-at (moved r (lexes (lex (r .line) x) xs) 0) n 0 0) out ys) e
 
 -- A line feed after a line whose judgement is good and whose bytes fit.
 pub feed-run : (r : Reader) (out ys : List ℕ) → Going r → verdict r .refusal ≡ 0 → r .written + length (verdict r .bytes) ≤ length out
-    → run r out (10 ∷ ys) ≡ run (nextLine r (verdict r)) (sets out (r .written) (verdict r .bytes)) ys
-unfolding run wrote wroteOut putBytes fits
+    → run r out (10 ∷ ys) ≡ run (after-line r (verdict r)) (sets out (r .written) (verdict r .bytes)) ys
+unfolding run wrote wrote-out put-bytes fits
 feed-run r out ys g v h =
     let t = step-feed r out g in
     let z = eq-eqb (verdict r .refusal) 0 v in
@@ -165,8 +165,8 @@ stays (x ∷ xs) r out h =
     step-same : (r : Reader) (out : List ℕ) (x : ℕ) → (r .status ≡ 0 → ⊥) → step r out x ≡ r
     step-same r out x h = unfold step in rw (ne-eqb (r .status) 0 h)
 
-    out-same : (r : Reader) (out : List ℕ) (x : ℕ) → (r .status ≡ 0 → ⊥) → stepOut r out x ≡ out
-    out-same r out x h = unfold stepOut in rw (ne-eqb (r .status) 0 h)
+    out-same : (r : Reader) (out : List ℕ) (x : ℕ) → (r .status ≡ 0 → ⊥) → step-out r out x ≡ out
+    out-same r out x h = unfold step-out in rw (ne-eqb (r .status) 0 h)
 
 -- The text is taken: the reader reads on, after block 18.
 pub record Taken (x : Run) : Type 0 where
@@ -185,9 +185,9 @@ pub record NextLine (r : Reader) (out xs : List ℕ) : Type 0 where
   pub reads : before ≡ moved r (lexes (r .line) body) (length body)
   pub good : verdict before .refusal ≡ 0
   pub room : before .written + length (verdict before .bytes) ≤ length out
-  pub next : run r out xs ≡ run (nextLine before (verdict before)) (sets out (before .written) (verdict before .bytes)) rest
+  pub next : run r out xs ≡ run (after-line before (verdict before)) (sets out (before .written) (verdict before .bytes)) rest
 
-feed-good : (r : Reader) (out xs : List ℕ) → Going r → Taken (run (step r out 10) (stepOut r out 10) xs)
+feed-good : (r : Reader) (out xs : List ℕ) → Going r → Taken (run (step r out 10) (step-out r out 10) xs)
     → (verdict r .refusal ≡ 0) × (r .written + length (verdict r .bytes) ≤ length out)
 unfolding wrote fits
 feed-good r out xs g t =
@@ -196,9 +196,9 @@ feed-good r out xs g t =
     (λ z. by-cases (leb (r .written + length (verdict r .bytes)) (length out))
     (λ y. (eqb-true _ _ z, leb-true _ _ y))
     (λ y. let q : wrote r out (verdict r) ≡ stopped r 7 = rw (z, y) in
-    not-stopped (stopped r 7) (stepOut r out 10) xs (λ e. omega (arith, e)) (rw (f ∙ q) at t)))
+    not-stopped (stopped r 7) (step-out r out 10) xs (λ e. omega (arith, e)) (rw (f ∙ q) at t)))
     (λ z. let q : wrote r out (verdict r) ≡ stopped r (verdict r .refusal) = rw z in
-    not-stopped (stopped r (verdict r .refusal)) (stepOut r out 10) xs (eqb-false _ _ z) (rw (f ∙ q) at t))
+    not-stopped (stopped r (verdict r .refusal)) (step-out r out 10) xs (eqb-false _ _ z) (rw (f ∙ q) at t))
 
 feed-line : (r : Reader) (out xs : List ℕ) → r .place ≡ 0 → Going r → Taken (run r out (10 ∷ xs)) → NextLine r out (10 ∷ xs)
 unfolding lexes
@@ -221,7 +221,7 @@ unfolding step uncounted
 step-last r out x s e = rw (eq-eqb (r .status) 0 s, eq-eqb (r .at) last e)
 
 pub byte-line : (r : Reader) (out : List ℕ) (x : ℕ) (xs : List ℕ) → Going r → (x ≡ 10 → ⊥) → (lex (r .line) x .spot ≡ 31 → ⊥)
-    → NextLine (inLine r (lex (r .line) x)) out xs → NextLine r out (x ∷ xs)
+    → NextLine (further-in-line r (lex (r .line) x)) out xs → NextLine r out (x ∷ xs)
 unfolding lexes run
 byte-line r out x xs g h k n =
     let t = step-in r out x g h k in
@@ -243,12 +243,12 @@ unfolding run
 next-line [] r out s p i t = absurd (i (t .spot))
 next-line (x ∷ xs) r out s p i t =
     by-cases (eqb (r .at) last)
-    (λ z. not-stopped (stopped r 3) (stepOut r out x) xs (λ e. omega (arith, e)) (rw (step-last r out x s (eqb-true _ _ z)) at t))
+    (λ z. not-stopped (stopped r 3) (step-out r out x) xs (λ e. omega (arith, e)) (rw (step-last r out x s (eqb-true _ _ z)) at t))
     (λ z. let g : Going r = record { status = s; counts = eqb-false _ _ z; inside = i } in
     by-cases (eqb x 10)
     (λ y. rw (eqb-true x 10 y) (feed-line r out xs p g (rw (eqb-true x 10 y) at t)))
     (λ y. by-cases (eqb (lex (r .line) x .spot) 31)
-    (λ w. not-stopped (stopped r 3) (stepOut r out x) xs (λ e. omega (arith, e)) (rw (step-bad r out x g (eqb-false _ _ y) (eqb-true _ _ w)) at t))
+    (λ w. not-stopped (stopped r 3) (step-out r out x) xs (λ e. omega (arith, e)) (rw (step-bad r out x g (eqb-false _ _ y) (eqb-true _ _ w)) at t))
     (λ w. let q = step-in r out x g (eqb-false _ _ y) (eqb-false _ _ w) in
     byte-line r out x xs g (eqb-false _ _ y) (eqb-false _ _ w)
-    (next-line xs (inLine r (lex (r .line) x)) out refl refl (not-after (r .line) x i) (rw (q .0, q .1) at t)))))
+    (next-line xs (further-in-line r (lex (r .line) x)) out refl refl (not-after (r .line) x i) (rw (q .0, q .1) at t)))))

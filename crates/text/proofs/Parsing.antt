@@ -7,17 +7,17 @@ use Prim.Native.Nat.{ℕ, zero, suc, _+_, _*_, _≤_, _<_}
 use native.Mathlib.Omega.{arith}
 use lib.ListN.{length}
 use Rattle.text.specs.declared.Line.{Line}
-use Rattle.text.specs.Lexer.{fresh, takesDigit, lex, lexes, wholeTerm}
-use Rattle.text.specs.Grammar.{spaces, sign, digits, AllDigits, numeral, Decimal, size, decimal, GoodDecimal, TermLine, termBytes, GoodTerm}
-use Rattle.text.proofs.Lexing.{put, keep, flag, termLine}
+use Rattle.text.specs.Lexer.{fresh, takes-digit, lex, lexes, whole-term}
+use Rattle.text.specs.Grammar.{spaces, sign, digits, AllDigits, numeral, Decimal, size, decimal, GoodDecimal, TermLine, term-bytes, GoodTerm}
+use Rattle.text.proofs.Lexing.{put, keep, flag, line-of-term}
 use Rattle.text.proofs.Unlexing.{Lexed, none, digit, pointed, spaced, kept, negated, view, term-of, no-term, never, takes-last, whole-more}
 use Rattle.text.proofs.Digits.{small}
 use borrow.Author.Tests.{lt-leb}
 use lib.Dec.{lit<}
 
 -- No digit follows a whole decimal.
-pub no-digit : (m v d : ℕ) → takesDigit 18 m v d ≡ true → ⊥
-unfolding takesDigit
+pub no-digit : (m v d : ℕ) → takes-digit 18 m v d ≡ true → ⊥
+unfolding takes-digit
 no-digit m v d t = never (rw (lt-leb 1000000000000000000 v (small 18 m v d t)) at t)
 
 -- The decimals of a line that comes to be whole.
@@ -31,7 +31,7 @@ record Parts (l : Line) (m v n : ℕ) (xs : List ℕ) (F : Line) : Type 0 where
   rest : lexes (put l 18 m (numeral v ds)) ys ≡ F
 
 -- One more decimal, the last or not.
-module _ (l : Line) (s m v : ℕ) (b : ℕ) (bs : List ℕ) (F : Line) (w : wholeTerm F ≡ true) (low : 7 ≤ s) where
+module _ (l : Line) (s m v : ℕ) (b : ℕ) (bs : List ℕ) (F : Line) (w : whole-term F ≡ true) (low : 7 ≤ s) where
   parts-last : s ≡ 17 → (L : Line) → Lexed (put l s m v) b L → lexes L bs ≡ F → Parts l m v 1 (b ∷ bs) F
   unfolding digits numeral AllDigits
   parts-last e _ none q = no-term bs F q w
@@ -70,7 +70,7 @@ module _ (l : Line) (s m v : ℕ) (b : ℕ) (bs : List ℕ) (F : Line) (w : whol
   parts-more n e rec _ (kept i h k) q = absurd (omega arith)
   parts-more n e rec _ (negated i h k) q = absurd (omega arith)
 
-parts : (n : ℕ) (xs : List ℕ) (l : Line) (s m v : ℕ) (F : Line) → wholeTerm F ≡ true → 7 ≤ s → s + suc n ≡ 18 → lexes (put l s m v) xs ≡ F
+parts : (n : ℕ) (xs : List ℕ) (l : Line) (s m v : ℕ) (F : Line) → whole-term F ≡ true → 7 ≤ s → s + suc n ≡ 18 → lexes (put l s m v) xs ≡ F
     → Parts l m v (suc n) xs F
 unfolding lexes
 parts n [] l s m v F w h k q = let t = term-of F w in let e = ap (λ (x : Line). x .spot) q in absurd (omega (arith, t .spot))
@@ -90,7 +90,7 @@ record Whole (l : Line) (s m v : ℕ) (xs : List ℕ) (F : Line) : Type 0 where
   leading : v ≡ 0 → ds ≡ []
   rest : lexes (put l 7 m (numeral v ds)) ys ≡ F
 
-module _ (l : Line) (s m v : ℕ) (b : ℕ) (bs : List ℕ) (F : Line) (w : wholeTerm F ≡ true) (low : 1 ≤ s) (high : s ≤ 6) where
+module _ (l : Line) (s m v : ℕ) (b : ℕ) (bs : List ℕ) (F : Line) (w : whole-term F ≡ true) (low : 1 ≤ s) (high : s ≤ 6) where
   whole-next : ((v′ : ℕ) → s + 1 ≤ 6 → lexes (put l (s + 1) m v′) bs ≡ F → Whole l (s + 1) m v′ bs F)
       → (L : Line) → Lexed (put l s m v) b L → lexes L bs ≡ F → Whole l s m v (b ∷ bs) F
   unfolding digits numeral AllDigits
@@ -121,7 +121,7 @@ module _ (l : Line) (s m v : ℕ) (b : ℕ) (bs : List ℕ) (F : Line) (w : whol
   whole-next rec _ (kept i h k) q = absurd (omega arith)
   whole-next rec _ (negated i h k) q = absurd (omega arith)
 
-whole : (xs : List ℕ) (l : Line) (s m v : ℕ) (F : Line) → wholeTerm F ≡ true → 1 ≤ s → s ≤ 6 → lexes (put l s m v) xs ≡ F → Whole l s m v xs F
+whole : (xs : List ℕ) (l : Line) (s m v : ℕ) (F : Line) → whole-term F ≡ true → 1 ≤ s → s ≤ 6 → lexes (put l s m v) xs ≡ F → Whole l s m v xs F
 unfolding lexes
 whole [] l s m v F w h k q = let t = term-of F w in let e = ap (λ (x : Line). x .spot) q in absurd (omega (arith, t .spot))
 whole (b ∷ bs) l s m v F w h k q =
@@ -140,7 +140,7 @@ first-of l m d b bs F i h q =
     let z : 10 * 0 + d ≡ d = omega arith in
     record { d = d; ys = bs; is = ap (λ (x : ℕ). x ∷ bs) i; digit = h; rest = rw z at q }
 
-first : (xs : List ℕ) (l : Line) (F : Line) → wholeTerm F ≡ true → lexes (put l 0 1 0) xs ≡ F → First l 1 xs F
+first : (xs : List ℕ) (l : Line) (F : Line) → whole-term F ≡ true → lexes (put l 0 1 0) xs ≡ F → First l 1 xs F
 unfolding lexes
 first [] l F w q = let t = term-of F w in let e = ap (λ (x : Line). x .spot) q in absurd (omega (arith, t .spot))
 first (b ∷ bs) l F w q = go (lex (put l 0 1 0) b) (view (put l 0 1 0) b) q
@@ -163,7 +163,7 @@ record Lead (l : Line) (xs : List ℕ) (F : Line) : Type 0 where
   digit : d < 10
   rest : lexes (put l 1 (flag m) d) ys ≡ F
 
-module _ (l : Line) (b : ℕ) (bs : List ℕ) (F : Line) (w : wholeTerm F ≡ true) where
+module _ (l : Line) (b : ℕ) (bs : List ℕ) (F : Line) (w : whole-term F ≡ true) where
   lead-next : (lexes (put l 0 0 0) bs ≡ F → Lead l bs F) → (L : Line) → Lexed (put l 0 0 0) b L → lexes L bs ≡ F → Lead l (b ∷ bs) F
   unfolding spaces sign flag
   lead-next rec _ none r = no-term bs F r w
@@ -195,7 +195,7 @@ module _ (l : Line) (b : ℕ) (bs : List ℕ) (F : Line) (w : wholeTerm F ≡ tr
         rest = p .rest;
       }
 
-lead : (xs : List ℕ) (l : Line) (F : Line) → wholeTerm F ≡ true → lexes (put l 0 0 0) xs ≡ F → Lead l xs F
+lead : (xs : List ℕ) (l : Line) (F : Line) → whole-term F ≡ true → lexes (put l 0 0 0) xs ≡ F → Lead l xs F
 unfolding lexes
 lead [] l F w q = let t = term-of F w in let e = ap (λ (x : Line). x .spot) q in absurd (omega (arith, t .spot))
 lead (b ∷ bs) l F w q = lead-next l b bs F w (λ r. lead bs l F w r) (lex (put l 0 0 0) b) (view (put l 0 0 0) b) q
@@ -223,7 +223,7 @@ joined n m d w p ys =
     (ap (λ (x : List ℕ). sign m ++ ((48 + d) ∷ x)) (sym (append-assoc (digits w) (46 ∷ digits p) ys))
     ∙ sym (append-assoc (sign m) ((48 + d) ∷ (digits w ++ (46 ∷ digits p))) ys))
 
-decimal-in : (xs : List ℕ) (l : Line) (F : Line) → wholeTerm F ≡ true → lexes (put l 0 0 0) xs ≡ F → DecimalIn l xs F
+decimal-in : (xs : List ℕ) (l : Line) (F : Line) → whole-term F ≡ true → lexes (put l 0 0 0) xs ≡ F → DecimalIn l xs F
 unfolding decimal size
 decimal-in xs l F w q =
     let a = lead xs l F w q in
@@ -253,7 +253,7 @@ record Kept (l : Line) (m v : ℕ) (xs : List ℕ) (F : Line) : Type 0 where
   is : xs ≡ 32 ∷ ys
   rest : lexes (keep l m v) ys ≡ F
 
-keeps : (xs : List ℕ) (l : Line) (m v : ℕ) (F : Line) → wholeTerm F ≡ true → l .field < 2 → lexes (put l 18 m v) xs ≡ F → Kept l m v xs F
+keeps : (xs : List ℕ) (l : Line) (m v : ℕ) (F : Line) → whole-term F ≡ true → l .field < 2 → lexes (put l 18 m v) xs ≡ F → Kept l m v xs F
 unfolding lexes
 keeps [] l m v F w h q = let t = term-of F w in let e = ap (λ (x : Line). x .field) q in absurd (omega (arith, t .field))
 keeps (b ∷ bs) l m v F w h q = go (lex (put l 18 m v) b) (view (put l 18 m v) b) q
@@ -266,7 +266,7 @@ keeps (b ∷ bs) l m v F w h q = go (lex (put l 18 m v) b) (view (put l 18 m v) 
     go _ (kept i k j) r = record { ys = bs; is = ap (λ (x : ℕ). x ∷ bs) i; rest = r }
     go _ (negated i k j) r = absurd (omega arith)
 
-ends : (xs : List ℕ) (l : Line) (m v : ℕ) (F : Line) → wholeTerm F ≡ true → l .field ≡ 2 → lexes (put l 18 m v) xs ≡ F → (xs ≡ []) × (put l 18 m v ≡ F)
+ends : (xs : List ℕ) (l : Line) (m v : ℕ) (F : Line) → whole-term F ≡ true → l .field ≡ 2 → lexes (put l 18 m v) xs ≡ F → (xs ≡ []) × (put l 18 m v ≡ F)
 unfolding lexes
 ends [] l m v F w h q = (refl, q)
 ends (b ∷ bs) l m v F w h q = go (lex (put l 18 m v) b) (view (put l 18 m v) b) q
@@ -283,16 +283,16 @@ ends (b ∷ bs) l m v F w h q = go (lex (put l 18 m v) b) (view (put l 18 m v) b
 pub record TermIn (xs : List ℕ) (F : Line) : Type 0 where
   pub t : TermLine
   pub good : GoodTerm t
-  pub is : xs ≡ termBytes t
-  pub line : termLine t ≡ F
+  pub is : xs ≡ term-bytes t
+  pub line : line-of-term t ≡ F
 
 strung : (s₁ s₂ s₃ : List ℕ) (a b c xs ys₁ zs₁ ys₂ zs₂ ys₃ : List ℕ)
     → xs ≡ s₁ ++ (a ++ ys₁) → ys₁ ≡ 32 ∷ zs₁ → zs₁ ≡ s₂ ++ (b ++ ys₂) → ys₂ ≡ 32 ∷ zs₂
     → zs₂ ≡ s₃ ++ (c ++ ys₃) → ys₃ ≡ [] → xs ≡ s₁ ++ (a ++ ((32 ∷ s₂) ++ (b ++ ((32 ∷ s₃) ++ c))))
 strung s₁ s₂ s₃ a b c xs ys₁ zs₁ ys₂ zs₂ ys₃ e₁ f₁ e₂ f₂ e₃ f₃ = rw (e₁, f₁, e₂, f₂, e₃, f₃, append-nil c)
 
-pub term-in : (xs : List ℕ) (F : Line) → wholeTerm F ≡ true → lexes (fresh 0) xs ≡ F → TermIn xs F
-unfolding termBytes
+pub term-in : (xs : List ℕ) (F : Line) → whole-term F ≡ true → lexes (fresh 0) xs ≡ F → TermIn xs F
+unfolding term-bytes
 term-in xs F w q =
     let a = decimal-in xs (fresh 0) F w q in
     let u = keeps (a .ys) (fresh 0) (flag (a .d .minus)) (size (a .d)) F w (lit< tt) (a .rest) in

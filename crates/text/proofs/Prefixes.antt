@@ -10,8 +10,8 @@ use borrow.Author.Tests.{eq-eqb, eqb-true, eqb-false, lt-ltb, leb-true, leb-fals
 use lib.Dec.{eqb, leb, lit<}
 use lib.ListN.{length}
 use Rattle.text.specs.declared.Line.{Line}
-use Rattle.text.specs.Lexer.{fresh, lex, lexes, wholeCount, wholeTerm}
-use Rattle.text.specs.Grammar.{digits, AllDigits, numeral, Decimal, size, decimal, GoodDecimal, CountLine, countBytes, GoodCount, TermLine, termBytes, GoodTerm}
+use Rattle.text.specs.Lexer.{fresh, lex, lexes, whole-count, whole-term}
+use Rattle.text.specs.Grammar.{digits, AllDigits, numeral, Decimal, size, decimal, GoodDecimal, CountLine, count-bytes, GoodCount, TermLine, term-bytes, GoodTerm}
 use Rattle.text.proofs.Digits.{early}
 use Rattle.text.proofs.Judging.{by-cases}
 use Rattle.text.proofs.Lexing.{put, keep, flag, lexes-append, parts-run, lex-point, lex-keep, natural-run, whole-spots, decimal-run, count-run, term-run}
@@ -55,7 +55,7 @@ live (x ∷ xs) l v h = live xs (lex l x) (live-step l x v (λ e. h (bad-end (le
 -- Each such line can be finished.
 record Finish (l : Line) : Type 0 where
   ys : List ℕ
-  whole : wholeTerm (lexes l ys) ≡ true
+  whole : whole-term (lexes l ys) ≡ true
 
 -- The decimal 1.11111111111, or what is left of it.
 ones : ℕ → List ℕ
@@ -92,7 +92,7 @@ one-good =
 
 -- After whole decimals.
 done-finish : (n : ℕ) (l : Line) (m v : ℕ) → l .field + n ≡ 2 → Finish (put l 18 m v)
-unfolding lexes wholeTerm
+unfolding lexes whole-term
 done-finish zero l m v h = record { ys = []; whole = eq-eqb (l .field) 2 (omega arith) }
 done-finish (suc n) l m v h =
     let k = keep l m v in
@@ -101,12 +101,12 @@ done-finish (suc n) l m v h =
     ap (λ (x : Line). lexes x (decimal one ++ f .ys)) (lex-keep l m v (omega arith))
     ∙ lexes-append k (decimal one) (f .ys)
     ∙ ap (λ (x : Line). lexes x (f .ys)) (decimal-run k one one-good) in
-    record { ys = 32 ∷ (decimal one ++ f .ys); whole = ap (λ (x : Line). wholeTerm x) e ∙ f .whole }
+    record { ys = 32 ∷ (decimal one ++ f .ys); whole = ap (λ (x : Line). whole-term x) e ∙ f .whole }
 
 -- By some bytes to a line that can be finished.
 by-bytes : (l k : Line) (xs : List ℕ) → lexes l xs ≡ k → Finish k → Finish l
 by-bytes l k xs e f =
-    record { ys = xs ++ f .ys; whole = ap (λ (x : Line). wholeTerm x) (lexes-append l xs (f .ys) ∙ ap (λ (x : Line). lexes x (f .ys)) e) ∙ f .whole }
+    record { ys = xs ++ f .ys; whole = ap (λ (x : Line). whole-term x) (lexes-append l xs (f .ys) ∙ ap (λ (x : Line). lexes x (f .ys)) e) ∙ f .whole }
 
 parts-finish : (n : ℕ) (l : Line) (s m v : ℕ) → l .field ≤ 2 → 7 ≤ s → s + suc n ≡ 18 → v < 10 ^ s → Finish (put l s m v)
 parts-finish n l s m v f h e b =
@@ -159,12 +159,12 @@ pub record BeginsTerm (xs : List ℕ) : Type 0 where
   pub rest : List ℕ
   pub t : TermLine
   pub good : GoodTerm t
-  pub is : xs ++ rest ≡ termBytes t
+  pub is : xs ++ rest ≡ term-bytes t
 
 pub term-begins : (xs : List ℕ) → (lexes (fresh 0) xs .spot ≡ 31 → ⊥) → BeginsTerm xs
 term-begins xs h =
     let f = finish (lexes (fresh 0) xs) (live xs (fresh 0) (record { spot = omega arith; field = omega arith; value = omega arith }) h) in
-    let t = term-in (xs ++ f .ys) (lexes (fresh 0) (xs ++ f .ys)) (ap (λ (l : Line). wholeTerm l) (lexes-append (fresh 0) xs (f .ys)) ∙ f .whole) refl in
+    let t = term-in (xs ++ f .ys) (lexes (fresh 0) (xs ++ f .ys)) (ap (λ (l : Line). whole-term l) (lexes-append (fresh 0) xs (f .ys)) ∙ f .whole) refl in
     record { rest = f .ys; t = t .t; good = t .good; is = t .is }
 
 pub term-goes-on : (xs : List ℕ) → BeginsTerm xs → lexes (fresh 0) xs .spot ≡ 31 → ⊥
@@ -178,7 +178,7 @@ pub record BeginsCount (xs : List ℕ) : Type 0 where
   pub rest : List ℕ
   pub c : CountLine
   pub good : GoodCount c
-  pub is : xs ++ rest ≡ countBytes c
+  pub is : xs ++ rest ≡ count-bytes c
 
 count-live : (l : Line) (byte : ℕ) → 21 ≤ l .spot → (lex l byte .spot ≡ 31 → ⊥) → (21 ≤ lex l byte .spot) × (lex l byte .spot < 25)
 count-live l byte h = go (lex l byte) (view l byte)
@@ -191,8 +191,8 @@ count-live l byte h = go (lex l byte) (view l byte)
     go _ (kept i g t) j = absurd (omega arith)
     go _ (negated i g t) j = absurd (omega arith)
 
-counting : (xs : List ℕ) (l : Line) → 21 ≤ l .spot → l .spot < 25 → (lexes l xs .spot ≡ 31 → ⊥) → wholeCount (lexes l xs) ≡ true
-unfolding lexes wholeCount
+counting : (xs : List ℕ) (l : Line) → 21 ≤ l .spot → l .spot < 25 → (lexes l xs .spot ≡ 31 → ⊥) → whole-count (lexes l xs) ≡ true
+unfolding lexes whole-count
 counting [] l h k n = rw (lt-ltb 20 (l .spot) h, lt-ltb (l .spot) 25 k)
 counting (x ∷ xs) l h k n =
     let s = count-live l x h (λ e. n (bad-end (lex l x) xs e)) in counting xs (lex l x) (s .0) (s .1) n
@@ -209,7 +209,7 @@ first-live byte = go (lex (fresh 20) byte) (view (fresh 20) byte)
     go _ (negated i g t) j = absurd (omega arith)
 
 pub count-begins : (xs : List ℕ) → (lexes (fresh 20) xs .spot ≡ 31 → ⊥) → BeginsCount xs
-unfolding lexes countBytes digits AllDigits
+unfolding lexes count-bytes digits AllDigits
 count-begins [] h =
     record { rest = 49 ∷ []; c = record { first = 1; more = [] }; good = record { digit = lit< tt; digits = tt; few = omega arith; leading = λ e. refl }; is = refl }
 count-begins (x ∷ xs) h =

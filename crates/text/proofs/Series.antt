@@ -9,8 +9,8 @@ use lib.Dec.{leb}
 use lib.ListN.{length, take, drop}
 use lib.Seq.{sets, sets-eq, take-append-seam}
 use Rattle.integers.proofs.Tests.{both}
-use Rattle.packed.specs.declared.Sums.{Sums}
-use Rattle.packed.specs.Limits.{block-limit, series-limit, factor, no-sums, opened, added, count-fits, a-fits, b-fits, c-fits, total-fits, coarse-fits}
+use Rattle.packed.specs.declared.Tally.{Tally}
+use Rattle.packed.specs.Limits.{block-limit, series-limit, factor, no-tally, opened, added, count-fits, a-fits, b-fits, c-fits, total-fits, coarse-fits}
 use Rattle.packed.specs.Series.{accepted, parse, pack, after-block}
 use Rattle.packed.specs.Allowed.{Allowed}
 use Rattle.packed.proofs.Accepting.{GoodTerm}
@@ -19,13 +19,13 @@ use Rattle.packed.proofs.Judged as judged
 use Rattle.packed.proofs.Theorems.{pack-parse}
 use Rattle.text.specs.declared.Outcome.the-variants.{Accepted}
 use Rattle.text.specs.Reader.{told, whole}
-use Rattle.text.specs.Grammar.{count, TermLine, Block, termIn, termsIn, blocksIn, GoodBlocks, GoodText, TermInLimits, TermsInLimits, BlocksInLimits, InLimits}
+use Rattle.text.specs.Grammar.{count, TermLine, Block, term-of-line, terms-of-lines, blocks-of-lines, GoodBlocks, GoodText, TermInLimits, TermsInLimits, BlocksInLimits, InLimits}
 use Rattle.text.proofs.Theorems.{Reads, accepted-text}
 
 -- ---- The limits of a term and of a count, as the text and as the packed series have them.
 
-module _ (f : ℕ) (s : Sums) (l : TermLine) where
-  term-out : TermInLimits f s l → GoodTerm f s (termIn l)
+module _ (f : ℕ) (s : Tally) (l : TermLine) where
+  term-out : TermInLimits f s l → GoodTerm f s (term-of-line l)
   unfolding a-fits b-fits c-fits total-fits coarse-fits
   term-out g =
       record {
@@ -34,7 +34,7 @@ module _ (f : ℕ) (s : Sums) (l : TermLine) where
         good-c = record { small = ltb-true _ _ (g .c); coarse = leb-true _ _ (g .coarse) };
       }
 
-  term-in : l .b .minus ≡ false → GoodTerm f s (termIn l) → TermInLimits f s l
+  term-in : l .b .minus ≡ false → GoodTerm f s (term-of-line l) → TermInLimits f s l
   unfolding a-fits b-fits c-fits total-fits coarse-fits
   term-in u g =
       record {
@@ -46,45 +46,45 @@ module _ (f : ℕ) (s : Sums) (l : TermLine) where
         coarse = le-leb _ _ (g .good-c .coarse);
       }
 
-count-out : (s : Sums) (n : ℕ) → count-fits s n ≡ true → (n ≤ block-limit) × (s .terms + n ≤ series-limit)
+count-out : (s : Tally) (n : ℕ) → count-fits s n ≡ true → (n ≤ block-limit) × (s .terms + n ≤ series-limit)
 unfolding count-fits
 count-out s n e = let b = both (leb n block-limit) (leb (s .terms + n) series-limit) e in (leb-true _ _ (b .0), leb-true _ _ (b .1))
 
-count-in : (s : Sums) (n : ℕ) → n ≤ block-limit → s .terms + n ≤ series-limit → count-fits s n ≡ true
+count-in : (s : Tally) (n : ℕ) → n ≤ block-limit → s .terms + n ≤ series-limit → count-fits s n ≡ true
 unfolding count-fits
 count-in s n h l = rw (le-leb n block-limit h, le-leb (s .terms + n) series-limit l)
 
 -- ---- The numbers of lines, as many as the lines.
 
-pub length-blocks : (ks : List Block) → length (blocksIn ks) ≡ length ks
-unfolding blocksIn
+pub length-blocks : (ks : List Block) → length (blocks-of-lines ks) ≡ length ks
+unfolding blocks-of-lines
 length-blocks [] = refl
 length-blocks (k ∷ ks) = ap suc (length-blocks ks)
 
-pub length-terms : (ls : List TermLine) → length (termsIn ls) ≡ length ls
-unfolding termsIn
+pub length-terms : (ls : List TermLine) → length (terms-of-lines ls) ≡ length ls
+unfolding terms-of-lines
 length-terms [] = refl
 length-terms (l ∷ ls) = ap suc (length-terms ls)
 
 -- ---- Lines within the limits have numbers within the limits.
 
-terms-out : (f : ℕ) (s : Sums) (ls : List TermLine) → TermsInLimits f s ls → limits.GoodTerms f s (termsIn ls)
-unfolding TermsInLimits termsIn
+terms-out : (f : ℕ) (s : Tally) (ls : List TermLine) → TermsInLimits f s ls → limits.GoodTerms f s (terms-of-lines ls)
+unfolding TermsInLimits terms-of-lines
 terms-out f s [] h = limits.good-none
-terms-out f s (l ∷ ls) h = limits.good-term (term-out f s l (h .0)) (terms-out f (added f s (termIn l)) ls (h .1))
+terms-out f s (l ∷ ls) h = limits.good-term (term-out f s l (h .0)) (terms-out f (added f s (term-of-line l)) ls (h .1))
 
-pub blocks-out : (k : ℕ) (s : Sums) (ks : List Block) → GoodBlocks ks → BlocksInLimits k s ks → judged.GoodBlocks k s (blocksIn ks)
-unfolding GoodBlocks BlocksInLimits blocksIn
+pub blocks-out : (k : ℕ) (s : Tally) (ks : List Block) → GoodBlocks ks → BlocksInLimits k s ks → judged.GoodBlocks k s (blocks-of-lines ks)
+unfolding GoodBlocks BlocksInLimits blocks-of-lines
 blocks-out k s [] g l = judged.none
 blocks-out k s (b ∷ bs) g l =
-    let n : count (b .head) ≡ length (termsIn (b .lines)) = sym (g .1) ∙ sym (length-terms (b .lines)) in
+    let n : count (b .head) ≡ length (terms-of-lines (b .lines)) = sym (g .1) ∙ sym (length-terms (b .lines)) in
     let c = count-out s (count (b .head)) (l .0) in
     judged.more
     (record { few = rw n at (c .0); fewer = rw n at (c .1); terms = rw n at (terms-out (factor k) (opened k (count (b .head)) s) (b .lines) (l .1)) })
-    (blocks-out (k + 1) (after-block k s (termsIn (b .lines))) bs (g .3) (l .2))
+    (blocks-out (k + 1) (after-block k s (terms-of-lines (b .lines))) bs (g .3) (l .2))
 
-pub text-allowed : (ks : List Block) → GoodText ks → InLimits ks → Allowed (blocksIn ks)
-text-allowed ks g l = judged.good-allowed (blocksIn ks) (length-blocks ks ∙ g .eighteen) (blocks-out 0 no-sums ks (g .good) l)
+pub text-allowed : (ks : List Block) → GoodText ks → InLimits ks → Allowed (blocks-of-lines ks)
+text-allowed ks g l = judged.good-allowed (blocks-of-lines ks) (length-blocks ks ∙ g .eighteen) (blocks-out 0 no-tally ks (g .good) l)
 
 -- ---- And back, where no b has a minus.
 
@@ -96,23 +96,23 @@ unfoldable pub FromZero : List Block → Type 0
 FromZero [] = Unit {0}
 FromZero (k ∷ ks) = NoMinus (k .lines) × FromZero ks
 
-terms-in : (f : ℕ) (s : Sums) (ls : List TermLine) → NoMinus ls → limits.GoodTerms f s (termsIn ls) → TermsInLimits f s ls
-unfolding TermsInLimits termsIn NoMinus
+terms-in : (f : ℕ) (s : Tally) (ls : List TermLine) → NoMinus ls → limits.GoodTerms f s (terms-of-lines ls) → TermsInLimits f s ls
+unfolding TermsInLimits terms-of-lines NoMinus
 terms-in f s [] u h = tt
-terms-in f s (l ∷ ls) u (limits.good-term g h) = (term-in f s l (u .0) g, terms-in f (added f s (termIn l)) ls (u .1) h)
+terms-in f s (l ∷ ls) u (limits.good-term g h) = (term-in f s l (u .0) g, terms-in f (added f s (term-of-line l)) ls (u .1) h)
 
-pub blocks-in : (k : ℕ) (s : Sums) (ks : List Block) → GoodBlocks ks → FromZero ks → judged.GoodBlocks k s (blocksIn ks) → BlocksInLimits k s ks
-unfolding GoodBlocks BlocksInLimits blocksIn FromZero
+pub blocks-in : (k : ℕ) (s : Tally) (ks : List Block) → GoodBlocks ks → FromZero ks → judged.GoodBlocks k s (blocks-of-lines ks) → BlocksInLimits k s ks
+unfolding GoodBlocks BlocksInLimits blocks-of-lines FromZero
 blocks-in k s [] g u h = tt
 blocks-in k s (b ∷ bs) g u (judged.more c h) =
-    let n : length (termsIn (b .lines)) ≡ count (b .head) = length-terms (b .lines) ∙ g .1 in (
+    let n : length (terms-of-lines (b .lines)) ≡ count (b .head) = length-terms (b .lines) ∙ g .1 in (
       count-in s (count (b .head)) (rw n at (c .few)) (rw n at (c .fewer)),
       terms-in (factor k) (opened k (count (b .head)) s) (b .lines) (u .0) (rw n at (c .terms)),
-      blocks-in (k + 1) (after-block k s (termsIn (b .lines))) bs (g .3) (u .1) h,
+      blocks-in (k + 1) (after-block k s (terms-of-lines (b .lines))) bs (g .3) (u .1) h,
     )
 
-pub allowed-text : (ks : List Block) → GoodText ks → FromZero ks → Allowed (blocksIn ks) → InLimits ks
-allowed-text ks g u a = blocks-in 0 no-sums ks (g .good) u (judged.allowed-good (blocksIn ks) a)
+pub allowed-text : (ks : List Block) → GoodText ks → FromZero ks → Allowed (blocks-of-lines ks) → InLimits ks
+allowed-text ks g u a = blocks-in 0 no-tally ks (g .good) u (judged.allowed-good (blocks-of-lines ks) a)
 
 -- ---- The bytes that the reader wrote.
 
@@ -122,14 +122,14 @@ front x out h =
     let l : 0 + length x ≤ length out = omega arith in
     ap (λ (s : List ℕ). take (length x) s) (sets-eq x out 0 l) ∙ take-append-seam x (drop (0 + length x) out)
 
-pub reads-packed : (text out : List ℕ) (n : ℕ) (r : Reads text out n) → take n (whole text out .out) ≡ pack (blocksIn (r .ks))
+pub reads-packed : (text out : List ℕ) (n : ℕ) (r : Reads text out n) → take n (whole text out .out) ≡ pack (blocks-of-lines (r .ks))
 reads-packed text out n r =
-    let x = pack (blocksIn (r .ks)) in
+    let x = pack (blocks-of-lines (r .ks)) in
     let room : length x ≤ length out = rw (r .long) at (r .room) in
     ap (λ (k : ℕ). take k (whole text out .out)) (r .long) ∙ (ap (λ (s : List ℕ). take (length x) s) (r .written) ∙ front x out room)
 
 -- The bytes of an accepted text are an accepted packed series, of the text's blocks.
-pub accepted-series : (text out : List ℕ) (n : ℕ) (e : told (whole text out .reader) ≡ Accepted n) → parse (take n (whole text out .out)) ≡ accepted (blocksIn (accepted-text text out n e .ks))
+pub accepted-series : (text out : List ℕ) (n : ℕ) (e : told (whole text out .reader) ≡ Accepted n) → parse (take n (whole text out .out)) ≡ accepted (blocks-of-lines (accepted-text text out n e .ks))
 accepted-series text out n e =
     let r = accepted-text text out n e in
-    ap parse (reads-packed text out n r) ∙ pack-parse (blocksIn (r .ks)) (text-allowed (r .ks) (r .good) (r .limits))
+    ap parse (reads-packed text out n r) ∙ pack-parse (blocks-of-lines (r .ks)) (text-allowed (r .ks) (r .good) (r .limits))

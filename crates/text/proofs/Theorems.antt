@@ -6,12 +6,12 @@ use native.Mathlib.Omega.{arith}
 use borrow.Author.Tests.{ne-eqb}
 use lib.ListN.{length}
 use lib.Seq.{sets}
-use Rattle.packed.specs.Limits.{no-sums}
+use Rattle.packed.specs.Limits.{no-tally}
 use Rattle.packed.specs.Series.{summed, pack-terms, pack}
 use Rattle.text.specs.declared.Reader.{Reader}
 use Rattle.text.specs.declared.Outcome.the-variants.{Accepted}
-use Rattle.text.specs.Reader.{begun, nextSpot, step, stepOut, Run, run, stopped, ended, told, whole}
-use Rattle.text.specs.Grammar.{Block, linesBytes, termsIn, blocksBytes, blocksIn, GoodText, InLimits}
+use Rattle.text.specs.Reader.{begun, next-spot, step, step-out, Run, run, stopped, ended, told, whole}
+use Rattle.text.specs.Grammar.{Block, lines-bytes, terms-of-lines, blocks-bytes, blocks-of-lines, GoodText, InLimits}
 use Rattle.text.proofs.Lexing.{lexes-append}
 use Rattle.text.proofs.Lines.{last, Going, stays}
 use Rattle.text.proofs.Prefixes.{BeginsTerm, term-begins, term-goes-on, BeginsCount, count-begins, count-goes-on, refused-by}
@@ -27,7 +27,7 @@ use Rattle.text.proofs.Taking.{blocks-run}
 pub cut : (r : Reader) (out xs ys : List ℕ) → run r out (xs ++ ys) ≡ run (run r out xs .reader) (run r out xs .out) ys
 unfolding run
 cut r out [] ys = refl
-cut r out (byte ∷ xs) ys = cut (step r out byte) (stepOut r out byte) xs ys
+cut r out (byte ∷ xs) ys = cut (step r out byte) (step-out r out byte) xs ys
 
 -- Any number of calls, of any lengths, zero too.
 unfoldable pub calls : Reader → List ℕ → List (List ℕ) → Run
@@ -58,13 +58,13 @@ unfolding ended
 repeats-end r h = rw (ne-eqb (r .status) 0 h)
 
 -- A text that follows the grammar within the limits, and has room, is accepted; the output holds its packed form, the rest of it untouched.
-pub read-text : (ks : List Block) (out : List ℕ) → GoodText ks → InLimits ks → length (blocksBytes ks) ≤ last → length (pack (blocksIn ks)) ≤ length out
-    → (told (whole (blocksBytes ks) out .reader) ≡ Accepted (length (pack (blocksIn ks)))) × (whole (blocksBytes ks) out .out ≡ sets out 0 (pack (blocksIn ks)))
-unfolding nextSpot ended told
+pub read-text : (ks : List Block) (out : List ℕ) → GoodText ks → InLimits ks → length (blocks-bytes ks) ≤ last → length (pack (blocks-of-lines ks)) ≤ length out
+    → (told (whole (blocks-bytes ks) out .reader) ≡ Accepted (length (pack (blocks-of-lines ks)))) × (whole (blocks-bytes ks) out .out ≡ sets out 0 (pack (blocks-of-lines ks)))
+unfolding next-spot ended told
 read-text ks out g l c h =
-    let n = length (pack (blocksIn ks)) in
+    let n = length (pack (blocks-of-lines ks)) in
     let z : 0 + n ≡ n = omega arith in
-    let r = blocks-run ks 0 0 0 no-sums out (g .good) l (omega (arith, g .eighteen)) (omega arith) (omega arith) in
+    let r = blocks-run ks 0 0 0 no-tally out (g .good) l (omega (arith, g .eighteen)) (omega arith) (omega arith) in
     (ap (λ (x : Run). told (ended (x .reader))) r ∙ ap (λ (i : ℕ). Accepted i) z, ap (λ (x : Run). x .out) r)
 
 -- An accepted text is the lines of its numbers, and the output is exactly their packed form.
@@ -72,20 +72,20 @@ pub record Reads (text out : List ℕ) (n : ℕ) : Type 0 where
   pub ks : List Block
   pub good : GoodText ks
   pub limits : InLimits ks
-  pub is : text ≡ blocksBytes ks
-  pub long : n ≡ length (pack (blocksIn ks))
+  pub is : text ≡ blocks-bytes ks
+  pub long : n ≡ length (pack (blocks-of-lines ks))
   pub room : n ≤ length out
-  pub written : whole text out .out ≡ sets out 0 (pack (blocksIn ks))
+  pub written : whole text out .out ≡ sets out 0 (pack (blocks-of-lines ks))
 
 pub accepted-text : (text out : List ℕ) (n : ℕ) → told (whole text out .reader) ≡ Accepted n → Reads text out n
-unfolding nextSpot linesBytes termsIn pack-terms summed
+unfolding next-spot lines-bytes terms-of-lines pack-terms summed
 accepted-text text out n e =
     let a = accepted-by text out n e in
-    let r = rest-in text 0 0 0 0 no-sums out (omega arith) (a .0) in
+    let r = rest-in text 0 0 0 0 no-tally out (omega arith) (a .0) in
     let z = nothing (r .lines) (r .left) in
-    let m : 0 + length (pack (blocksIn (r .ks))) ≡ length (pack (blocksIn (r .ks))) = omega arith in
-    let w : n ≡ length (pack (blocksIn (r .ks))) = a .1 ∙ (rw (z, m) at (r .written)) in
-    let room : 0 + length (pack (blocksIn (r .ks))) ≤ length out = rw z at (r .room) in
+    let m : 0 + length (pack (blocks-of-lines (r .ks))) ≡ length (pack (blocks-of-lines (r .ks))) = omega arith in
+    let w : n ≡ length (pack (blocks-of-lines (r .ks))) = a .1 ∙ (rw (z, m) at (r .written)) in
+    let room : 0 + length (pack (blocks-of-lines (r .ks))) ≤ length out = rw z at (r .room) in
     record {
       ks = r .ks;
       good = record { eighteen = omega (arith, r .count); good = r .goods };

@@ -8,7 +8,7 @@ use native.Mathlib.Omega.{arith}
 use borrow.Author.Tests.{ltb-true, ltb-false, leb-true, eqb-true, ne-eqb, lt-ltb, le-ltb, lt-leb}
 use lib.Dec.{leb, ltb, eqb}
 use Rattle.text.specs.declared.Line.{Line}
-use Rattle.text.specs.Lexer.{bad, wholeDigit, takesDigit, withDigit, withPoint, withSpace, withMinus, lex, lexes, wholeCount, wholeTerm}
+use Rattle.text.specs.Lexer.{bad, whole-digit, takes-digit, with-digit, with-point, with-space, with-minus, lex, lexes, whole-count, whole-term}
 use Rattle.text.proofs.Judging.{by-cases}
 use Rattle.text.proofs.Digits.{small, early}
 use Rattle.text.proofs.Lexing.{put, keep}
@@ -16,29 +16,29 @@ use Rattle.text.proofs.Lexing.{put, keep}
 -- What a byte can do to a line.
 pub data Lexed (l : Line) (byte : ℕ) : Line → Type 0 where
   none : Lexed l byte bad
-  digit : (d : ℕ) → byte ≡ 48 + d → d < 10 → takesDigit (l .spot) (l .minus) (l .value) d ≡ true → Lexed l byte (put l (l .spot + 1) (l .minus) (10 * l .value + d))
+  digit : (d : ℕ) → byte ≡ 48 + d → d < 10 → takes-digit (l .spot) (l .minus) (l .value) d ≡ true → Lexed l byte (put l (l .spot + 1) (l .minus) (10 * l .value + d))
   pointed : byte ≡ 46 → 1 ≤ l .spot → l .spot ≤ 6 → Lexed l byte (put l 7 (l .minus) (l .value))
   spaced : byte ≡ 32 → l .spot ≡ 0 → l .minus ≡ 0 → Lexed l byte l
   kept : byte ≡ 32 → l .spot ≡ 18 → l .field < 2 → Lexed l byte (keep l (l .minus) (l .value))
   negated : byte ≡ 45 → l .spot ≡ 0 → l .minus ≡ 0 → Lexed l byte (put l 0 1 (l .value))
 
 module _ (l : Line) (byte : ℕ) where
-  view-digit : 48 ≤ byte → byte < 58 → Lexed l byte (withDigit l (byte - 48))
-  unfolding withDigit
+  view-digit : 48 ≤ byte → byte < 58 → Lexed l byte (with-digit l (byte - 48))
+  unfolding with-digit
   view-digit h k =
-      by-cases (takesDigit (l .spot) (l .minus) (l .value) (byte - 48))
+      by-cases (takes-digit (l .spot) (l .minus) (l .value) (byte - 48))
       (λ p. rw p (digit (byte - 48) (omega arith) (omega arith) p))
       (λ p. rw p none)
 
-  view-point : byte ≡ 46 → Lexed l byte (withPoint l)
-  unfolding withPoint
+  view-point : byte ≡ 46 → Lexed l byte (with-point l)
+  unfolding with-point
   view-point e =
       by-cases (leb 1 (l .spot))
       (λ p. by-cases (leb (l .spot) 6) (λ q. rw (p, q) (pointed e (leb-true _ _ p) (leb-true _ _ q))) (λ q. rw (p, q) none))
       (λ p. rw p none)
 
-  view-space : byte ≡ 32 → Lexed l byte (withSpace l)
-  unfolding withSpace
+  view-space : byte ≡ 32 → Lexed l byte (with-space l)
+  unfolding with-space
   view-space e =
       by-cases (eqb (l .spot) 0)
       (λ p. by-cases (eqb (l .minus) 0) (λ q. rw (p, q) (spaced e (eqb-true _ _ p) (eqb-true _ _ q))) (λ q. rw (p, q) none))
@@ -46,8 +46,8 @@ module _ (l : Line) (byte : ℕ) where
       (λ q. by-cases (ltb (l .field) 2) (λ r. rw (p, q, r) (kept e (eqb-true _ _ q) (ltb-true _ _ r))) (λ r. rw (p, q, r) none))
       (λ q. rw (p, q) none))
 
-  view-minus : byte ≡ 45 → Lexed l byte (withMinus l)
-  unfolding withMinus
+  view-minus : byte ≡ 45 → Lexed l byte (with-minus l)
+  unfolding with-minus
   view-minus e =
       by-cases (eqb (l .spot) 0)
       (λ p. by-cases (eqb (l .minus) 0) (λ q. rw (p, q) (negated e (eqb-true _ _ p) (eqb-true _ _ q))) (λ q. rw (p, q) none))
@@ -87,8 +87,8 @@ pub record Term (l : Line) : Type 0 where
   pub spot : l .spot ≡ 18
   pub field : l .field ≡ 2
 
-pub term-of : (l : Line) → wholeTerm l ≡ true → Term l
-unfolding wholeTerm
+pub term-of : (l : Line) → whole-term l ≡ true → Term l
+unfolding whole-term
 term-of l h =
     by-cases (eqb (l .spot) 18)
     (λ p. record { spot = eqb-true _ _ p; field = eqb-true _ _ (rw p at h) })
@@ -98,38 +98,38 @@ pub record Count (l : Line) : Type 0 where
   pub low : 20 < l .spot
   pub high : l .spot < 25
 
-pub count-of : (l : Line) → wholeCount l ≡ true → Count l
-unfolding wholeCount
+pub count-of : (l : Line) → whole-count l ≡ true → Count l
+unfolding whole-count
 count-of l h =
     by-cases (ltb 20 (l .spot))
     (λ p. record { low = ltb-true _ _ p; high = ltb-true _ _ (rw p at h) })
     (λ p. never (rw p at h))
 
 -- From a bad line no whole one comes.
-pub no-term : {P : Type 0} (xs : List ℕ) (F : Line) → lexes bad xs ≡ F → wholeTerm F ≡ true → P
+pub no-term : {P : Type 0} (xs : List ℕ) (F : Line) → lexes bad xs ≡ F → whole-term F ≡ true → P
 no-term xs F e h = let t = term-of F h in let s = ap (λ (l : Line). l .spot) (sym (bad-stays xs) ∙ e) in absurd (omega (arith, t .spot))
 
-pub no-count : {P : Type 0} (xs : List ℕ) (F : Line) → lexes bad xs ≡ F → wholeCount F ≡ true → P
+pub no-count : {P : Type 0} (xs : List ℕ) (F : Line) → lexes bad xs ≡ F → whole-count F ≡ true → P
 no-count xs F e h = let t = count-of F h in let s = ap (λ (l : Line). l .spot) (sym (bad-stays xs) ∙ e) in absurd (omega (arith, t .high))
 
 -- The last decimal, and a digit after the first whole one.
-pub takes-last : (m v d : ℕ) → takesDigit 17 m v d ≡ true → (m ≡ 0) ⊎ (0 < 10 * v + d)
-unfolding takesDigit wholeDigit
+pub takes-last : (m v d : ℕ) → takes-digit 17 m v d ≡ true → (m ≡ 0) ⊎ (0 < 10 * v + d)
+unfolding takes-digit whole-digit
 takes-last m v d t =
     by-cases (eqb m 0)
     (λ p. inl (eqb-true _ _ p))
     (λ p. let b = lt-leb 1000000000000000000 v (small 17 m v d t) in let h = ltb-true 0 (v + d) (rw (b, p) at t) in inr (omega arith))
 
-pub whole-more : (s m v d : ℕ) → 1 ≤ s → s ≤ 6 → takesDigit s m v d ≡ true → (s < 6) × (0 < v)
-unfolding takesDigit wholeDigit
+pub whole-more : (s m v d : ℕ) → 1 ≤ s → s ≤ 6 → takes-digit s m v d ≡ true → (s < 6) × (0 < v)
+unfolding takes-digit whole-digit
 whole-more s m v d h k t =
     let b = lt-leb 1000000000000000000 v (small s m v d t) in
     by-cases (ltb s 6)
     (λ p. (ltb-true _ _ p, ltb-true _ _ (rw (b, p, ne-eqb s 0 (λ e. omega (arith, e))) at t)))
     (λ p. never (rw (b, p, lt-ltb s 7 (omega arith)) at t))
 
-pub count-more : (s m v d : ℕ) → 21 ≤ s → takesDigit s m v d ≡ true → (s < 24) × (0 < v)
-unfolding takesDigit wholeDigit
+pub count-more : (s m v d : ℕ) → 21 ≤ s → takes-digit s m v d ≡ true → (s < 24) × (0 < v)
+unfolding takes-digit whole-digit
 count-more s m v d h t =
     let b = lt-leb 1000000000000000000 v (small s m v d t) in
     let k = early s m v d t in (

@@ -9,27 +9,27 @@ use borrow.Author.Tests.{ltb-true, lt-ltb}
 use lib.Dec.{ltb, eqb}
 use lib.ListN.{length}
 use Rattle.integers.specs.Signs.{sgn}
-use Rattle.numbers.specs.Numbers.{encode}
-use Rattle.packed.specs.declared.Sums.{Sums}
+use Rattle.packed_numbers.specs.Numbers.{encode}
+use Rattle.packed.specs.declared.Tally.{Tally}
 use Rattle.packed.specs.declared.Term.{Term}
 use Rattle.packed.specs.Limits.{opened, added, factor, count-fits, a-fits, b-fits, c-fits, total-fits, coarse-fits}
 use Rattle.packed.specs.Series.{pack-term}
 use Rattle.text.specs.declared.Line.{Line}
 use Rattle.text.specs.declared.Reader.{Reader}
-use Rattle.text.specs.Lexer.{fresh, lex, lexes, wholeCount, wholeTerm}
-use Rattle.text.specs.Judge.{Verdict, signed, termOf, countRefusal, numbersFit, termRefusal, verdict}
-use Rattle.text.specs.Reader.{nextSpot, nextLine, fits, wrote}
-use Rattle.text.specs.Grammar.{size, value, CountLine, count, GoodCount, TermLine, termIn, TermInLimits}
+use Rattle.text.specs.Lexer.{fresh, lex, lexes, whole-count, whole-term}
+use Rattle.text.specs.Judge.{Verdict, signed, term-on-line, count-refusal, numbers-fit, term-refusal, verdict}
+use Rattle.text.specs.Reader.{next-spot, after-line, fits, wrote}
+use Rattle.text.specs.Grammar.{size, value, CountLine, count, GoodCount, TermLine, term-of-line, TermInLimits}
 use Rattle.text.proofs.Digits.{early}
 use Rattle.text.proofs.Judging.{by-cases}
 use Rattle.text.proofs.Stepping.{verdict-count, verdict-term, verdict-early}
-use Rattle.text.proofs.Lexing.{put, flag, termLine}
+use Rattle.text.proofs.Lexing.{put, flag, line-of-term}
 use Rattle.text.proofs.Unlexing.{Lexed, none, digit, pointed, spaced, kept, negated, view, never, term-of, count-of}
 use Rattle.text.proofs.Parsing.{no-digit}
 use Rattle.text.proofs.Lines.{moved}
 
 -- A reader at the beginning of a line.
-abbrev pub sp : ℕ → ℕ → ℕ → ℕ → ℕ → Sums → Reader
+abbrev pub sp : ℕ → ℕ → ℕ → ℕ → ℕ → Tally → Reader
 sp spot at w k n s =
     record {
       line = fresh spot;
@@ -44,44 +44,44 @@ sp spot at w k n s =
       place = 0;
     }
 
-abbrev pub st : ℕ → ℕ → ℕ → ℕ → Sums → Reader
-st at w k n s = sp (nextSpot k n) at w k n s
+abbrev pub st : ℕ → ℕ → ℕ → ℕ → Tally → Reader
+st at w k n s = sp (next-spot k n) at w k n s
 
 signed-flag : (m : Bool) (v : ℕ) → signed (flag m) v ≡ sgn m v
 unfolding signed flag
 signed-flag true v = refl
 signed-flag false v = refl
 
-pub term-is : (t : TermLine) → termOf (termLine t) ≡ termIn t
+pub term-is : (t : TermLine) → term-on-line (line-of-term t) ≡ term-of-line t
 unfolding value
 term-is t = rw (signed-flag (t .a .minus) (size (t .a)), signed-flag (t .c .minus) (size (t .c)))
 
 -- After a count and after a term.
-module _ (spot at w k m : ℕ) (s : Sums) where
-  pub count-verdict : (n : ℕ) (L : Line) → wholeCount L ≡ true → L .value ≡ n
-      → (verdict (moved (sp spot at w k 0 s) L m) .refusal ≡ countRefusal k s n)
+module _ (spot at w k m : ℕ) (s : Tally) where
+  pub count-verdict : (n : ℕ) (L : Line) → whole-count L ≡ true → L .value ≡ n
+      → (verdict (moved (sp spot at w k 0 s) L m) .refusal ≡ count-refusal k s n)
       × (verdict (moved (sp spot at w k 0 s) L m) .bytes ≡ encode n)
-      × (nextLine (moved (sp spot at w k 0 s) L m) (verdict (moved (sp spot at w k 0 s) L m)) ≡ st (at + m + 1) (w + length (encode n)) (k + 1) n (opened k n s))
+      × (after-line (moved (sp spot at w k 0 s) L m) (verdict (moved (sp spot at w k 0 s) L m)) ≡ st (at + m + 1) (w + length (encode n)) (k + 1) n (opened k n s))
   count-verdict n L h e =
       let q = verdict-count (moved (sp spot at w k 0 s) L m) h in (rw (q, e), rw (q, e), rw (q, e))
 
   pub term-verdict : (n : ℕ) (t : TermLine)
-      → (verdict (moved (sp spot at w k n s) (termLine t) m) .refusal ≡ termRefusal (factor (k - 1)) s (flag (t .b .minus)) (termIn t))
-      × (verdict (moved (sp spot at w k n s) (termLine t) m) .bytes ≡ pack-term (termIn t))
-      × (nextLine (moved (sp spot at w k n s) (termLine t) m) (verdict (moved (sp spot at w k n s) (termLine t) m))
-      ≡ st (at + m + 1) (w + length (pack-term (termIn t))) k (n - 1) (added (factor (k - 1)) s (termIn t)))
-  unfolding wholeCount wholeTerm
+      → (verdict (moved (sp spot at w k n s) (line-of-term t) m) .refusal ≡ term-refusal (factor (k - 1)) s (flag (t .b .minus)) (term-of-line t))
+      × (verdict (moved (sp spot at w k n s) (line-of-term t) m) .bytes ≡ pack-term (term-of-line t))
+      × (after-line (moved (sp spot at w k n s) (line-of-term t) m) (verdict (moved (sp spot at w k n s) (line-of-term t) m))
+      ≡ st (at + m + 1) (w + length (pack-term (term-of-line t))) k (n - 1) (added (factor (k - 1)) s (term-of-line t)))
+  unfolding whole-count whole-term
   term-verdict n t =
-      let q = verdict-term (moved (sp spot at w k n s) (termLine t) m) refl refl in
+      let q = verdict-term (moved (sp spot at w k n s) (line-of-term t) m) refl refl in
       let e = term-is t in (rw (q, e), rw (q, e), rw (q, e))
 
 -- A count and a term without refusal.
-pub count-zero : (k : ℕ) (s : Sums) (n : ℕ) → k < 18 → count-fits s n ≡ true → countRefusal k s n ≡ 0
-unfolding countRefusal
+pub count-zero : (k : ℕ) (s : Tally) (n : ℕ) → k < 18 → count-fits s n ≡ true → count-refusal k s n ≡ 0
+unfolding count-refusal
 count-zero k s n h e = rw (lt-ltb k 18 h, e)
 
-pub count-limits : (k : ℕ) (s : Sums) (n : ℕ) → countRefusal k s n ≡ 0 → (k < 18) × (count-fits s n ≡ true)
-unfolding countRefusal
+pub count-limits : (k : ℕ) (s : Tally) (n : ℕ) → count-refusal k s n ≡ 0 → (k < 18) × (count-fits s n ≡ true)
+unfolding count-refusal
 count-limits k s n e =
     by-cases (ltb k 18)
     (λ p. by-cases (count-fits s n) (λ q. (ltb-true _ _ p, q)) (λ q. absurd (apart 4 (λ x. omega (arith, x)) (rw (p, q) at e))))
@@ -90,8 +90,8 @@ count-limits k s n e =
     apart : (x : ℕ) → (x ≡ 0 → ⊥) → x ≡ 0 → ⊥
     apart x h = h
 
-pub term-zero : (f : ℕ) (s : Sums) (t : TermLine) → TermInLimits f s t → termRefusal f s (flag (t .b .minus)) (termIn t) ≡ 0
-unfolding termRefusal numbersFit flag b-fits size
+pub term-zero : (f : ℕ) (s : Tally) (t : TermLine) → TermInLimits f s t → term-refusal f s (flag (t .b .minus)) (term-of-line t) ≡ 0
+unfolding term-refusal numbers-fit flag b-fits size
 term-zero f s t l = rw (l .from-zero, l .a, l .b, l .c, l .total, l .coarse)
 
 flag-zero : (m : Bool) → eqb (flag m) 0 ≡ true → m ≡ false
@@ -99,8 +99,8 @@ unfolding flag
 flag-zero true e = never e
 flag-zero false e = refl
 
-pub term-limits : (f : ℕ) (s : Sums) (t : TermLine) → termRefusal f s (flag (t .b .minus)) (termIn t) ≡ 0 → TermInLimits f s t
-unfolding termRefusal numbersFit
+pub term-limits : (f : ℕ) (s : Tally) (t : TermLine) → term-refusal f s (flag (t .b .minus)) (term-of-line t) ≡ 0 → TermInLimits f s t
+unfolding term-refusal numbers-fit
 term-limits f s t e =
     by-cases (eqb (flag (t .b .minus)) 0)
     (λ p. by-cases (a-fits (value (t .a))) (λ q. by-cases (b-fits (size (t .b))) (λ r. by-cases (c-fits (value (t .c)))
@@ -147,43 +147,43 @@ term-kind (x ∷ xs) l h = term-kind xs (lex l x) (go (lex l x) (view l x))
     go _ (kept i k j) = inl (omega arith)
     go _ (negated i k j) = inl (omega arith)
 
-pub early-never : {P : Type 0} (r : Reader) → wholeCount (r .line) ≡ false → wholeTerm (r .line) ≡ false → verdict r .refusal ≡ 0 → P
+pub early-never : {P : Type 0} (r : Reader) → whole-count (r .line) ≡ false → whole-term (r .line) ≡ false → verdict r .refusal ≡ 0 → P
 early-never r p q g = let e = sym (verdict-early r p q) ∙ g in absurd (omega (arith, e))
 
 -- A line feed that is not refused ends a count after counts, and a term after terms.
-pub ends-count : (r : Reader) (xs : List ℕ) → r .line ≡ lexes (fresh 20) xs → verdict r .refusal ≡ 0 → wholeCount (lexes (fresh 20) xs) ≡ true
+pub ends-count : (r : Reader) (xs : List ℕ) → r .line ≡ lexes (fresh 20) xs → verdict r .refusal ≡ 0 → whole-count (lexes (fresh 20) xs) ≡ true
 ends-count r xs e g =
-    by-cases (wholeCount (lexes (fresh 20) xs)) (λ p. p)
-    (λ p. by-cases (wholeTerm (lexes (fresh 20) xs))
+    by-cases (whole-count (lexes (fresh 20) xs)) (λ p. p)
+    (λ p. by-cases (whole-term (lexes (fresh 20) xs))
     (λ q. let t = term-of _ q in absurd (omega (arith, t .spot, count-kind xs (fresh 20) (omega arith))))
     (λ q. early-never r (rw e p) (rw e q) g))
 
-pub ends-term : (r : Reader) (xs : List ℕ) → r .line ≡ lexes (fresh 0) xs → verdict r .refusal ≡ 0 → wholeTerm (lexes (fresh 0) xs) ≡ true
+pub ends-term : (r : Reader) (xs : List ℕ) → r .line ≡ lexes (fresh 0) xs → verdict r .refusal ≡ 0 → whole-term (lexes (fresh 0) xs) ≡ true
 ends-term r xs e g =
-    by-cases (wholeTerm (lexes (fresh 0) xs)) (λ p. p)
-    (λ p. by-cases (wholeCount (lexes (fresh 0) xs))
+    by-cases (whole-term (lexes (fresh 0) xs)) (λ p. p)
+    (λ p. by-cases (whole-count (lexes (fresh 0) xs))
     (λ q. let c = count-of _ q in ⊎-elim (λ h. absurd (omega (arith, c .low))) (λ h. absurd (omega (arith, c .high))) (term-kind xs (fresh 0) (inl (omega arith))))
     (λ q. early-never r (rw e q) (rw e p) g))
 
-pub not-count : (xs : List ℕ) → wholeCount (lexes (fresh 0) xs) ≡ false
+pub not-count : (xs : List ℕ) → whole-count (lexes (fresh 0) xs) ≡ false
 not-count xs =
-    by-cases (wholeCount (lexes (fresh 0) xs))
+    by-cases (whole-count (lexes (fresh 0) xs))
     (λ q. let c = count-of _ q in ⊎-elim (λ h. absurd (omega (arith, c .low))) (λ h. absurd (omega (arith, c .high))) (term-kind xs (fresh 0) (inl (omega arith))))
     (λ q. q)
 
-pub not-term : (xs : List ℕ) → wholeTerm (lexes (fresh 20) xs) ≡ false
+pub not-term : (xs : List ℕ) → whole-term (lexes (fresh 20) xs) ≡ false
 not-term xs =
-    by-cases (wholeTerm (lexes (fresh 20) xs))
+    by-cases (whole-term (lexes (fresh 20) xs))
     (λ q. let t = term-of _ q in absurd (omega (arith, t .spot, count-kind xs (fresh 20) (omega arith))))
     (λ q. q)
 
-pub is-whole : (c : CountLine) → GoodCount c → wholeCount (put (fresh 20) (21 + length (c .more)) 0 (count c)) ≡ true
-unfolding wholeCount
+pub is-whole : (c : CountLine) → GoodCount c → whole-count (put (fresh 20) (21 + length (c .more)) 0 (count c)) ≡ true
+unfolding whole-count
 is-whole c g = rw (lt-ltb 20 (21 + length (c .more)) (omega arith), lt-ltb (21 + length (c .more)) 25 (omega (arith, g .few)))
 
 -- The refusals that a count and a term can have, and the status after them.
-pub count-among : (P : ℕ → Type 0) → P 0 → P 4 → P 9 → (k : ℕ) (s : Sums) (n : ℕ) → P (countRefusal k s n)
-unfolding countRefusal
+pub count-among : (P : ℕ → Type 0) → P 0 → P 4 → P 9 → (k : ℕ) (s : Tally) (n : ℕ) → P (count-refusal k s n)
+unfolding count-refusal
 count-among P zero four nine k s n = go (ltb k 18) (count-fits s n)
   where
     go : (t u : Bool) → P (cond t (cond u 0 4) 9)
@@ -191,9 +191,9 @@ count-among P zero four nine k s n = go (ltb k 18) (count-fits s n)
     go true false = four
     go false u = nine
 
-pub term-among : (P : ℕ → Type 0) → P 0 → P 4 → P 5 → P 6 → (f : ℕ) (s : Sums) (m : ℕ) (t : Term) → P (termRefusal f s m t)
-unfolding termRefusal
-term-among P zero four five six f s m t = go (numbersFit m t) (total-fits s (t .a)) (coarse-fits f s (t .a) (t .b) (t .c))
+pub term-among : (P : ℕ → Type 0) → P 0 → P 4 → P 5 → P 6 → (f : ℕ) (s : Tally) (m : ℕ) (t : Term) → P (term-refusal f s m t)
+unfolding term-refusal
+term-among P zero four five six f s m t = go (numbers-fit m t) (total-fits s (t .a)) (coarse-fits f s (t .a) (t .b) (t .c))
   where
     go : (t u v : Bool) → P (cond t (cond u (cond v 0 6) 5) 4)
     go true true true = zero

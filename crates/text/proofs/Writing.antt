@@ -10,12 +10,12 @@ use lib.Dec.{ltb}
 use lib.ListN.{length, set, length-append}
 use lib.Seq.{sets}
 use Rattle.integers.specs.Signs.{sgn}
-use Rattle.numbers.specs.declared.Put.the-variants.{Next, NoRoom}
-use Rattle.numbers.specs.Numbers.{folded, encode}
+use Rattle.packed_numbers.specs.declared.Put.the-variants.{Next, NoRoom}
+use Rattle.packed_numbers.specs.Numbers.{folded, encode}
 use Rattle.packed.specs.declared.Term.{Term}
 use Rattle.packed.specs.Series.{pack-term}
 use Rattle.text.specs.Judge.{signed}
-use Rattle.text.specs.Reader.{fits, putBytes}
+use Rattle.text.specs.Reader.{fits, put-bytes}
 
 pub sets-append : (xs ys l : List ℕ) (i : ℕ) → sets l i (xs ++ ys) ≡ sets (sets l i xs) (i + length xs) ys
 sets-append [] ys l i = rw (add-zero i)
@@ -52,8 +52,8 @@ module _ (t : Term) (at : ℕ) (out : List ℕ) where
   length-term = simp length-append (omega arith)
 
   pub put-full : (n : ℕ) → n ≡ length (pack-term t) → length out < at + n
-      → (NoRoom n ≡ cond (fits (pack-term t) at out) (Next (at + length (pack-term t))) (NoRoom (length (pack-term t)))) × (out ≡ putBytes (pack-term t) at out)
-  unfolding fits putBytes
+      → (NoRoom n ≡ cond (fits (pack-term t) at out) (Next (at + length (pack-term t))) (NoRoom (length (pack-term t)))) × (out ≡ put-bytes (pack-term t) at out)
+  unfolding fits put-bytes
   put-full n e h =
       let f = lt-leb (at + length (pack-term t)) (length out) (omega (arith, ap (λ (k : ℕ). at + k) e)) in (rw (f, e), rw f)
 
@@ -65,8 +65,8 @@ module _ (t : Term) (at : ℕ) (out : List ℕ) where
   pub stored-three : (o1 o2 o3 : List ℕ) (i j : ℕ) → at + length (pack-term t) ≤ length out
       → o1 ≡ sets out at (encode (folded (t .a))) → i ≡ at + length (encode (folded (t .a)))
       → o2 ≡ sets o1 i (encode (t .b)) → j ≡ i + length (encode (t .b))
-      → o3 ≡ sets o2 j (encode (folded (t .c))) → o3 ≡ putBytes (pack-term t) at out
-  unfolding fits putBytes pack-term
+      → o3 ≡ sets o2 j (encode (folded (t .c))) → o3 ≡ put-bytes (pack-term t) at out
+  unfolding fits put-bytes pack-term
   stored-three o1 o2 o3 i j h e1 f1 e2 f2 e3 =
       rw (le-leb (at + length (pack-term t)) (length out) h)
       (e3 ∙ ap (λ (o : List ℕ). sets o j (encode (folded (t .c)))) (e2 ∙ ap (λ (o : List ℕ). sets o i (encode (t .b))) e1)

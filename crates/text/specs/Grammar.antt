@@ -8,10 +8,10 @@ use Prim.Native.Nat.{ℕ, zero, suc, _+_, _*_, _≤_, _<_}
 use lib.IntN.{ℤ}
 use lib.ListN.{length}
 use Rattle.integers.specs.Signs.{sgn}
-use Rattle.numbers.specs.Numbers.{encode}
+use Rattle.packed_numbers.specs.Numbers.{encode}
 use Rattle.packed.specs.declared.Term.{Term}
-use Rattle.packed.specs.declared.Sums.{Sums}
-use Rattle.packed.specs.Limits.{block-count, no-sums, opened, added, factor, count-fits, a-fits, b-fits, c-fits, total-fits, coarse-fits}
+use Rattle.packed.specs.declared.Tally.{Tally}
+use Rattle.packed.specs.Limits.{block-count, no-tally, opened, added, factor, count-fits, a-fits, b-fits, c-fits, total-fits, coarse-fits}
 use Rattle.packed.specs.Series.{after-block, pack-term}
 
 -- The bytes: line feed, space, minus, point, digits.
@@ -80,8 +80,8 @@ pub record CountLine : Type 0 where
 unfoldable pub count : CountLine → ℕ
 count l = numeral (l .first) (l .more)
 
-unfoldable pub countBytes : CountLine → List ℕ
-countBytes l = digits (l .first ∷ l .more)
+unfoldable pub count-bytes : CountLine → List ℕ
+count-bytes l = digits (l .first ∷ l .more)
 
 abbrev pub GoodCount : CountLine → Type 0
 GoodCount l = Natural 4 (l .first) (l .more)
@@ -94,8 +94,8 @@ pub record TermLine : Type 0 where
   pub after-b : ℕ
   pub c : Decimal
 
-unfoldable pub termBytes : TermLine → List ℕ
-termBytes l =
+unfoldable pub term-bytes : TermLine → List ℕ
+term-bytes l =
     spaces (l .lead) ++ (decimal (l .a) ++ ((32 ∷ spaces (l .after-a)) ++ (decimal (l .b) ++ ((32 ∷ spaces (l .after-b)) ++ decimal (l .c)))))
 
 pub record GoodTerm (l : TermLine) : Type 0 where
@@ -104,33 +104,33 @@ pub record GoodTerm (l : TermLine) : Type 0 where
   pub c : GoodDecimal (l .c)
 
 -- The term of a line. (A b below zero is past its limit.)
-abbrev pub termIn : TermLine → Term
-termIn l = record { a = value (l .a); b = size (l .b); c = value (l .c) }
+abbrev pub term-of-line : TermLine → Term
+term-of-line l = record { a = value (l .a); b = size (l .b); c = value (l .c) }
 
 -- Some lines of either kind, each with its line feed; their packed form.
 pub data AnyLine : Type 0 where
   a-count : CountLine → AnyLine
   a-term : TermLine → AnyLine
 
-unfoldable pub lineBytes : AnyLine → List ℕ
-lineBytes (a-count l) = countBytes l
-lineBytes (a-term l) = termBytes l
+unfoldable pub line-bytes : AnyLine → List ℕ
+line-bytes (a-count l) = count-bytes l
+line-bytes (a-term l) = term-bytes l
 
-unfoldable pub linePacked : AnyLine → List ℕ
-linePacked (a-count l) = encode (count l)
-linePacked (a-term l) = pack-term (termIn l)
+unfoldable pub line-packed : AnyLine → List ℕ
+line-packed (a-count l) = encode (count l)
+line-packed (a-term l) = pack-term (term-of-line l)
 
 unfoldable pub GoodLine : AnyLine → Type 0
 GoodLine (a-count l) = GoodCount l
 GoodLine (a-term l) = GoodTerm l
 
-unfoldable pub anyBytes : List AnyLine → List ℕ
-anyBytes [] = []
-anyBytes (l ∷ ls) = lineBytes l ++ (feed ∷ anyBytes ls)
+unfoldable pub any-bytes : List AnyLine → List ℕ
+any-bytes [] = []
+any-bytes (l ∷ ls) = line-bytes l ++ (feed ∷ any-bytes ls)
 
-unfoldable pub anyPacked : List AnyLine → List ℕ
-anyPacked [] = []
-anyPacked (l ∷ ls) = linePacked l ++ anyPacked ls
+unfoldable pub any-packed : List AnyLine → List ℕ
+any-packed [] = []
+any-packed (l ∷ ls) = line-packed l ++ any-packed ls
 
 unfoldable pub GoodLines : List AnyLine → Type 0
 GoodLines [] = Unit {0}
@@ -146,21 +146,21 @@ pub record Block : Type 0 where
   pub head : CountLine
   pub lines : List TermLine
 
-unfoldable pub linesBytes : List TermLine → List ℕ
-linesBytes [] = []
-linesBytes (l ∷ ls) = termBytes l ++ (feed ∷ linesBytes ls)
+unfoldable pub lines-bytes : List TermLine → List ℕ
+lines-bytes [] = []
+lines-bytes (l ∷ ls) = term-bytes l ++ (feed ∷ lines-bytes ls)
 
-unfoldable pub blocksBytes : List Block → List ℕ
-blocksBytes [] = []
-blocksBytes (k ∷ ks) = countBytes (k .head) ++ (feed ∷ (linesBytes (k .lines) ++ blocksBytes ks))
+unfoldable pub blocks-bytes : List Block → List ℕ
+blocks-bytes [] = []
+blocks-bytes (k ∷ ks) = count-bytes (k .head) ++ (feed ∷ (lines-bytes (k .lines) ++ blocks-bytes ks))
 
-unfoldable pub termsIn : List TermLine → List Term
-termsIn [] = []
-termsIn (l ∷ ls) = termIn l ∷ termsIn ls
+unfoldable pub terms-of-lines : List TermLine → List Term
+terms-of-lines [] = []
+terms-of-lines (l ∷ ls) = term-of-line l ∷ terms-of-lines ls
 
-unfoldable pub blocksIn : List Block → List (List Term)
-blocksIn [] = []
-blocksIn (k ∷ ks) = termsIn (k .lines) ∷ blocksIn ks
+unfoldable pub blocks-of-lines : List Block → List (List Term)
+blocks-of-lines [] = []
+blocks-of-lines (k ∷ ks) = terms-of-lines (k .lines) ∷ blocks-of-lines ks
 
 unfoldable pub AllGood : List TermLine → Type 0
 AllGood [] = Unit {0}
@@ -175,8 +175,8 @@ pub record GoodText (ks : List Block) : Type 0 where
   pub eighteen : length ks ≡ block-count
   pub good : GoodBlocks ks
 
--- The limits, judged over the part so far: of each term, in a block with factor f after the sums s, and of each count, of block k.
-pub record TermInLimits (f : ℕ) (s : Sums) (l : TermLine) : Type 0 where
+-- The limits, judged over the part so far: of each term, in a block with factor f after the tally s, and of each count, of block k.
+pub record TermInLimits (f : ℕ) (s : Tally) (l : TermLine) : Type 0 where
   pub from-zero : l .b .minus ≡ false
   pub a : a-fits (value (l .a)) ≡ true
   pub b : b-fits (size (l .b)) ≡ true
@@ -184,16 +184,16 @@ pub record TermInLimits (f : ℕ) (s : Sums) (l : TermLine) : Type 0 where
   pub total : total-fits s (value (l .a)) ≡ true
   pub coarse : coarse-fits f s (value (l .a)) (size (l .b)) (value (l .c)) ≡ true
 
-unfoldable pub TermsInLimits : ℕ → Sums → List TermLine → Type 0
+unfoldable pub TermsInLimits : ℕ → Tally → List TermLine → Type 0
 TermsInLimits f s [] = Unit {0}
-TermsInLimits f s (l ∷ ls) = TermInLimits f s l × TermsInLimits f (added f s (termIn l)) ls
+TermsInLimits f s (l ∷ ls) = TermInLimits f s l × TermsInLimits f (added f s (term-of-line l)) ls
 
-unfoldable pub BlocksInLimits : ℕ → Sums → List Block → Type 0
+unfoldable pub BlocksInLimits : ℕ → Tally → List Block → Type 0
 BlocksInLimits k s [] = Unit {0}
 BlocksInLimits k s (b ∷ bs) =
     (count-fits s (count (b .head)) ≡ true)
     × TermsInLimits (factor k) (opened k (count (b .head)) s) (b .lines)
-    × BlocksInLimits (k + 1) (after-block k s (termsIn (b .lines))) bs
+    × BlocksInLimits (k + 1) (after-block k s (terms-of-lines (b .lines))) bs
 
 abbrev pub InLimits : List Block → Type 0
-InLimits ks = BlocksInLimits 0 no-sums ks
+InLimits ks = BlocksInLimits 0 no-tally ks

@@ -6,73 +6,73 @@ use Prim.Native.Nat.{ℕ, _+_, _-_}
 use lib.Dec.{ltb, eqb}
 use lib.IntN.{ℤ}
 use Rattle.integers.specs.Signs.{sgn}
-use Rattle.numbers.specs.Numbers.{encode}
+use Rattle.packed_numbers.specs.Numbers.{encode}
 use Rattle.packed.specs.declared.Term.{Term}
-use Rattle.packed.specs.declared.Sums.{Sums}
+use Rattle.packed.specs.declared.Tally.{Tally}
 use Rattle.packed.specs.Limits.{block-count, opened, added, factor, count-fits, a-fits, b-fits, c-fits, total-fits, coarse-fits}
 use Rattle.packed.specs.Series.{pack-term}
 use Rattle.text.specs.declared.Line.{Line}
 use Rattle.text.specs.declared.Reader.{Reader}
-use Rattle.text.specs.Lexer.{wholeCount, wholeTerm}
+use Rattle.text.specs.Lexer.{whole-count, whole-term}
 
 -- The part of the series so far.
-abbrev pub sums : Reader → Sums
-sums r = record { terms = r .terms; total = r .total; coarse = r .coarse }
+abbrev pub tally : Reader → Tally
+tally r = record { terms = r .terms; total = r .total; coarse = r .coarse }
 
 -- The decimal with a minus or none, in parts.
 unfoldable pub signed : ℕ → ℕ → ℤ
 signed minus value = sgn (ltb 0 minus) value
 
 -- The term of a line with three decimals. (A b with a minus is refused.)
-abbrev pub termOf : Line → Term
-termOf l = record { a = signed (l .minusa) (l .a); b = l .b; c = signed (l .minus) (l .value) }
+abbrev pub term-on-line : Line → Term
+term-on-line l = record { a = signed (l .minusa) (l .a); b = l .b; c = signed (l .minus) (l .value) }
 
 -- What a whole line says: the refusal of its numbers, or 0; its packed bytes; and with it the counts so far, the terms left of the block
--- and the sums.
+-- and the tally.
 pub record Verdict : Type 0 where
   pub refusal : ℕ
   pub bytes : List ℕ
   pub blocks : ℕ
   pub left : ℕ
-  pub sums : Sums
+  pub tally : Tally
 
 -- A count. (A state in which one comes after 18 of them was given by no call.)
-unfoldable pub countRefusal : ℕ → Sums → ℕ → ℕ
-countRefusal blocks s n = cond (ltb blocks block-count) (cond (count-fits s n) 0 4) 9
+unfoldable pub count-refusal : ℕ → Tally → ℕ → ℕ
+count-refusal blocks s n = cond (ltb blocks block-count) (cond (count-fits s n) 0 4) 9
 
-abbrev pub countEnd : Reader → Verdict
-countEnd r =
+abbrev pub count-end : Reader → Verdict
+count-end r =
     record {
-      refusal = countRefusal (r .blocks) (sums r) (r .line .value);
+      refusal = count-refusal (r .blocks) (tally r) (r .line .value);
       bytes = encode (r .line .value);
       blocks = r .blocks + 1;
       left = r .line .value;
-      sums = opened (r .blocks) (r .line .value) (sums r);
+      tally = opened (r .blocks) (r .line .value) (tally r);
     }
 
--- A term, in a block with factor f after the sums s.
-unfoldable pub numbersFit : ℕ → Term → Bool
-numbersFit minusb t =
+-- A term, in a block with factor f after the tally s.
+unfoldable pub numbers-fit : ℕ → Term → Bool
+numbers-fit minusb t =
     cond (eqb minusb 0) (cond (a-fits (t .a)) (cond (b-fits (t .b)) (c-fits (t .c)) false) false) false
 
-unfoldable pub termRefusal : ℕ → Sums → ℕ → Term → ℕ
-termRefusal f s minusb t =
-    cond (numbersFit minusb t)
+unfoldable pub term-refusal : ℕ → Tally → ℕ → Term → ℕ
+term-refusal f s minusb t =
+    cond (numbers-fit minusb t)
     (cond (total-fits s (t .a)) (cond (coarse-fits f s (t .a) (t .b) (t .c)) 0 6) 5)
     4
 
-abbrev pub termEnd : Reader → Verdict
-termEnd r =
+abbrev pub term-end : Reader → Verdict
+term-end r =
     record {
-      refusal = termRefusal (factor (r .blocks - 1)) (sums r) (r .line .minusb) (termOf (r .line));
-      bytes = pack-term (termOf (r .line));
+      refusal = term-refusal (factor (r .blocks - 1)) (tally r) (r .line .minusb) (term-on-line (r .line));
+      bytes = pack-term (term-on-line (r .line));
       blocks = r .blocks;
       left = r .left - 1;
-      sums = added (factor (r .blocks - 1)) (sums r) (termOf (r .line));
+      tally = added (factor (r .blocks - 1)) (tally r) (term-on-line (r .line));
     }
 
-abbrev pub earlyEnd : Reader → Verdict
-earlyEnd r = record { refusal = 3; bytes = []; blocks = r .blocks; left = r .left; sums = sums r }
+abbrev pub early-end : Reader → Verdict
+early-end r = record { refusal = 3; bytes = []; blocks = r .blocks; left = r .left; tally = tally r }
 
 unfoldable pub verdict : Reader → Verdict
-verdict r = cond (wholeCount (r .line)) (countEnd r) (cond (wholeTerm (r .line)) (termEnd r) (earlyEnd r))
+verdict r = cond (whole-count (r .line)) (count-end r) (cond (whole-term (r .line)) (term-end r) (early-end r))

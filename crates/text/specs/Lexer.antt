@@ -35,25 +35,25 @@ abbrev pub bad : Line
 bad = fresh spot-bad
 
 -- A digit that may not follow a leading zero, and no zero may end a minus before zero.
-unfoldable pub wholeDigit : Bool → ℕ → Bool
-wholeDigit first value = cond first true (ltb 0 value)
+unfoldable pub whole-digit : Bool → ℕ → Bool
+whole-digit first value = cond first true (ltb 0 value)
 
 -- A digit d goes on: no seventh whole digit and no fifth of a count, none after a leading zero, and no last zero of a minus before zero.
 -- (A value of 10^18 stands in no line.)
-unfoldable pub takesDigit : ℕ → ℕ → ℕ → ℕ → Bool
-takesDigit spot minus value d =
+unfoldable pub takes-digit : ℕ → ℕ → ℕ → ℕ → Bool
+takes-digit spot minus value d =
     cond (leb 1000000000000000000 value) false
-    (cond (ltb spot 6) (wholeDigit (eqb spot 0) value)
+    (cond (ltb spot 6) (whole-digit (eqb spot 0) value)
     (cond (ltb spot 7) false
     (cond (ltb spot 17) true
-    (cond (ltb spot 18) (wholeDigit (eqb minus 0) (value + d))
+    (cond (ltb spot 18) (whole-digit (eqb minus 0) (value + d))
     (cond (ltb spot 20) false
-    (cond (ltb spot 24) (wholeDigit (eqb spot 20) value)
+    (cond (ltb spot 24) (whole-digit (eqb spot 20) value)
     false))))))
 
-unfoldable pub withDigit : Line → ℕ → Line
-withDigit l d =
-    cond (takesDigit (l .spot) (l .minus) (l .value) d)
+unfoldable pub with-digit : Line → ℕ → Line
+with-digit l d =
+    cond (takes-digit (l .spot) (l .minus) (l .value) d)
     record {
       spot = l .spot + 1;
       field = l .field;
@@ -67,8 +67,8 @@ withDigit l d =
     bad
 
 -- A point, after 1 to 6 whole digits.
-unfoldable pub withPoint : Line → Line
-withPoint l =
+unfoldable pub with-point : Line → Line
+with-point l =
     cond (leb 1 (l .spot))
     (cond (leb (l .spot) 6)
     record {
@@ -85,8 +85,8 @@ withPoint l =
     bad
 
 -- A space, before a decimal, or after the first or the second, which then is kept: after two decimals a and b hold them.
-unfoldable pub withSpace : Line → Line
-withSpace l =
+unfoldable pub with-space : Line → Line
+with-space l =
     cond (eqb (l .spot) spot-decimal) (cond (eqb (l .minus) 0) l bad)
     (cond (eqb (l .spot) spot-done)
     (cond (ltb (l .field) 2)
@@ -104,8 +104,8 @@ withSpace l =
     bad)
 
 -- A minus, before a decimal.
-unfoldable pub withMinus : Line → Line
-withMinus l =
+unfoldable pub with-minus : Line → Line
+with-minus l =
     cond (eqb (l .spot) spot-decimal)
     (cond (eqb (l .minus) 0)
     record {
@@ -125,11 +125,11 @@ withMinus l =
 unfoldable pub lex : Line → ℕ → Line
 lex l byte =
     cond (ltb byte 48)
-    (cond (eqb byte 46) (withPoint l)
-    (cond (eqb byte 32) (withSpace l)
-    (cond (eqb byte 45) (withMinus l)
+    (cond (eqb byte 46) (with-point l)
+    (cond (eqb byte 32) (with-space l)
+    (cond (eqb byte 45) (with-minus l)
     bad)))
-    (cond (ltb byte 58) (withDigit l (byte - 48)) bad)
+    (cond (ltb byte 58) (with-digit l (byte - 48)) bad)
 
 -- The bytes of a line before its line feed.
 unfoldable pub lexes : Line → List ℕ → Line
@@ -137,8 +137,8 @@ lexes l [] = l
 lexes l (byte ∷ bytes) = lexes (lex l byte) bytes
 
 -- The line feed may come: after a count's digits, or after the third decimal.
-unfoldable pub wholeCount : Line → Bool
-wholeCount l = cond (ltb 20 (l .spot)) (ltb (l .spot) 25) false
+unfoldable pub whole-count : Line → Bool
+whole-count l = cond (ltb 20 (l .spot)) (ltb (l .spot) 25) false
 
-unfoldable pub wholeTerm : Line → Bool
-wholeTerm l = cond (eqb (l .spot) spot-done) (eqb (l .field) 2) false
+unfoldable pub whole-term : Line → Bool
+whole-term l = cond (eqb (l .spot) spot-done) (eqb (l .field) 2) false

@@ -8,7 +8,7 @@ use lib.ListN.{length}
 use lib.Seq.{sets}
 use Rattle.units.specs.declared.Refusal.{Refusal}
 use Rattle.units.specs.declared.Refusal.the-variants.{BadByte, OverLimit, TotalOverLimit, TooCoarse, NoRoom, EndedEarly, ByteAfterEnd}
-use Rattle.packed.specs.declared.Sums.{Sums}
+use Rattle.packed.specs.declared.Tally.{Tally}
 use Rattle.packed.specs.Limits.{block-count, coarse-base}
 use Rattle.text.specs.declared.Line.{Line}
 use Rattle.text.specs.declared.Reader.{Reader}
@@ -57,8 +57,8 @@ stopped r status =
     }
 
 -- One byte further in the line.
-abbrev pub inLine : Reader → Line → Reader
-inLine r line =
+abbrev pub further-in-line : Reader → Line → Reader
+further-in-line r line =
     record {
       line = line;
       at = r .at + 1;
@@ -73,14 +73,14 @@ inLine r line =
     }
 
 -- The next line has a term, or a count, or nothing more may come.
-unfoldable pub nextSpot : ℕ → ℕ → ℕ
-nextSpot blocks left = cond (eqb left 0) (cond (eqb blocks block-count) spot-after spot-count) spot-decimal
+unfoldable pub next-spot : ℕ → ℕ → ℕ
+next-spot blocks left = cond (eqb left 0) (cond (eqb blocks block-count) spot-after spot-count) spot-decimal
 
 -- After a line that was written up to written.
-abbrev pub advanced : Reader → ℕ → ℕ → ℕ → Sums → Reader
+abbrev pub advanced : Reader → ℕ → ℕ → ℕ → Tally → Reader
 advanced r written blocks left s =
     record {
-      line = fresh (nextSpot blocks left);
+      line = fresh (next-spot blocks left);
       at = r .at + 1;
       written = written;
       blocks = blocks;
@@ -92,8 +92,8 @@ advanced r written blocks left s =
       place = 0;
     }
 
-abbrev pub nextLine : Reader → Verdict → Reader
-nextLine r v = advanced r (r .written + length (v .bytes)) (v .blocks) (v .left) (v .sums)
+abbrev pub after-line : Reader → Verdict → Reader
+after-line r v = advanced r (r .written + length (v .bytes)) (v .blocks) (v .left) (v .tally)
 
 -- The writer, after the judgement of a line: 7 where its bytes do not fit.
 unfoldable pub fits : List ℕ → ℕ → List ℕ → Bool
@@ -102,18 +102,18 @@ fits bytes written out = leb (written + length bytes) (length out)
 unfoldable pub wrote : Reader → List ℕ → Verdict → Reader
 wrote r out v =
     cond (eqb (v .refusal) 0)
-    (cond (fits (v .bytes) (r .written) out) (nextLine r v) (stopped r 7))
+    (cond (fits (v .bytes) (r .written) out) (after-line r v) (stopped r 7))
     (stopped r (v .refusal))
 
-unfoldable pub putBytes : List ℕ → ℕ → List ℕ → List ℕ
-putBytes bytes written out = cond (fits bytes written out) (sets out written bytes) out
+unfoldable pub put-bytes : List ℕ → ℕ → List ℕ → List ℕ
+put-bytes bytes written out = cond (fits bytes written out) (sets out written bytes) out
 
-unfoldable pub wroteOut : Reader → List ℕ → Verdict → List ℕ
-wroteOut r out v = cond (eqb (v .refusal) 0) (putBytes (v .bytes) (r .written) out) out
+unfoldable pub wrote-out : Reader → List ℕ → Verdict → List ℕ
+wrote-out r out v = cond (eqb (v .refusal) 0) (put-bytes (v .bytes) (r .written) out) out
 
 -- A byte that is no line feed: 3 where it cannot continue the line.
 unfoldable pub other : Reader → ℕ → Reader
-other r byte = cond (eqb (lex (r .line) byte .spot) spot-bad) (stopped r 3) (inLine r (lex (r .line) byte))
+other r byte = cond (eqb (lex (r .line) byte .spot) spot-bad) (stopped r 3) (further-in-line r (lex (r .line) byte))
 
 -- Undecided by document 01: one more byte than a usize counts. The reader then stops.
 unfoldable pub uncounted : Reader → Bool
@@ -128,12 +128,12 @@ step r out byte =
     (cond (eqb byte 10) (wrote r out (verdict r)) (other r byte))))
     r
 
-unfoldable pub stepOut : Reader → List ℕ → ℕ → List ℕ
-stepOut r out byte =
+unfoldable pub step-out : Reader → List ℕ → ℕ → List ℕ
+step-out r out byte =
     cond (eqb (r .status) reading)
     (cond (uncounted r) out
     (cond (eqb (r .line .spot) spot-after) out
-    (cond (eqb byte 10) (wroteOut r out (verdict r)) out)))
+    (cond (eqb byte 10) (wrote-out r out (verdict r)) out)))
     out
 
 -- A call: reader and output after its bytes.
@@ -143,7 +143,7 @@ pub record Run : Type 0 where
 
 unfoldable pub run : Reader → List ℕ → List ℕ → Run
 run r out [] = record { reader = r; out = out }
-run r out (byte ∷ bytes) = run (step r out byte) (stepOut r out byte) bytes
+run r out (byte ∷ bytes) = run (step r out byte) (step-out r out byte) bytes
 
 -- The last call: accepted after block 18, else 8 with the number of bytes.
 unfoldable pub ended : Reader → Reader

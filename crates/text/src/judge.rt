@@ -1,11 +1,11 @@
 // The judgement of a line's numbers: refusals 4, 5 and 6.
 use crate::Line;
-use packed::Sums;
+use packed::Tally;
 ghost use mathlib.Core.Path.{_≡_};
 ghost use Prim.Native.Nat.{_-_, _≤_, _<_};
 ghost use lib.IntN.{pos};
 ghost use Rattle.packed.specs.Limits.{opened, added, factor, weight};
-ghost use Rattle.text.specs.Judge.{termOf, countRefusal, numbersFit, termRefusal};
+ghost use Rattle.text.specs.Judge.{term-on-line, count-refusal, numbers-fit, term-refusal};
 
 // The factor 2^i of the block whose count came last.
 pub fn factor_of(blocks: u64) -> u64
@@ -34,8 +34,8 @@ pub fn factor_of(blocks: u64) -> u64
 }
 
 // The refusal of a count n after so many others, or 0.
-pub fn count_refusal(blocks: u64, s: Sums, n: u64) -> u64
-    ensures { λ r. ⌜ r ≡ countRefusal blocks s n ⌝ }
+pub fn count_refusal(blocks: u64, s: Tally, n: u64) -> u64
+    ensures { λ r. ⌜ r ≡ count-refusal blocks s n ⌝ }
 {
     if 18 <= blocks {
         return 9;
@@ -49,19 +49,19 @@ pub fn count_refusal(blocks: u64, s: Sums, n: u64) -> u64
     0
 }
 
-// The sums with a count that is not refused.
-pub fn open_block(blocks: u64, n: u64, s: Sums) -> Sums
-    requires { ⌜ countRefusal blocks s n ≡ 0 ⌝ }
+// The tally with a count that is not refused.
+pub fn open_block(blocks: u64, n: u64, s: Tally) -> Tally
+    requires { ⌜ count-refusal blocks s n ≡ 0 ⌝ }
     ensures { λ r. ⌜ r ≡ opened blocks n s ⌝ }
 {
     if blocks % 6 == 0 {
-        return Sums {
+        return Tally {
             terms: s.terms + n,
             total: 0,
             coarse: 32000000000,
         };
     }
-    Sums {
+    Tally {
         terms: s.terms + n,
         total: 0,
         coarse: s.coarse,
@@ -70,7 +70,7 @@ pub fn open_block(blocks: u64, n: u64, s: Sums) -> Sums
 
 // The decimals of a term are within their limits.
 fn numbers_fit(l: Line) -> bool
-    ensures { λ r. ⌜ r ≡ numbersFit (l .minusb) (termOf l) ⌝ }
+    ensures { λ r. ⌜ r ≡ numbers-fit (l .minusb) (term-on-line l) ⌝ }
 {
     if l.minusb != 0 {
         return false;
@@ -98,48 +98,48 @@ fn weight_of(f: u64, a: u64, b: u64, c: u64) -> u64
     0
 }
 
-// The refusal of a term, or 0, and then the sums with it.
+// The refusal of a term, or 0, and then the tally with it.
 pub struct Judged {
     pub refusal: u64,
-    pub sums: Sums,
+    pub tally: Tally,
 }
 
-pub fn judge_term(f: u64, s: Sums, l: Line) -> Judged
+pub fn judge_term(f: u64, s: Tally, l: Line) -> Judged
     requires { ⌜ f ≤ 32 ⌝ }
-    ensures { λ j. ⌜ (j .refusal ≡ termRefusal f s (l .minusb) (termOf l)) × (j .refusal ≡ 0 → j .sums ≡ added f s (termOf l)) ⌝ }
+    ensures { λ j. ⌜ (j .refusal ≡ term-refusal f s (l .minusb) (term-on-line l)) × (j .refusal ≡ 0 → j .tally ≡ added f s (term-on-line l)) ⌝ }
 {
     if !numbers_fit(l) {
         return Judged {
             refusal: 4,
-            sums: s,
+            tally: s,
         };
     }
     if 10000000000000000 - l.a < s.total {
         return Judged {
             refusal: 5,
-            sums: s,
+            tally: s,
         };
     }
     let w = weight_of(f, l.a, l.b, l.value);
     if 200000000000000 < w {
         return Judged {
             refusal: 6,
-            sums: s,
+            tally: s,
         };
     }
     if 200000000000000 - w < s.coarse {
         return Judged {
             refusal: 6,
-            sums: s,
+            tally: s,
         };
     }
-    let with = Sums {
+    let with = Tally {
         terms: s.terms,
         total: s.total + l.a,
         coarse: s.coarse + w,
     };
     Judged {
         refusal: 0,
-        sums: with,
+        tally: with,
     }
 }

@@ -2,7 +2,7 @@
 use crate::Line;
 ghost use mathlib.Core.Path.{_≡_};
 ghost use Prim.Native.Nat.{_<_, _-_};
-ghost use Rattle.text.specs.Lexer.{fresh, takesDigit, withDigit, withPoint, withSpace, withMinus, wholeCount, wholeTerm};
+ghost use Rattle.text.specs.Lexer.{fresh, takes-digit, with-digit, with-point, with-space, with-minus, whole-count, whole-term};
 
 pub fn fresh_line(spot: u64) -> Line
     ensures { λ r. ⌜ r ≡ fresh spot ⌝ }
@@ -21,7 +21,7 @@ pub fn fresh_line(spot: u64) -> Line
 
 // A whole digit of a decimal or a digit of a count: the first one, or one after a number that is not 0.
 fn whole_digit(first: bool, value: u64) -> bool
-    ensures { λ r. ⌜ r ≡ Rattle.text.specs.Lexer.wholeDigit first value ⌝ }
+    ensures { λ r. ⌜ r ≡ Rattle.text.specs.Lexer.whole-digit first value ⌝ }
 {
     if first {
         return true;
@@ -31,7 +31,7 @@ fn whole_digit(first: bool, value: u64) -> bool
 
 fn takes_digit(spot: u64, minus: u64, value: u64, d: u64) -> bool
     requires { ⌜ d < 10 ⌝ }
-    ensures { λ r. ⌜ r ≡ takesDigit spot minus value d ⌝ }
+    ensures { λ r. ⌜ r ≡ takes-digit spot minus value d ⌝ }
 {
     if 1000000000000000000 <= value {
         return false;
@@ -59,7 +59,7 @@ fn takes_digit(spot: u64, minus: u64, value: u64, d: u64) -> bool
 
 fn with_digit(l: Line, d: u64) -> Line
     requires { ⌜ d < 10 ⌝ }
-    ensures { λ r. ⌜ r ≡ withDigit l d ⌝ }
+    ensures { λ r. ⌜ r ≡ with-digit l d ⌝ }
 {
     if takes_digit(l.spot, l.minus, l.value, d) {
         return Line {
@@ -77,7 +77,7 @@ fn with_digit(l: Line, d: u64) -> Line
 }
 
 fn with_point(l: Line) -> Line
-    ensures { λ r. ⌜ r ≡ withPoint l ⌝ }
+    ensures { λ r. ⌜ r ≡ with-point l ⌝ }
 {
     if 1 <= l.spot {
         if l.spot <= 6 {
@@ -98,7 +98,7 @@ fn with_point(l: Line) -> Line
 }
 
 fn with_space(l: Line) -> Line
-    ensures { λ r. ⌜ r ≡ withSpace l ⌝ }
+    ensures { λ r. ⌜ r ≡ with-space l ⌝ }
 {
     if l.spot == 0 {
         if l.minus == 0 {
@@ -125,7 +125,7 @@ fn with_space(l: Line) -> Line
 }
 
 fn with_minus(l: Line) -> Line
-    ensures { λ r. ⌜ r ≡ withMinus l ⌝ }
+    ensures { λ r. ⌜ r ≡ with-minus l ⌝ }
 {
     if l.spot == 0 {
         if l.minus == 0 {
@@ -169,7 +169,7 @@ pub fn lex(l: Line, byte: u8) -> Line
 
 // The line feed may come.
 pub fn whole_count(l: Line) -> bool
-    ensures { λ r. ⌜ r ≡ wholeCount l ⌝ }
+    ensures { λ r. ⌜ r ≡ whole-count l ⌝ }
 {
     if 20 < l.spot {
         return l.spot < 25;
@@ -178,7 +178,7 @@ pub fn whole_count(l: Line) -> bool
 }
 
 pub fn whole_term(l: Line) -> bool
-    ensures { λ r. ⌜ r ≡ wholeTerm l ⌝ }
+    ensures { λ r. ⌜ r ≡ whole-term l ⌝ }
 {
     if l.spot == 18 {
         return l.field == 2;

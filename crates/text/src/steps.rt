@@ -9,14 +9,14 @@ use crate::lexer::lex;
 use crate::lexer::whole_count;
 use crate::lexer::whole_term;
 use crate::writer::put_term;
-use numbers::Put;
-use numbers::put_number;
-use packed::Sums;
+use packed_numbers::Put;
+use packed_numbers::put_number;
+use packed::Tally;
 use units::Refusal;
 ghost use mathlib.Core.Path.{_≡_};
 ghost use Prim.Native.Nat.{_+_, _-_, _<_};
-ghost use Rattle.text.specs.Judge.{countEnd, termEnd, verdict};
-ghost use Rattle.text.specs.Reader.{stopped, nextSpot, advanced, wrote, wroteOut, other, step, stepOut, ended, refusal};
+ghost use Rattle.text.specs.Judge.{count-end, term-end, verdict};
+ghost use Rattle.text.specs.Reader.{stopped, next-spot, advanced, wrote, wrote-out, other, step, step-out, ended, refusal};
 
 // The reader with its answer.
 fn stop(r: Reader, status: u64) -> Reader
@@ -39,7 +39,7 @@ fn stop(r: Reader, status: u64) -> Reader
 
 // Where the next line begins.
 fn next_spot(blocks: u64, left: u64) -> u64
-    ensures { λ s. ⌜ s ≡ nextSpot blocks left ⌝ }
+    ensures { λ s. ⌜ s ≡ next-spot blocks left ⌝ }
 {
     if left == 0 {
         if blocks == 18 {
@@ -51,7 +51,7 @@ fn next_spot(blocks: u64, left: u64) -> u64
 }
 
 // The reader after a line that was written up to written.
-fn advance(r: Reader, written: usize, blocks: u64, left: u64, s: Sums) -> Reader
+fn advance(r: Reader, written: usize, blocks: u64, left: u64, s: Tally) -> Reader
     requires { ⌜ r .at < 18446744073709551615 ⌝ }
     ensures { λ n. ⌜ n ≡ advanced r written blocks left s ⌝ }
 {
@@ -73,12 +73,12 @@ fn advance(r: Reader, written: usize, blocks: u64, left: u64, s: Sums) -> Reader
 // The line feed of a count.
 fn end_count(r: Reader, out: &mut [u8]) -> Reader
     requires { ⌜ r .at < 18446744073709551615 ⌝ }
-    ensures { λ s. ⌜ (s ≡ wrote r (now (out .entry)) (countEnd r)) × (now (out .exit) ≡ wroteOut r (now (out .entry)) (countEnd r)) ⌝ }
+    ensures { λ s. ⌜ (s ≡ wrote r (now (out .entry)) (count-end r)) × (now (out .exit) ≡ wrote-out r (now (out .entry)) (count-end r)) ⌝ }
 {
     let l = r.line;
     let n = l.value;
     let blocks = r.blocks;
-    let s = Sums {
+    let s = Tally {
         terms: r.terms,
         total: r.total,
         coarse: r.coarse,
@@ -106,10 +106,10 @@ fn less_one(n: u64) -> u64
 // The line feed of a term.
 fn end_term(r: Reader, out: &mut [u8]) -> Reader
     requires { ⌜ r .at < 18446744073709551615 ⌝ }
-    ensures { λ s. ⌜ (s ≡ wrote r (now (out .entry)) (termEnd r)) × (now (out .exit) ≡ wroteOut r (now (out .entry)) (termEnd r)) ⌝ }
+    ensures { λ s. ⌜ (s ≡ wrote r (now (out .entry)) (term-end r)) × (now (out .exit) ≡ wrote-out r (now (out .entry)) (term-end r)) ⌝ }
 {
     let l = r.line;
-    let s = Sums {
+    let s = Tally {
         terms: r.terms,
         total: r.total,
         coarse: r.coarse,
@@ -118,7 +118,7 @@ fn end_term(r: Reader, out: &mut [u8]) -> Reader
     if j.refusal != 0 {
         return stop(r, j.refusal);
     }
-    let more = j.sums;
+    let more = j.tally;
     let put = put_term(l, out, r.written);
     match put {
         Put::NoRoom(_) => stop(r, 7),
@@ -129,7 +129,7 @@ fn end_term(r: Reader, out: &mut [u8]) -> Reader
 // A line feed.
 fn end_line(r: Reader, out: &mut [u8]) -> Reader
     requires { ⌜ r .at < 18446744073709551615 ⌝ }
-    ensures { λ s. ⌜ (s ≡ wrote r (now (out .entry)) (verdict r)) × (now (out .exit) ≡ wroteOut r (now (out .entry)) (verdict r)) ⌝ }
+    ensures { λ s. ⌜ (s ≡ wrote r (now (out .entry)) (verdict r)) × (now (out .exit) ≡ wrote-out r (now (out .entry)) (verdict r)) ⌝ }
 {
     let l = r.line;
     if whole_count(l) {
@@ -167,7 +167,7 @@ fn take_other(r: Reader, byte: u8) -> Reader
 
 // One byte.
 pub fn take_byte(r: Reader, byte: u8, out: &mut [u8]) -> Reader
-    ensures { λ s. ⌜ (s ≡ step r (now (out .entry)) byte) × (now (out .exit) ≡ stepOut r (now (out .entry)) byte) ⌝ }
+    ensures { λ s. ⌜ (s ≡ step r (now (out .entry)) byte) × (now (out .exit) ≡ step-out r (now (out .entry)) byte) ⌝ }
 {
     if r.status != 0 {
         return r;

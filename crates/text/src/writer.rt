@@ -1,17 +1,17 @@
 // The writer of a line's packed bytes: refusal 7.
 use crate::Line;
-use numbers::Put;
-use numbers::groups_of;
-use numbers::put_groups;
+use packed_numbers::Put;
+use packed_numbers::groups_of;
+use packed_numbers::put_groups;
 ghost use mathlib.Core.Path.{_≡_};
 ghost use mathlib.Core.Bool.{cond};
 ghost use lib.ListN.{length};
 ghost use Prim.Native.Nat.{_+_, _<_};
-ghost use Rattle.numbers.specs.declared.Put.the-variants.{Next, NoRoom};
-ghost use Rattle.numbers.specs.Numbers.{folded};
+ghost use Rattle.packed_numbers.specs.declared.Put.the-variants.{Next, NoRoom};
+ghost use Rattle.packed_numbers.specs.Numbers.{folded};
 ghost use Rattle.packed.specs.Series.{pack-term};
-ghost use Rattle.text.specs.Judge.{signed, termOf};
-ghost use Rattle.text.specs.Reader.{fits, putBytes};
+ghost use Rattle.text.specs.Judge.{signed, term-on-line};
+ghost use Rattle.text.specs.Reader.{fits, put-bytes};
 
 // A decimal folded: its parts twice, less one below zero.
 fn fold(minus: u64, value: u64) -> u64
@@ -30,7 +30,7 @@ fn fold(minus: u64, value: u64) -> u64
 // Writes a term from at, or nothing where there is no room.
 pub fn put_term(l: Line, out: &mut [u8], at: usize) -> Put
     requires { ⌜ (l .a < 100000000000000000) × (l .value < 100000000000000000) ⌝ }
-    ensures { λ r. ⌜ (r ≡ cond (fits (pack-term (termOf l)) at (now (out .entry))) (Next (at + length (pack-term (termOf l)))) (NoRoom (length (pack-term (termOf l))))) × (now (out .exit) ≡ putBytes (pack-term (termOf l)) at (now (out .entry))) ⌝ }
+    ensures { λ r. ⌜ (r ≡ cond (fits (pack-term (term-on-line l)) at (now (out .entry))) (Next (at + length (pack-term (term-on-line l)))) (NoRoom (length (pack-term (term-on-line l))))) × (now (out .exit) ≡ put-bytes (pack-term (term-on-line l)) at (now (out .entry))) ⌝ }
 {
     let a = fold(l.minusa, l.a);
     let b = l.b;

@@ -4,7 +4,7 @@ use lib.IntN.{pos}
 use mir.Syntax.{w64}
 use mir.Val.{toZ, ofZ}
 use native.Mathlib.Omega.{arith}
-use Rattle.arith.specs.Signed.{naturalOr}
+use Rattle.arith.specs.machine.Signed.{natural-or}
 use Rattle.calendar.specs.Calendar.{first-bad-of-four, noon-number}
 use Rattle.calendar.proofs.Answers.{Fields, fields, instant-refused, instant-past, instant-given}
 use Rattle.arith.proofs.Signs.{back, ok}
@@ -22,7 +22,7 @@ known c = fields _ _ _ _ (sym (bad-is (c .before)) ∙ c .if1 .left)
 noon-is : (c : tie.After-noon-of-date) → pos (c .noon-of-date .result) ≡ noon-number (c .before .before .before .args .year) (c .before .before .before .args .month) (c .before .before .before .args .day)
 noon-is c = let s = c .before .before .before in rw (back _ (s .fits .year), back _ (s .fits .month), back _ (s .fits .day)) at (c .noon-of-date .ensures .0)
 
-ms-is : (c : tie.After-natural-or) → c .natural-or .result ≡ naturalOr (c .before .before .before .before .args .ms) 0
+ms-is : (c : tie.After-natural-or) → c .natural-or .result ≡ natural-or (c .before .before .before .before .args .ms) 0
 ms-is c = rw (back _ (c .before .before .before .before .fits .ms)) at (c .natural-or .ensures)
 
 t-back : (c : tie.After-instant-at) → toZ w64 (ofZ w64 (c .instant-at .result)) ≡ c .instant-at .result

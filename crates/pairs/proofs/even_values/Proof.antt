@@ -1,7 +1,7 @@
 -- `pairs::even_values` meets its contract. Assumes nothing.
 use borrow.Author.Needs.{needs}
 use Rattle.arith.proofs.Signs.{ok}
-use Rattle.cosine.specs.Halves.{even-value}
+use Rattle.cosine.specs.machine.Parity.{even-value}
 use Rattle.pairs.proofs.Values.{two-back}
 use Rattle.pairs.proofs.even_values.Statement.{statement}
 use Rattle.pairs.proofs.even_values.Tie as tie

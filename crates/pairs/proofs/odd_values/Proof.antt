@@ -1,7 +1,7 @@
 -- `pairs::odd_values` meets its contract. Assumes nothing.
 use borrow.Author.Needs.{needs}
 use Rattle.arith.proofs.Signs.{ok}
-use Rattle.cosine.specs.Halves.{odd-value}
+use Rattle.cosine.specs.machine.Parity.{odd-value}
 use Rattle.pairs.proofs.Values.{two-back}
 use Rattle.pairs.proofs.odd_values.Statement.{statement}
 use Rattle.pairs.proofs.odd_values.Tie as tie

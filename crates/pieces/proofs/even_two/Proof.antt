@@ -1,5 +1,5 @@
 -- `pieces::even_two` meets its contract. Assumes nothing.
-use Rattle.cosine.specs.Halves.{even-value}
+use Rattle.cosine.specs.machine.Parity.{even-value}
 use Rattle.pieces.proofs.Filling.{two-asks, two-fit, two-are}
 use borrow.Author.Needs.{needs}
 use Rattle.pieces.proofs.even_two.Statement.{statement}

@@ -1,5 +1,5 @@
 -- `pieces::odd_two` meets its contract. Assumes nothing.
-use Rattle.cosine.specs.Halves.{odd-value}
+use Rattle.cosine.specs.machine.Parity.{odd-value}
 use Rattle.pieces.proofs.Filling.{two-asks, two-fit, two-are}
 use borrow.Author.Needs.{needs}
 use Rattle.pieces.proofs.odd_two.Statement.{statement}

@@ -5,8 +5,8 @@ use native.Mathlib.Omega.{arith}
 use mir.Syntax.{w64}
 use mir.Val.{toZ}
 use Rattle.arith.proofs.Signs.{back, ok}
-use Rattle.cosine.specs.Halves.{even-value}
-use Rattle.pieces.specs.Parted.{half-sum}
+use Rattle.cosine.specs.machine.Parity.{even-value}
+use Rattle.pieces.specs.machine.Parted.{half-sum}
 use Rattle.pieces.proofs.Filling.{half-less, half-all}
 use Rattle.pieces.proofs.sum_evens.Statement.{statement}
 use Rattle.pieces.proofs.sum_evens.Tie as tie

@@ -1,5 +1,5 @@
 -- `print_table` meets its contract. Assumes nothing.
-use Rattle.packed.specs.Tables.{table-blocks}
+use Rattle.packed.specs.machine.Tables.{table-blocks}
 use Rattle.printer.proofs.Answers.{table-over, table-fits}
 use borrow.Author.Needs.{needs}
 use Rattle.printer.proofs.print_table.Statement.{statement}

@@ -1,7 +1,7 @@
 -- `arith::signed::natural_or` meets its contract. Assumes nothing.
 use mathlib.Core.Path.{_∙_, sym, ap}
 use borrow.Author.Needs.{needs}
-use Rattle.arith.specs.Signed.{naturalOr}
+use Rattle.arith.specs.machine.Signed.{natural-or}
 use Rattle.arith.proofs.Signs.{back, not-negative}
 use Rattle.arith.proofs.Naturals.{natural-of-negative}
 use Rattle.arith.proofs.signed.natural_or.Statement.{statement}
@@ -21,10 +21,10 @@ low-requires c κs =
     rw (back (s .args .x) (s .fits .x)) (not-negative (s .args .x) (sym (rw (back (s .args .x) (s .fits .x)) at (c .before .is-neg .ensures)) ∙ c .if1 .left))
 
 returns-2 : tie.Need-returns-2
-unfolding naturalOr
+unfolding natural-or
 returns-2 c =
     let s = c .before .before .before in
-    ap (λ z. naturalOr z (s .args .other)) (rw (back (s .args .x) (s .fits .x)) at (c .low .ensures))
+    ap (λ z. natural-or z (s .args .other)) (rw (back (s .args .x) (s .fits .x)) at (c .low .ensures))
 
 pub natural-or-spec : {M : Type 1} → statement M
 natural-or-spec = tie.close (tie.spec is-neg-requires returns low-requires returns-2)

@@ -1,6 +1,6 @@
 -- `date_at` meets its contract. Assumes nothing.
 use native.Mathlib.Omega.{arith}
-use Rattle.calendar.specs.Shifted.{year-of}
+use Rattle.calendar.specs.machine.Shifted.{year-of}
 use Rattle.calendar.proofs.Back.{count-small, asked}
 use borrow.Author.Needs.{needs}
 use Rattle.calendar.proofs.naturals.date_at.Statement.{statement}

@@ -1,7 +1,7 @@
 -- `first_bad` meets its contract. Assumes nothing.
 use borrow.Author.Tests.{eq-eqb, ne-eqb, lt-ltb, le-ltb}
 use native.Mathlib.Omega.{arith}
-use Rattle.calendar.specs.Shifted.{bad-field}
+use Rattle.calendar.specs.machine.Shifted.{bad-field}
 use Rattle.calendar.proofs.Bounds.{month-le}
 use borrow.Author.Needs.{needs}
 use Rattle.calendar.proofs.naturals.first_bad.Statement.{statement}

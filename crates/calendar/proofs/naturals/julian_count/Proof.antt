@@ -1,6 +1,6 @@
 -- `julian_count` meets its contract. Assumes nothing.
 use borrow.Author.Tests.{lt-ltb, le-ltb}
-use Rattle.calendar.specs.Shifted.{julian-count}
+use Rattle.calendar.specs.machine.Shifted.{julian-count}
 use borrow.Author.Needs.{needs}
 use Rattle.calendar.proofs.naturals.julian_count.Statement.{statement}
 use Rattle.calendar.proofs.naturals.julian_count.Tie as tie

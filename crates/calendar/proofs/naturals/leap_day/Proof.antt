@@ -1,6 +1,6 @@
 -- `leap_day` meets its contract: each way rewrites by the tests that led there. Assumes nothing.
 use borrow.Author.Tests.{eq-eqb, ne-eqb, lt-leb, le-leb}
-use Rattle.calendar.specs.Shifted.{leap-day}
+use Rattle.calendar.specs.machine.Shifted.{leap-day}
 use borrow.Author.Needs.{needs}
 use Rattle.calendar.proofs.naturals.leap_day.Statement.{statement}
 use Rattle.calendar.proofs.naturals.leap_day.Tie as tie

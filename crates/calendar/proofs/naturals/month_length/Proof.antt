@@ -1,7 +1,7 @@
 -- `month_length` meets its contract. Assumes nothing.
 use borrow.Author.Tests.{eq-eqb, ne-eqb}
 use native.Mathlib.Omega.{arith}
-use Rattle.calendar.specs.Shifted.{month-days}
+use Rattle.calendar.specs.machine.Shifted.{month-days}
 use Rattle.calendar.proofs.Bounds.{leap-le}
 use borrow.Author.Needs.{needs}
 use Rattle.calendar.proofs.naturals.month_length.Statement.{statement}

@@ -1,7 +1,7 @@
 -- `noon_of` meets its contract. Assumes nothing.
 use native.Mathlib.Omega.{arith}
 use borrow.Author.Tests.{lt-ltb, le-ltb}
-use Rattle.calendar.specs.Shifted.{noon}
+use Rattle.calendar.specs.machine.Shifted.{noon}
 use Rattle.calendar.proofs.Round.{room}
 use borrow.Author.Needs.{needs}
 use Rattle.calendar.proofs.naturals.noon_of.Statement.{statement}

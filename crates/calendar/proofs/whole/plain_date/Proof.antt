@@ -2,7 +2,7 @@
 use mathlib.Core.Path.{ap, _∙_}
 use lib.Dec.{lit<}
 use native.Mathlib.Omega.{arith}
-use Rattle.calendar.specs.Shifted.{plain}
+use Rattle.calendar.specs.machine.Shifted.{plain}
 use Rattle.calendar.proofs.Calls.{date-small, plain-law, sub-asked}
 use borrow.Author.Needs.{needs}
 use Rattle.calendar.proofs.whole.plain_date.Statement.{statement}

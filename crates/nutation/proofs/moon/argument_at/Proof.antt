@@ -9,7 +9,7 @@ use Rattle.integers.specs.Division.{modulo}
 use Rattle.integers.proofs.Division.{modulo-lt}
 use Rattle.arith.proofs.Signs.{back, ok}
 use Rattle.nutation.specs.Nutation.{argument, argument-turn}
-use Rattle.nutation.specs.Inner.{less-turns}
+use Rattle.nutation.specs.machine.Reduced.{less-turns}
 use Rattle.nutation.proofs.Terms.{by-time, argument-is}
 use Rattle.nutation.proofs.moon.argument_at.Statement.{statement}
 use Rattle.nutation.proofs.moon.argument_at.Tie as tie

@@ -10,7 +10,7 @@ use mathlib.Core.List.{[], _∷_}
 use Rattle.integers.specs.Division.{rounded}
 use Rattle.units.specs.Units.{millennium}
 use Rattle.nutation.specs.Nutation.{polynomial, mean-elongation, sun-anomaly, moon-anomaly, latitude-argument, moon-node}
-use Rattle.nutation.specs.Inner.{reach, less-turns}
+use Rattle.nutation.specs.machine.Reduced.{reach, less-turns}
 use Rattle.nutation.proofs.Polynomials.{highest}
 use Rattle.nutation.proofs.moon.arguments_at.Statement.{statement}
 use Rattle.nutation.proofs.moon.arguments_at.Tie as tie

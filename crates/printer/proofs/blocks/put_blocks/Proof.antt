@@ -4,9 +4,9 @@ use mathlib.Core.List.{[], _∷_}
 use Prim.Native.Nat.{_-_, _<_}
 use native.Mathlib.Omega.{arith}
 use lib.ListN.{length, getD, drop}
-use Rattle.packed.specs.Tables.{blocks-at, table-blocks}
+use Rattle.packed.specs.machine.Tables.{blocks-at, table-blocks}
 use Rattle.printer.specs.Printer.{plain-text}
-use Rattle.printer.specs.Writing.{Ordered}
+use Rattle.printer.specs.machine.Writing.{Ordered}
 use Rattle.printer.proofs.Writing.{Left, left-one, left-more, left-empty, left-over, left-room}
 use Rattle.printer.proofs.Tables.{ordered-next, block-left, blocks-over}
 use Rattle.printer.proofs.blocks.put_blocks.Statement.{statement}

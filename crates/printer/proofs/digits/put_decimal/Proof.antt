@@ -3,7 +3,7 @@ use mathlib.Core.List.{[], _∷_}
 use Prim.Native.Nat.{_/_}
 use Rattle.text.specs.Grammar.{sign, digits, decimal}
 use Rattle.printer.specs.Printer.{last-digits, plain-decimal}
-use Rattle.printer.specs.Writing.{whole-text}
+use Rattle.printer.specs.machine.Writing.{whole-text}
 use Rattle.printer.proofs.Writing.{Left, left-is, left-more, left-over, left-room}
 use Rattle.printer.proofs.Figures.{digits-room}
 use Rattle.printer.proofs.Pieces.{decimal-pieces}

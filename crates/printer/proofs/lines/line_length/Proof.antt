@@ -1,7 +1,7 @@
 -- `line_length` meets its contract. Assumes nothing.
 use native.Mathlib.Omega.{arith}
 use Rattle.arith.proofs.Signs.{back}
-use Rattle.printer.specs.Writing.{term}
+use Rattle.printer.specs.machine.Writing.{term}
 use Rattle.printer.proofs.Pieces.{line-length}
 use borrow.Author.Needs.{needs}
 use Rattle.printer.proofs.lines.line_length.Statement.{statement}

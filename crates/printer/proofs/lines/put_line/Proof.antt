@@ -7,7 +7,7 @@ use borrow.Author.Needs.{needs}
 use Rattle.arith.proofs.Signs.{back}
 use Rattle.text.specs.Grammar.{decimal}
 use Rattle.printer.specs.Printer.{plain-decimal}
-use Rattle.printer.specs.Writing.{term, line-text}
+use Rattle.printer.specs.machine.Writing.{term, line-text}
 use Rattle.printer.proofs.Writing.{joined, Left, left-is, left-more, left-over, left-room}
 use Rattle.printer.proofs.Pieces.{line-pieces}
 use Rattle.printer.proofs.lines.put_line.Statement.{statement}

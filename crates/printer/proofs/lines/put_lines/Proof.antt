@@ -2,9 +2,9 @@
 use mathlib.Core.List.{[], _∷_}
 use Prim.Native.Nat.{_-_, _≤_}
 use native.Mathlib.Omega.{arith}
-use Rattle.packed.specs.Tables.{terms-at}
+use Rattle.packed.specs.machine.Tables.{terms-at}
 use Rattle.arith.proofs.Signs.{back, ok}
-use Rattle.printer.specs.Writing.{lines-text}
+use Rattle.printer.specs.machine.Writing.{lines-text}
 use Rattle.printer.proofs.Writing.{Left, left-one, left-more, left-empty, left-over, left-room}
 use Rattle.printer.proofs.Tables.{line-left, lines-over}
 use Rattle.printer.proofs.lines.put_lines.Statement.{statement}

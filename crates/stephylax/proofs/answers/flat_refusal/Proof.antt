@@ -5,7 +5,7 @@ use mir.Syntax.{w64}
 use mir.Val.{SFits}
 use Rattle.arith.proofs.Signs.{back}
 use Rattle.units.specs.Refusals.{number, figure}
-use Rattle.stephylax.specs.Answers.{flat, clip, clipZ}
+use Rattle.stephylax.specs.Answers.{flat, clip, clipped}
 use Rattle.stephylax.proofs.Flat.{clip-held}
 use borrow.Author.Needs.{needs}
 use Rattle.stephylax.proofs.answers.flat_refusal.Statement.{statement}
@@ -78,51 +78,51 @@ enum-told : tie.Need-enum-told
 enum-told c = search needs
 
 returns : tie.Need-returns
-unfolding flat number figure clipZ
+unfolding flat number figure clipped
 returns c = c .flattened .ensures ∙ ap flat (sym (c .before .before .r .given .1))
 
 returns-2 : tie.Need-returns-2
-unfolding flat number figure clipZ
+unfolding flat number figure clipped
 returns-2 c = let s = c .before .before in let z = s .r2 .given .0 .0 .ms in let h : SFits w64 z = search needs in ap (λ (x : ℤ). record { refusal = 2; figure = x }) (back z h ∙ clip-held z h) ∙ ap flat (sym (s .r2 .given .1))
 
 returns-3 : tie.Need-returns-3
-unfolding flat number figure clipZ
+unfolding flat number figure clipped
 returns-3 c = c .flattened2 .ensures ∙ ap flat (sym (c .before .before .r3 .given .1))
 
 returns-4 : tie.Need-returns-4
-unfolding flat number figure clipZ
+unfolding flat number figure clipped
 returns-4 c = c .flattened3 .ensures ∙ ap flat (sym (c .before .before .r4 .given .1))
 
 returns-5 : tie.Need-returns-5
-unfolding flat number figure clipZ
+unfolding flat number figure clipped
 returns-5 c = c .flattened4 .ensures ∙ ap flat (sym (c .before .before .r5 .given .1))
 
 returns-6 : tie.Need-returns-6
-unfolding flat number figure clipZ
+unfolding flat number figure clipped
 returns-6 c = c .flattened5 .ensures ∙ ap flat (sym (c .before .before .r6 .given .1))
 
 returns-7 : tie.Need-returns-7
-unfolding flat number figure clipZ
+unfolding flat number figure clipped
 returns-7 c = c .flattened6 .ensures ∙ ap flat (sym (c .before .before .r7 .given .1))
 
 returns-8 : tie.Need-returns-8
-unfolding flat number figure clipZ
+unfolding flat number figure clipped
 returns-8 c = c .flattened7 .ensures ∙ ap flat (sym (c .before .before .r8 .given .1))
 
 returns-9 : tie.Need-returns-9
-unfolding flat number figure clipZ
+unfolding flat number figure clipped
 returns-9 c = c .flattened8 .ensures ∙ ap flat (sym (c .before .before .r9 .given .1))
 
 returns-10 : tie.Need-returns-10
-unfolding flat number figure clipZ
+unfolding flat number figure clipped
 returns-10 c = c .flattened9 .ensures ∙ ap flat (sym (c .before .before .r10 .given .1))
 
 returns-11 : tie.Need-returns-11
-unfolding flat number figure clipZ
+unfolding flat number figure clipped
 returns-11 c = c .flattened10 .ensures ∙ ap flat (sym (c .before .before .r11 .given .1))
 
 returns-12 : tie.Need-returns-12
-unfolding flat number figure clipZ clip
+unfolding flat number figure clipped clip
 returns-12 c = ap flat (sym (c .enum-told .given .1))
 
 pub flat-refusal-spec : {M : Type 1} → statement M

@@ -4,7 +4,7 @@ use Prim.Native.Nat.{_-_, _<_}
 use native.Mathlib.Omega.{arith}
 use lib.ListN.{length, length-set}
 use borrow.Author.Needs.{needs}
-use Rattle.packed.specs.Tables.{table-blocks}
+use Rattle.packed.specs.machine.Tables.{table-blocks}
 use Rattle.sunlist.specs.SunList.{flag-of, decision-at}
 use Rattle.sunlist.proofs.Filling.{Filling, filling-none, filling-more, filling-bad, filling-all}
 use Rattle.sunlist.proofs.Listing.{window-less}

@@ -2,7 +2,7 @@
 use mathlib.Core.Path.{refl, ap, _∙_}
 use lib.ListN.{length}
 use Rattle.packed.specs.Series.{parse, accepted}
-use Rattle.packed.specs.Tables.{table-blocks}
+use Rattle.packed.specs.machine.Tables.{table-blocks}
 use Rattle.series.proofs.Answering.{Unpacked, unpacked-is, refused-of}
 use Rattle.sunlist.specs.SunList.{answered, written}
 use Rattle.sunlist.proofs.Tabled.{earth-refused, both-accepted}

@@ -5,11 +5,11 @@ use native.Mathlib.Omega.{arith}
 use borrow.Author.Needs.{needs}
 use borrow.Author.Tests.{not-true, not-false}
 use Rattle.text.proofs.Judging.{small, Small, judge-4, judge-5, judge-6, judge-0, judged-sums}
-use Rattle.text.specs.Judge.{numbersFit, termOf}
+use Rattle.text.specs.Judge.{numbers-fit, term-on-line}
 use Rattle.text.proofs.judge.judge_term.Statement.{statement}
 use Rattle.text.proofs.judge.judge_term.Tie as tie
 
-fit : (c : tie.Else1) → let l = c .before .before .args .l in numbersFit (l .minusb) (termOf l) ≡ true
+fit : (c : tie.Else1) → let l = c .before .before .args .l in numbers-fit (l .minusb) (term-on-line l) ≡ true
 fit c = sym (c .before .numbers-fit .ensures) ∙ not-false _ (c .if1 .left)
 
 few : (c : tie.Else1) → Small (c .before .before .args .l)

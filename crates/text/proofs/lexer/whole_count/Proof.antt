@@ -1,16 +1,16 @@
 -- `text::lexer::whole_count` meets its contract. Assumes nothing.
 use native.Mathlib.Omega.{arith}
 use borrow.Author.Tests.{lt-ltb, le-ltb}
-use Rattle.text.specs.Lexer.{wholeCount}
+use Rattle.text.specs.Lexer.{whole-count}
 use Rattle.text.proofs.lexer.whole_count.Statement.{statement}
 use Rattle.text.proofs.lexer.whole_count.Tie as tie
 
 returns : tie.Need-returns
-unfolding wholeCount
+unfolding whole-count
 returns c = let a = c .before .before .before .args in rw (lt-ltb 20 (a .l .spot) (omega arith))
 
 returns-2 : tie.Need-returns-2
-unfolding wholeCount
+unfolding whole-count
 returns-2 c = let a = c .before .before .args in rw (le-ltb 20 (a .l .spot) (omega arith))
 
 pub whole-count-spec : {M : Type 1} → statement M

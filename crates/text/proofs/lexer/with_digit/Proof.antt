@@ -3,7 +3,7 @@ use mathlib.Core.Path.{_≡_, sym, _∙_}
 use mathlib.Core.Bool.{true}
 use native.Mathlib.Omega.{arith}
 use borrow.Author.Needs.{needs}
-use Rattle.text.specs.Lexer.{takesDigit, withDigit}
+use Rattle.text.specs.Lexer.{takes-digit, with-digit}
 use Rattle.text.proofs.Digits.{small, early}
 use Rattle.text.proofs.lexer.with_digit.Statement.{statement}
 use Rattle.text.proofs.lexer.with_digit.Tie as tie
@@ -11,7 +11,7 @@ use Rattle.text.proofs.lexer.with_digit.Tie as tie
 takes-digit-requires : tie.Need-takes-digit-requires
 takes-digit-requires c κs = search needs
 
-took : (c : tie.Then1) → let a = c .before .before .args in takesDigit (a .l .spot) (a .l .minus) (a .l .value) (a .d) ≡ true
+took : (c : tie.Then1) → let a = c .before .before .args in takes-digit (a .l .spot) (a .l .minus) (a .l .value) (a .d) ≡ true
 took c = sym (c .before .takes-digit .ensures) ∙ c .if1 .taken
 
 add-t4 : tie.Need-add-t4
@@ -24,14 +24,14 @@ add-t6 : tie.Need-add-t6
 add-t6 c = omega (arith, small _ _ _ _ (took (c .before .before)), c .before .before .before .before .pre)
 
 returns : tie.Need-returns
-unfolding withDigit
+unfolding with-digit
 returns c = rw (took (c .before .before))
 
 fresh-line-requires : tie.Need-fresh-line-requires
 fresh-line-requires c κs = search needs
 
 returns-2 : tie.Need-returns-2
-unfolding withDigit
+unfolding with-digit
 returns-2 c =
     rw (c .fresh-line .ensures, sym (c .before .before .takes-digit .ensures) ∙ c .before .if1 .left)
 

@@ -1,20 +1,20 @@
 -- `text::lexer::with_minus` meets its contract: each answer is the definition's at the tests that led to it. Assumes nothing.
 use native.Mathlib.Omega.{arith}
 use borrow.Author.Tests.{eq-eqb, ne-eqb}
-use Rattle.text.specs.Lexer.{withMinus}
+use Rattle.text.specs.Lexer.{with-minus}
 use borrow.Author.Needs.{needs}
 use Rattle.text.proofs.lexer.with_minus.Statement.{statement}
 use Rattle.text.proofs.lexer.with_minus.Tie as tie
 
 returns : tie.Need-returns
-unfolding withMinus
+unfolding with-minus
 returns c = let a = c .before .before .before .before .args in rw (eq-eqb (a .l .spot) 0 (omega arith), eq-eqb (a .l .minus) 0 (omega arith))
 
 fresh-line-requires : tie.Need-fresh-line-requires
 fresh-line-requires c κs = search needs
 
 returns-2 : tie.Need-returns-2
-unfolding withMinus
+unfolding with-minus
 returns-2 c =
     let a = c .before .before .before .before .before .args in
     rw (c .fresh-line .ensures, eq-eqb (a .l .spot) 0 (omega arith), ne-eqb (a .l .minus) 0 (λ e. omega (arith, e)))
@@ -23,7 +23,7 @@ fresh-line-requires-2 : tie.Need-fresh-line-requires-2
 fresh-line-requires-2 c κs = search needs
 
 returns-3 : tie.Need-returns-3
-unfolding withMinus
+unfolding with-minus
 returns-3 c = let a = c .before .before .before .args in rw (c .fresh-line2 .ensures, ne-eqb (a .l .spot) 0 (λ e. omega (arith, e)))
 
 pub with-minus-spec : {M : Type 1} → statement M

@@ -1,20 +1,20 @@
 -- `text::lexer::with_point` meets its contract: each answer is the definition's at the tests that led to it. Assumes nothing.
 use native.Mathlib.Omega.{arith}
 use borrow.Author.Tests.{le-leb, lt-leb}
-use Rattle.text.specs.Lexer.{withPoint}
+use Rattle.text.specs.Lexer.{with-point}
 use borrow.Author.Needs.{needs}
 use Rattle.text.proofs.lexer.with_point.Statement.{statement}
 use Rattle.text.proofs.lexer.with_point.Tie as tie
 
 returns : tie.Need-returns
-unfolding withPoint
+unfolding with-point
 returns c = let a = c .before .before .before .before .args in rw (le-leb 1 (a .l .spot) (omega arith), le-leb (a .l .spot) 6 (omega arith))
 
 fresh-line-requires : tie.Need-fresh-line-requires
 fresh-line-requires c κs = search needs
 
 returns-2 : tie.Need-returns-2
-unfolding withPoint
+unfolding with-point
 returns-2 c =
     let a = c .before .before .before .before .before .args in
     rw (c .fresh-line .ensures, le-leb 1 (a .l .spot) (omega arith), lt-leb (a .l .spot) 6 (omega arith))
@@ -23,7 +23,7 @@ fresh-line-requires-2 : tie.Need-fresh-line-requires-2
 fresh-line-requires-2 c κs = search needs
 
 returns-3 : tie.Need-returns-3
-unfolding withPoint
+unfolding with-point
 returns-3 c = let a = c .before .before .before .args in rw (c .fresh-line2 .ensures, lt-leb 1 (a .l .spot) (omega arith))
 
 pub with-point-spec : {M : Type 1} → statement M

@@ -4,7 +4,7 @@ use native.Mathlib.Omega.{arith}
 use borrow.Author.Needs.{needs}
 use Rattle.text.proofs.Judging.{counted}
 use Rattle.text.proofs.Stepping.{wrote-refused, wrote-full, wrote-next, put-answer-is, put-out-is}
-use Rattle.text.specs.Judge.{sums, countEnd}
+use Rattle.text.specs.Judge.{tally, count-end}
 use Rattle.text.proofs.steps.end_count.Statement.{statement}
 use Rattle.text.proofs.steps.end_count.Tie as tie
 
@@ -17,7 +17,7 @@ stop-requires c κs = search needs
 returns : tie.Need-returns
 returns c =
     let a = c .before .before .before .before .before .args in
-    wrote-refused (a .r) _ _ (countEnd (a .r)) _ (c .before .before .count-refusal .ensures) (λ e. omega (arith, e)) (c .stop .ensures)
+    wrote-refused (a .r) _ _ (count-end (a .r)) _ (c .before .before .count-refusal .ensures) (λ e. omega (arith, e)) (c .stop .ensures)
 
 put-number-requires : tie.Need-put-number-requires
 put-number-requires c κs = search needs
@@ -36,7 +36,7 @@ add-advance c =
     let a = c .before .before .before .before .before .before .before .before .before .before .before .args in
     omega (
       arith,
-      counted (a .r .blocks) (sums (a .r)) (a .r .line .value)
+      counted (a .r .blocks) (tally (a .r)) (a .r .line .value)
           (sym (c .before .before .before .before .before .before .before .before .count-refusal .ensures) ∙ (omega arith)),
     )
 
@@ -52,7 +52,7 @@ same-length c = search needs
 returns-2 : tie.Need-returns-2
 returns-2 c =
     let a = c .before .before .before .before .before .before .before .before .before .before .before .args in
-    wrote-full (a .r) _ _ (countEnd (a .r))
+    wrote-full (a .r) _ _ (count-end (a .r))
     (sym (c .before .before .before .before .before .before .before .before .count-refusal .ensures) ∙ (omega arith)) _ _ _ _
     (c .before .before .before .before .before .put-number .ensures .0 ∙ put-answer-is _ _ _)
     (c .before .before .before .before .before .put-number .ensures .1 ∙ put-out-is _ _ _) (c .before .enum-told .given .1) (c .stop2 .ensures)
@@ -63,7 +63,7 @@ same-length-2 c = search needs
 returns-3 : tie.Need-returns-3
 returns-3 c =
     let a = c .before .before .before .before .before .before .before .before .before .before .before .before .before .args in
-    wrote-next (a .r) _ _ (countEnd (a .r))
+    wrote-next (a .r) _ _ (count-end (a .r))
     (sym (c .before .before .before .before .before .before .before .before .before .before .count-refusal .ensures) ∙ (omega arith)) _ _ _ _
     (c .before .before .before .before .before .before .before .put-number .ensures .0 ∙ put-answer-is _ _ _)
     (c .before .before .before .before .before .before .before .put-number .ensures .1 ∙ put-out-is _ _ _)

@@ -6,22 +6,22 @@ use borrow.Author.Needs.{needs}
 use Rattle.text.proofs.Judging.{small-of}
 use Rattle.text.proofs.Stepping.{wrote-refused, wrote-full, wrote-next}
 use Rattle.packed.specs.Limits.{factor, added}
-use Rattle.text.specs.Judge.{sums, termOf, termRefusal, termEnd}
+use Rattle.text.specs.Judge.{tally, term-on-line, term-refusal, term-end}
 use Rattle.text.proofs.steps.end_term.Statement.{statement}
 use Rattle.text.proofs.steps.end_term.Tie as tie
 
-judged : (c : tie.After-judge-term) → let r = c .before .before .before .before .args .r in c .judge-term .result .refusal ≡ termEnd r .refusal
+judged : (c : tie.After-judge-term) → let r = c .before .before .before .before .args .r in c .judge-term .result .refusal ≡ term-end r .refusal
 judged c =
     let r = c .before .before .before .before .args .r in
-    c .judge-term .ensures .0 ∙ ap (λ (f : ℕ). termRefusal f (sums r) (r .line .minusb) (termOf (r .line))) (c .before .factor-of .ensures .0)
+    c .judge-term .ensures .0 ∙ ap (λ (f : ℕ). term-refusal f (tally r) (r .line .minusb) (term-on-line (r .line))) (c .before .factor-of .ensures .0)
 
-good : (c : tie.Else1) → let r = c .before .before .before .before .before .before .args .r in termEnd r .refusal ≡ 0
+good : (c : tie.Else1) → let r = c .before .before .before .before .before .before .args .r in term-end r .refusal ≡ 0
 good c = sym (judged (c .before .before)) ∙ (omega arith)
 
-more : (c : tie.Else1) → let r = c .before .before .before .before .before .before .args .r in c .before .before .judge-term .result .sums ≡ termEnd r .sums
+more : (c : tie.Else1) → let r = c .before .before .before .before .before .before .args .r in c .before .before .judge-term .result .tally ≡ term-end r .tally
 more c =
     let r = c .before .before .before .before .before .before .args .r in
-    c .before .before .judge-term .ensures .1 (omega arith) ∙ ap (λ (f : ℕ). added f (sums r) (termOf (r .line)))
+    c .before .before .judge-term .ensures .1 (omega arith) ∙ ap (λ (f : ℕ). added f (tally r) (term-on-line (r .line)))
     (c .before .before .before .factor-of .ensures .0)
 
 factor-of-requires : tie.Need-factor-of-requires
@@ -36,12 +36,12 @@ stop-requires c κs = search needs
 returns : tie.Need-returns
 returns c =
     let a = c .before .before .before .before .before .before .before .args in
-    wrote-refused (a .r) _ _ (termEnd (a .r)) _ (judged (c .before .before .before)) (λ e. omega (arith, e)) (c .stop .ensures)
+    wrote-refused (a .r) _ _ (term-end (a .r)) _ (judged (c .before .before .before)) (λ e. omega (arith, e)) (c .stop .ensures)
 
 put-term-requires : tie.Need-put-term-requires
 put-term-requires c κs =
     let a = c .before .before .before .before .before .before .before .before .args in
-    let s = small-of (factor (a .r .blocks - 1)) (sums (a .r)) (a .r .line) (good (c .before .before)) in omega (arith, s .a, s .c)
+    let s = small-of (factor (a .r .blocks - 1)) (tally (a .r)) (a .r .line) (good (c .before .before)) in omega (arith, s .a, s .c)
 
 enum-told : tie.Need-enum-told
 enum-told c = search needs
@@ -64,7 +64,7 @@ same-length c = search needs
 returns-2 : tie.Need-returns-2
 returns-2 c =
     let a = c .before .before .before .before .before .before .before .before .before .before .before .before .before .before .args in
-    wrote-full (a .r) _ _ (termEnd (a .r)) (good (c .before .before .before .before .before .before .before .before)) _ _ _ _
+    wrote-full (a .r) _ _ (term-end (a .r)) (good (c .before .before .before .before .before .before .before .before)) _ _ _ _
     (c .before .before .before .before .before .put-term .ensures .0) (c .before .before .before .before .before .put-term .ensures .1)
     (c .before .enum-told .given .1) (c .stop2 .ensures)
 
@@ -74,7 +74,7 @@ same-length-2 c = search needs
 returns-3 : tie.Need-returns-3
 returns-3 c =
     let a = c .before .before .before .before .before .before .before .before .before .before .before .before .before .before .before .before .args in
-    wrote-next (a .r) _ _ (termEnd (a .r)) (good (c .before .before .before .before .before .before .before .before .before .before)) _ _ _ _
+    wrote-next (a .r) _ _ (term-end (a .r)) (good (c .before .before .before .before .before .before .before .before .before .before)) _ _ _ _
     (c .before .before .before .before .before .before .before .put-term .ensures .0)
     (c .before .before .before .before .before .before .before .put-term .ensures .1) (c .before .before .before .put .given .1)
     (c .advance .ensures ∙

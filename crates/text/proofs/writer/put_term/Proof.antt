@@ -5,17 +5,17 @@ use native.Mathlib.Omega.{arith}
 use borrow.Author.Needs.{needs}
 use lib.ListN.{length}
 use Rattle.text.proofs.Writing.{length-term, put-full, put-three, stored-three}
-use Rattle.numbers.specs.Numbers.{folded, encode}
+use Rattle.packed_numbers.specs.Numbers.{folded, encode}
 use Rattle.packed.specs.Series.{pack-term}
-use Rattle.text.specs.Judge.{termOf}
+use Rattle.text.specs.Judge.{term-on-line}
 use Rattle.text.proofs.writer.put_term.Statement.{statement}
 use Rattle.text.proofs.writer.put_term.Tie as tie
-use Rattle.numbers.proofs.Encode.{encode-short}
+use Rattle.packed_numbers.proofs.Encode.{encode-short}
 
-first : (c : tie.After-groups-of) → let l = c .before .before .before .before .args .l in c .groups-of .result ≡ length (encode (folded (termOf l .a)))
+first : (c : tie.After-groups-of) → let l = c .before .before .before .before .args .l in c .groups-of .result ≡ length (encode (folded (term-on-line l .a)))
 first c = c .groups-of .ensures ∙ ap (λ (v : ℕ). length (encode v)) (c .before .before .fold .ensures)
 
-last : (c : tie.After-groups-of3) → let l = c .before .before .before .before .before .before .args .l in c .groups-of3 .result ≡ length (encode (folded (termOf l .c)))
+last : (c : tie.After-groups-of3) → let l = c .before .before .before .before .before .before .args .l in c .groups-of3 .result ≡ length (encode (folded (term-on-line l .c)))
 last c = c .groups-of3 .ensures ∙ ap (λ (v : ℕ). length (encode v)) (c .before .before .before .fold2 .ensures)
 
 few : (c : tie.After-groups-of3) → (c .before .before .groups-of .result ≤ 10) × (c .before .groups-of2 .result ≤ 10) × (c .groups-of3 .result ≤ 10)
@@ -26,10 +26,10 @@ few c = (
 )
 
 total : (c : tie.After-groups-of3) → let a = c .before .before .before .before .before .before .args in
-    c .before .before .groups-of .result + c .before .groups-of2 .result + c .groups-of3 .result ≡ length (pack-term (termOf (a .l)))
+    c .before .before .groups-of .result + c .before .groups-of2 .result + c .groups-of3 .result ≡ length (pack-term (term-on-line (a .l)))
 total c =
     let a = c .before .before .before .before .before .before .args in
-    rw (first (c .before .before), c .before .groups-of2 .ensures, last c) (sym (length-term (termOf (a .l)) (a .at) (a .out .now)))
+    rw (first (c .before .before), c .before .groups-of2 .ensures, last c) (sym (length-term (term-on-line (a .l)) (a .at) (a .out .now)))
 
 fold-requires : tie.Need-fold-requires
 fold-requires c κs = search needs
@@ -57,7 +57,7 @@ add-n-2 c = omega (arith, few c)
 returns : tie.Need-returns
 returns c =
     let a = c .before .before .before .before .before .before .before .args in
-    put-full (termOf (a .l)) (a .at) (a .out .now) _ (total (c .before)) (omega arith)
+    put-full (term-on-line (a .l)) (a .at) (a .out .now) _ (total (c .before)) (omega arith)
 
 sub-if2 : tie.Need-sub-if2
 sub-if2 c = search needs
@@ -65,7 +65,7 @@ sub-if2 c = search needs
 returns-2 : tie.Need-returns-2
 returns-2 c =
     let a = c .before .before .before .before .before .before .before .before .args in
-    put-full (termOf (a .l)) (a .at) (a .out .now) _ (total (c .before .before)) (omega arith)
+    put-full (term-on-line (a .l)) (a .at) (a .out .now) _ (total (c .before .before)) (omega arith)
 
 put-groups-requires : tie.Need-put-groups-requires
 put-groups-requires c κs = search needs
@@ -83,8 +83,8 @@ returns-3 : tie.Need-returns-3
 returns-3 c =
     let a = c .before .before .before .before .before .before .before .before .before .before .before .before .before .before .before .before .before
     .before .before .before .args in
-    let t = length-term (termOf (a .l)) (a .at) (a .out .now) in
-    let h : a .at + length (pack-term (termOf (a .l))) ≤ length (a .out .now) = omega
+    let t = length-term (term-on-line (a .l)) (a .at) (a .out .now) in
+    let h : a .at + length (pack-term (term-on-line (a .l))) ≤ length (a .out .now) = omega
     (arith, total (c .before .before .before .before .before .before .before .before .before .before .before .before .before .before)) in
     let p = ap (λ (v : ℕ). encode v)
     (c .before .before .before .before .before .before .before .before .before .before .before .before .before .before .before .before .before
@@ -94,7 +94,7 @@ returns-3 c =
     (c .before .before .before .before .before .before .before .before .before .before .before .before .before .before .before .before .before
     .fold2 .ensures)
     in (
-      put-three (termOf (a .l)) (a .at) (a .out .now) _
+      put-three (term-on-line (a .l)) (a .at) (a .out .now) _
           (omega (
             arith,
             c .before .before .put-groups3 .ensures .0,
@@ -104,7 +104,7 @@ returns-3 c =
             ap length q,
           ))
           h,
-      stored-three (termOf (a .l)) (a .at) (a .out .now) _ _ _ _ _ h
+      stored-three (term-on-line (a .l)) (a .at) (a .out .now) _ _ _ _ _ h
           (rw p at (c .before .before .before .before .before .before .before .before .before .before .put-groups .ensures .1))
           (rw p at (c .before .before .before .before .before .before .before .before .before .before .put-groups .ensures .0))
           (c .before .before .before .before .before .before .put-groups2 .ensures .1)

@@ -1,0 +1,106 @@
+-- What the writers of texts leave in the lent buffer. Assumes nothing.
+use mathlib.Core.Path.{_≡_, refl, sym, _∙_}
+use mathlib.Core.List.{List, [], _∷_}
+use Prim.Native.Nat.{ℕ, zero, suc, _+_, _/_, _%_, _-_, _≤_, _<_}
+use native.Mathlib.Numerals.{add-one}
+use native.Mathlib.Decide.{decLe}
+use native.Mathlib.Omega.{arith}
+use borrow.Author.Tests.{lt-ltb, le-ltb, eq-eqb, ne-eqb}
+use lib.IntN.{ℤ}
+use lib.ListN.{length, set, getD, drop, length-append, drop-of-length-le}
+use lib.Seq.{sets, drop-cons}
+use Rattle.buffers.proofs.Sets.{sets-append}
+use Rattle.units.specs.declared.Refusal.{Refusal}
+use Rattle.arith.specs.machine.Signed.{natural-or}
+use Rattle.calendar.specs.Calendar.{day-of-date}
+use Rattle.calendar.specs.declared.DayAnswer.{DayAnswer}
+use Rattle.calendar.specs.declared.DayAnswer.the-variants.{Day, NoDay}
+use Rattle.date_lines.specs.Lines.{fresh, take, reading}
+use Rattle.date_lines.specs.Replies.{decimal, refused, day-text, fault-text, reply, after, said, last-reply}
+use Rattle.date_lines.specs.declared.reader.Line.{Line}
+use Rattle.date_lines.specs.declared.reader.Reading.{Reading}
+use Rattle.date_lines.specs.declared.reader.Reading.the-variants.{Three, Bad}
+
+-- ---- decimal digits
+pub decimal-length : (places n : ℕ) → length (decimal places n) ≤ places
+unfolding decimal
+decimal-length zero n = omega arith
+decimal-length (suc places) n = go (decLe 10 n) (decimal-length places (n / 10))
+  where
+    go : Dec (10 ≤ n) → length (decimal places (n / 10)) ≤ places → length (decimal (suc places) n) ≤ suc places
+    go (yes h) l = rw (le-ltb n 10 h) (omega (arith, length-append (decimal places (n / 10)) ((48 + n % 10) ∷ [])))
+    go (no h) l = rw (lt-ltb n 10 (omega arith)) (omega arith)
+
+pub none-put : (p n at : ℕ) (out : List ℕ) → p ≡ 0 → (at ≡ at + length (decimal p n)) × (out ≡ sets out at (decimal p n))
+unfolding decimal
+none-put p n at out e = rw e (omega arith, refl)
+
+pub one-put : (p n at d : ℕ) (out : List ℕ) → (p ≡ 0 → ⊥) → n < 10 → d ≡ 48 + n → (at + 1 ≡ at + length (decimal p n)) × (set out at d ≡ sets out at (decimal p n))
+unfolding decimal
+one-put zero n at d out h l e = absurd (h refl)
+one-put (suc p) n at d out h l e = rw (lt-ltb n 10 l, e) (refl, refl)
+
+pub more-put : (p n at d r : ℕ) (out result : List ℕ) → (p ≡ 0 → ⊥) → 10 ≤ n → (r ≡ at + length (decimal (p - 1) (n / 10))) × (result ≡ sets out at (decimal (p - 1) (n / 10))) → d ≡ 48 + n % 10
+    → (r + 1 ≡ at + length (decimal p n)) × (set result r d ≡ sets out at (decimal p n))
+unfolding decimal
+more-put zero n at d r out result h l q e = absurd (h refl)
+more-put (suc p) n at d r out result h l q e =
+    let s : suc p - 1 ≡ p = omega arith in
+    let g = rw s at q in
+    let t : List ℕ = decimal p (n / 10) in
+    rw (le-ltb n 10 l)
+    ((omega (arith, g .0, length-append t ((48 + n % 10) ∷ []))), (λ i. set (g .1 i) (g .0 i) (e i)) ∙ sym (sets-append t ((48 + n % 10) ∷ []) out at))
+
+-- ---- a text, copied: what is left to copy gives what the whole gives
+pub copied-more : (out out₀ text : List ℕ) (at i : ℕ) → i < length text → sets out (at + i) (drop i text) ≡ sets out₀ at text → sets (set out (at + i) (getD text i 0)) (at + (i + 1)) (drop (i + 1) text) ≡ sets out₀ at text
+copied-more out out₀ text at i h e =
+    let s : at + (i + 1) ≡ suc (at + i) = omega arith in
+    let d : drop i text ≡ getD text i 0 ∷ drop (i + 1) text = rw add-one (drop-cons text i 0 h) in
+    rw s (rw d at e)
+
+pub copied-end : (out out₀ text : List ℕ) (at i : ℕ) → length text ≤ i → sets out (at + i) (drop i text) ≡ sets out₀ at text → out ≡ sets out₀ at text
+copied-end out out₀ text at i h e = rw (drop-of-length-le text h) at e
+
+-- ---- replies: `result` is `out` with a text written at `at`, and `r` is the place after it
+abbrev pub Holds : List ℕ → ℕ → ℕ → List ℕ → List ℕ → Type 0
+Holds out at r result text = (r ≡ at + length text) × (result ≡ sets out at text)
+
+pub day-put : (a : DayAnswer) (z : ℤ) (k at r : ℕ) (out result : List ℕ) → a ≡ Day z → k ≡ natural-or z 0 → Holds out at r result (decimal 20 k) → Holds out at (r + 1) (set result r 10) (day-text a)
+unfolding day-text
+day-put a z k at r out result e f h =
+    let t : List ℕ = decimal 20 k in
+    rw (e, ← f) (omega (arith, h .0, length-append t (10 ∷ [])), (λ i. set (h .1 i) (h .0 i) 10) ∙ sym (sets-append t (10 ∷ []) out at))
+
+pub refused-put : (a : DayAnswer) (q : Refusal) (at r : ℕ) (out result : List ℕ) → a ≡ NoDay q → Holds out at r result refused → Holds out at r result (day-text a)
+unfolding day-text
+refused-put a q at r out result e h = rw e h
+
+pub three-put : (w : Reading) (y m d : ℤ) (a : DayAnswer) (at r : ℕ) (out result : List ℕ) → w ≡ Three y m d → a ≡ day-of-date y m d → Holds out at r result (day-text a) → Holds out at r result (reply w)
+unfolding reply
+three-put w y m d a at r out result e f h = rw (e, ← f) h
+
+pub bad-put : (w : Reading) (f at r : ℕ) (out result : List ℕ) → w ≡ Bad f → Holds out at r result (fault-text f) → Holds out at r result (reply w)
+unfolding reply
+bad-put w f at r out result e h = rw e h
+
+-- ---- one byte
+pub take-end : (s t : Line) (w : Reading) (b at r : ℕ) (out result : List ℕ) → b ≡ 10 → w ≡ reading s → Holds out at r result (reply w) → t ≡ fresh → (t ≡ after s b) × (r ≡ at + length (said s b)) × (result ≡ sets out at (said s b))
+unfolding after said
+take-end s t w b at r out result e f h g = rw (eq-eqb b 10 e, ← f) (g, h .0, h .1)
+
+pub take-more : (s t : Line) (b at : ℕ) (out : List ℕ) → (b ≡ 10 → ⊥) → t ≡ take s b → (t ≡ after s b) × (at ≡ at + length (said s b)) × (out ≡ sets out at (said s b))
+unfolding after said
+take-more s t b at out e f = rw (ne-eqb b 10 e) (f, omega arith, refl)
+
+-- ---- the last line
+pub last-none : (s : Line) (w : Reading) (f : ℕ) (out : List ℕ) → w ≡ reading s → w ≡ Bad f → f ≡ 1 → (0 ≡ length (last-reply s)) × (out ≡ sets out 0 (last-reply s))
+unfolding last-reply
+last-none s w f out e g h = rw (← e, g, eq-eqb f 1 h) (refl, refl)
+
+pub last-bad : (s : Line) (w : Reading) (f r : ℕ) (out result : List ℕ) → w ≡ reading s → w ≡ Bad f → (f ≡ 1 → ⊥) → Holds out 0 r result (fault-text f) → (r ≡ length (last-reply s)) × (result ≡ sets out 0 (last-reply s))
+unfolding last-reply reply
+last-bad s w f r out result e g h q = rw (← e, g, ne-eqb f 1 h) (omega (arith, q .0), q .1)
+
+pub last-three : (s : Line) (w : Reading) (y m d : ℤ) (a : DayAnswer) (r : ℕ) (out result : List ℕ) → w ≡ reading s → w ≡ Three y m d → a ≡ day-of-date y m d → Holds out 0 r result (day-text a) → (r ≡ length (last-reply s)) × (result ≡ sets out 0 (last-reply s))
+unfolding last-reply reply
+last-three s w y m d a r out result e g f q = rw (← e, g, ← f) (omega (arith, q .0), q .1)

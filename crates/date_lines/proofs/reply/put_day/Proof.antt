@@ -1,0 +1,66 @@
+-- `put_day` meets its contract. Assumes nothing.
+use native.Mathlib.Omega.{arith}
+use mathlib.Core.Path.{_≡_}
+use mir.Syntax.{w64}
+use mir.Val.{toZ, ofZ}
+use Rattle.date_lines.proofs.Texts.{decimal-length, day-put, refused-put}
+use Rattle.date_lines.specs.Replies.{refused}
+use borrow.Author.Needs.{needs}
+use Rattle.date_lines.proofs.reply.put_day.Statement.{statement}
+use Rattle.date_lines.proofs.reply.put_day.Tie as tie
+
+enum-known-answer : tie.Need-enum-known-answer
+enum-known-answer c = search needs
+
+natural-or-requires : tie.Need-natural-or-requires
+natural-or-requires c κs = search needs
+
+put-decimal-requires : tie.Need-put-decimal-requires
+put-decimal-requires c κs = search needs
+
+slice-write-out : tie.Need-slice-write-out
+slice-write-out c = let q = c .before .before .put-decimal in let k = c .before .before .before .before .natural-or .result in omega (arith, q .ensures .0, q .kept .1 .1 .0, decimal-length 20 k, c .before .before .before .before .before .before .before .before .before .pre, c .before .before .before .before .before .before .before .before .before .good)
+
+add-result : tie.Need-add-result
+add-result c = let q = c .before .before .put-decimal in let k = c .before .before .before .before .natural-or .result in omega (arith, q .ensures .0, q .kept .1 .1 .0, decimal-length 20 k, c .before .before .before .before .before .before .before .before .before .pre, c .before .before .before .before .before .before .before .before .before .good)
+
+enum-told : tie.Need-enum-told
+enum-told c = search needs
+
+slice-aggregate-put-bytes : tie.Need-slice-aggregate-put-bytes
+slice-aggregate-put-bytes c = search needs
+
+put-bytes-requires : tie.Need-put-bytes-requires
+put-bytes-requires c κs = search needs
+
+same-length : tie.Need-same-length
+same-length c = search needs
+
+returns : tie.Need-returns
+returns c = let n = c .before .before .before .before .before .before .answer .given .0 .0 in
+    let e : toZ w64 (ofZ w64 n) ≡ n = search needs in
+    day-put _ _ _ _ _ _ _ (c .before .before .before .before .before .before .answer .given .1) (rw e at (c .before .before .before .before .natural-or .ensures)) (c .before .before .put-decimal .ensures)
+
+same-length-2 : tie.Need-same-length-2
+same-length-2 c = search needs
+
+returns-2 : tie.Need-returns-2
+unfolding refused
+returns-2 c = refused-put _ _ _ _ _ _ (c .before .before .before .before .before .enum-told .given .1) (c .before .before .put-bytes .ensures)
+
+pub put-day-spec : {M : Type 1} → statement M
+put-day-spec =
+    tie.close
+    (tie.spec
+    enum-known-answer
+    natural-or-requires
+    put-decimal-requires
+    slice-write-out
+    add-result
+    enum-told
+    slice-aggregate-put-bytes
+    put-bytes-requires
+    same-length
+    returns
+    same-length-2
+    returns-2)

@@ -1,0 +1,97 @@
+// The text of a reply, written into a lent buffer. All of this is for lib.rt.
+ghost use mathlib.Core.Path.{_≡_};
+ghost use Prim.Native.Nat.{_+_, _≤_, _<_};
+ghost use lib.ListN.{length};
+ghost use lib.Seq.{sets};
+ghost use Rattle.date_lines.specs.Replies.{decimal, day-text, fault-text, reply};
+use crate::reader::Reading;
+use arith::signed::natural_or;
+use calendar::DayAnswer;
+use calendar::day_of_date;
+
+// Writes a text at a place, and answers the place after it.
+fn put_bytes(text: &[u8], out: &mut [u8], at: usize) -> usize
+    requires { ⌜ at + length (now text) ≤ length (now out) ⌝ }
+    ensures { λ r. ⌜ (r ≡ at + length (now (text .entry))) × (now (out .exit) ≡ sets (now (out .entry)) at (now (text .entry))) ⌝ }
+{
+    let mut i = 0;
+    while i < text.len() {
+        out[at + i] = text[i];
+        i = i + 1;
+    }
+    at + i
+}
+
+// A digit's byte.
+fn digit(d: u64) -> u8
+    requires { ⌜ d < 10 ⌝ }
+    ensures { λ r. ⌜ r ≡ 48 + d ⌝ }
+{
+    48 + d as u8
+}
+
+// Writes the decimal digits of a number that has at most so many.
+fn put_decimal(n: u64, places: usize, out: &mut [u8], at: usize) -> usize
+    requires { ⌜ at + places ≤ length (now out) ⌝ }
+    ensures { λ r. ⌜ (r ≡ at + length (decimal places n)) × (now (out .exit) ≡ sets (now (out .entry)) at (decimal places n)) ⌝ }
+{
+    if places == 0 {
+        return at;
+    }
+    if n < 10 {
+        out[at] = digit(n);
+        return at + 1;
+    }
+    let next = put_decimal(n / 10, places - 1, out, at);
+    out[next] = digit(n % 10);
+    next + 1
+}
+
+// Writes a day number, or that it is refused.
+pub fn put_day(answer: DayAnswer, out: &mut [u8], at: usize) -> usize
+    requires { ⌜ at + 40 ≤ length (now out) ⌝ }
+    ensures { λ r. ⌜ (r ≡ at + length (day-text answer)) × (now (out .exit) ≡ sets (now (out .entry)) at (day-text answer)) ⌝ }
+{
+    match answer {
+        DayAnswer::Day(n) => {
+            let next = put_decimal(natural_or(n, 0), 20, out, at);
+            out[next] = 10;
+            next + 1
+        }
+        DayAnswer::NoDay(_) => put_bytes(b"refused 1\n", out, at),
+    }
+}
+
+// Writes what is wrong with a line.
+pub fn put_fault(fault: u64, out: &mut [u8], at: usize) -> usize
+    requires { ⌜ at + 40 ≤ length (now out) ⌝ }
+    ensures { λ r. ⌜ (r ≡ at + length (fault-text fault)) × (now (out .exit) ≡ sets (now (out .entry)) at (fault-text fault)) ⌝ }
+{
+    if fault == 1 {
+        return put_bytes(b"bad line: empty\n", out, at);
+    }
+    if fault == 2 {
+        return put_bytes(b"bad line: byte\n", out, at);
+    }
+    if fault == 3 {
+        return put_bytes(b"bad line: space\n", out, at);
+    }
+    if fault == 4 {
+        return put_bytes(b"bad line: too large\n", out, at);
+    }
+    if fault == 5 {
+        return put_bytes(b"bad line: too few\n", out, at);
+    }
+    put_bytes(b"bad line: too many\n", out, at)
+}
+
+// Writes the reply to a line.
+pub fn put_reply(r: Reading, out: &mut [u8], at: usize) -> usize
+    requires { ⌜ at + 40 ≤ length (now out) ⌝ }
+    ensures { λ n. ⌜ (n ≡ at + length (reply r)) × (now (out .exit) ≡ sets (now (out .entry)) at (reply r)) ⌝ }
+{
+    match r {
+        Reading::Three(y, m, d) => put_day(day_of_date(y, m, d), out, at),
+        Reading::Bad(f) => put_fault(f, out, at),
+    }
+}

@@ -1,0 +1,73 @@
+-- `read_c` meets its contract. Assumes nothing.
+use mathlib.Core.Path.{sym, _∙_}
+use Prim.Native.Nat.{_+_}
+use native.Mathlib.Omega.{arith}
+use lib.ListN.{drop}
+use borrow.Author.Needs.{needs}
+use Rattle.packed_numbers.specs.Numbers.{number, folded, unfolded}
+use Rattle.packed_numbers.specs.machine.Answers.{plain}
+use Rattle.packed_numbers.proofs.Reading.{Got, got-plain, was-bad, number-after, show-bad, show-folded}
+use Rattle.packed.proofs.Judging.{weight-small, c-bad, c-over, c-coarse, c-got}
+use Rattle.packed.proofs.terms.read_c.Statement.{statement}
+use Rattle.packed.proofs.terms.read_c.Tie as tie
+
+number-at-requires : tie.Need-number-at-requires
+number-at-requires c κs = search needs
+
+enum-known-n : tie.Need-enum-known-n
+enum-known-n c = search needs
+
+enum-known-n-2 : tie.Need-enum-known-n-2
+enum-known-n-2 c = search needs
+
+magnitude-requires : tie.Need-magnitude-requires
+magnitude-requires c κs = search needs
+
+-- The number that was read.
+read : (c : tie.After-known-told2) → Got (c .before .before .before .before .before .args .bytes .now) (c .before .before .before .before .before .args .at + 1) (number (c .before .before .before .before .before .args .at) (drop (c .before .before .before .before .before .args .at) (c .before .before .before .before .before .args .bytes .now))) (c .before .n2 .given .0 .0) (c .before .n2 .given .0 .1 .0)
+read c = let a = c .before .before .before .before .before .args in got-plain _ _ (number-after (a .bytes .now) (a .at)) (sym (c .before .before .before .number-at .ensures) ∙ c .before .n2 .given .1)
+
+sub-t15 : tie.Need-sub-t15
+sub-t15 c = omega (arith, read (c .before .before) .forward)
+
+returns : tie.Need-returns
+returns c = show-bad folded (c-over _ _ _ _ _ _ _ _ _ (read (c .before .before) .is) (omega (arith, c .before .magnitude .ensures)))
+
+term-weight-requires : tie.Need-term-weight-requires
+term-weight-requires c κs = search needs
+
+add-if2 : tie.Need-add-if2
+add-if2 c =
+    let w = c .term-weight .ensures in
+    let a = c .before .before .before .before .before .before .before .before .args in
+    let p = c .before .before .before .before .before .before .before .before .pre in
+    omega (arith, w, weight-small (a .f) (unfolded (a .a)) (a .b) (unfolded (c .before .before .before .before .n2 .given .0 .0)) (p .0) (p .1))
+
+sub-t18 : tie.Need-sub-t18
+sub-t18 c = omega (arith, read (c .before .before .before .before) .forward)
+
+returns-2 : tie.Need-returns-2
+returns-2 c = show-bad folded (c-coarse _ _ _ _ _ _ _ _ _ (read (c .before .before .before .before) .is) (omega (arith, c .before .before .before .magnitude .ensures)) (omega (arith, c .before .term-weight .ensures)))
+
+returns-3 : tie.Need-returns-3
+returns-3 c = show-bad folded (c-bad _ _ _ _ _ _ _ (was-bad plain _ _ (sym (c .before .before .before .number-at .ensures) ∙ c .before .n .given .1)))
+
+returns-4 : tie.Need-returns-4
+returns-4 c = show-folded (c-got _ _ _ _ _ _ _ _ _ (read (c .before .before .before .before) .is) (omega (arith, c .before .before .before .magnitude .ensures)) (omega (arith, c .before .term-weight .ensures)))
+
+pub read-c-spec : {M : Type 1} → statement M
+read-c-spec =
+    tie.close
+    (tie.spec
+    number-at-requires
+    enum-known-n
+    enum-known-n-2
+    magnitude-requires
+    sub-t15
+    returns
+    term-weight-requires
+    add-if2
+    sub-t18
+    returns-2
+    returns-3
+    returns-4)

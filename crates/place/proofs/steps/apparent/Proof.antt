@@ -1,0 +1,17 @@
+-- `place::steps::apparent` meets its contract. Assumes nothing.
+use Rattle.place.proofs.Rebuilt.{apparent-is}
+use borrow.Author.Needs.{needs}
+use Rattle.place.proofs.steps.apparent.Statement.{statement}
+use Rattle.place.proofs.steps.apparent.Tie as tie
+
+angles-at-requires : tie.Need-angles-at-requires
+angles-at-requires c κs = search needs
+
+to-equator-requires : tie.Need-to-equator-requires
+to-equator-requires c κs = search needs
+
+returns : tie.Need-returns
+returns c = let e = c .before in let a = e .before .before .before in let s = a .before .before in apparent-is (s .args .t) (s .args .v) (e .to-equator .result) (a .angles-at .result .nutation) (a .angles-at .result .obliquity) (search needs) (search needs) (a .angles-at .ensures .0) (a .angles-at .ensures .1) (s .pre .0) (e .to-equator .ensures)
+
+pub apparent-spec : {M : Type 1} → statement M
+apparent-spec = tie.close (tie.spec angles-at-requires to-equator-requires returns)

@@ -1,0 +1,136 @@
+// The steps to an apparent place. For this crate alone.
+ghost use mathlib.Core.Path.{_≡_};
+ghost use Prim.Native.Nat.{_<_, _≤_, _^_};
+ghost use lib.IntN.{pos, natAbs};
+ghost use Rattle.rectangular.specs.machine.Components.{Components};
+ghost use Rattle.units.specs.Units.{t-limit};
+ghost use Rattle.place.specs.Apparent.{sight as sight-of, light-time, earlier as earlier-of, rebuilt, turned, apparent as apparent-of, equatorial as equatorial-of};
+ghost use Rattle.place.specs.machine.Sizes.{reach, equator-reach};
+use crate::Apparent;
+use crate::Equatorial;
+use crate::Geocentric;
+use crate::Sight;
+use arith::muldiv::mul_div_round_wide;
+use arith::muldiv::scale;
+use arith::residue::residue;
+use arith::signed::add;
+use arith::signed::sub;
+use arith::signed::wide;
+use cosine::working::cosine_sine;
+use direction::direction_of;
+use direction::latitude_of;
+use direction::units_angle;
+use nutation::angles_at;
+use units::Coordinates;
+use units::Instant;
+use rectangular::Vector;
+use rectangular::from_angles;
+use rectangular::geocentric;
+use rectangular::length;
+use rectangular::place;
+use rectangular::usable_distance;
+use rectangular::usable_radius;
+
+// Both R are tested before the vectors are worked.
+pub fn sight(planet: Coordinates, earth: Coordinates) -> Sight
+    ensures { λ r. ⌜ r ≡ sight-of planet earth ⌝ }
+{
+    if !usable_radius(planet.radius) {
+        return Sight::Unusable;
+    }
+    if !usable_radius(earth.radius) {
+        return Sight::Unusable;
+    }
+    let e = place(earth);
+    let p = place(planet);
+    let vector = geocentric(p, e);
+    let distance = length(vector);
+    if !usable_distance(planet.radius, earth.radius, distance) {
+        return Sight::Unusable;
+    }
+    Sight::Usable(Geocentric { vector, distance })
+}
+
+// The light time of a distance, in ms.
+fn light(distance: u64) -> i64
+    requires { ⌜ distance < 2 ^ 46 ⌝ }
+    ensures { λ r. ⌜ r ≡ light-time distance ⌝ }
+{
+    mul_div_round_wide(499004781984, distance, 10000000, 10000000000)
+}
+
+// The instant at which light left that is seen at t from a distance.
+pub fn earlier(t: Instant, distance: u64) -> Instant
+    requires { ⌜ (natAbs (t .ms) ≤ t-limit) × (distance < 2 ^ 46) ⌝ }
+    ensures { λ r. ⌜ r ≡ earlier-of t distance ⌝ }
+{
+    let ms = sub(t.ms, light(distance));
+    Instant { ms }
+}
+
+// A vector turned to the true equator, by the cosine and the sine of the obliquity.
+fn turn(v: Vector, obliquity: u64) -> Vector
+    requires { ⌜ Components (2 ^ 61) v × (obliquity < 2 ^ 63) ⌝ }
+    ensures { λ r. ⌜ r ≡ turned (pos obliquity) v ⌝ }
+{
+    let e = cosine_sine(obliquity);
+    let yc = scale(v.y, e.cos);
+    let ys = scale(v.y, e.sin);
+    let zc = scale(v.z, e.cos);
+    let zs = scale(v.z, e.sin);
+    let y = sub(yc, zs);
+    let z = add(ys, zc);
+    Vector { x: v.x, y, z }
+}
+
+// A vector rebuilt from its direction and latitude, the nutation's angle added to the longitude.
+fn rebuild(v: Vector, nutation: i64) -> Vector
+    requires { ⌜ Components reach v ⌝ }
+    ensures { λ r. ⌜ r ≡ rebuilt nutation v ⌝ }
+{
+    let k = direction_of(v.x, v.y);
+    let h = latitude_of(v.x, v.y, v.z);
+    let b = residue(units_angle(h, 129600000), 62831853071796);
+    let a = residue(units_angle(k, 129600000), 62831853071796);
+    let n = residue(nutation, 62831853071796);
+    let r = wide(length(v));
+    from_angles(r, b, (a + n) % 62831853071796)
+}
+
+// Rebuilt and turned, by the angles of the nutation in longitude and of the true obliquity.
+fn to_equator(v: Vector, nutation: i64, obliquity: i64) -> Vector
+    requires { ⌜ Components reach v ⌝ }
+    ensures { λ r. ⌜ r ≡ turned obliquity (rebuilt nutation v) ⌝ }
+{
+    let w = rebuild(v, nutation);
+    turn(w, residue(obliquity, 62831853071796))
+}
+
+// The apparent equatorial vector of a geocentric one, with the nutation and the obliquity that it was turned by.
+pub fn apparent(t: Instant, v: Vector) -> Apparent
+    requires { ⌜ (natAbs (t .ms) ≤ t-limit) × Components reach v ⌝ }
+    ensures { λ r. ⌜ r ≡ apparent-of t v ⌝ }
+{
+    let a = angles_at(t.ms);
+    let vector = to_equator(v, a.nutation, a.obliquity);
+    Apparent {
+        vector,
+        nutation: a.nutation,
+        obliquity: a.obliquity,
+    }
+}
+
+// The two directions of an equatorial vector, with a distance.
+pub fn equatorial(v: Vector, distance: u64) -> Equatorial
+    requires { ⌜ Components equator-reach v × (distance < 2 ^ 46) ⌝ }
+    ensures { λ r. ⌜ r ≡ equatorial-of v distance ⌝ }
+{
+    let a = direction_of(v.x, v.y);
+    let d = latitude_of(v.x, v.y, v.z);
+    let u = wide(distance);
+    Equatorial {
+        right_ascension: a,
+        declination: d,
+        distance: u,
+    }
+}

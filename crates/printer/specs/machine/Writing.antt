@@ -1,0 +1,43 @@
+-- What the printer's own functions promise: where a text was written, and the texts of a line, of lines and of a block.
+use mathlib.Core.Path.{_≡_}
+use mathlib.Core.List.{List, [], _∷_, _++_, map}
+use Prim.Native.Nat.{ℕ, _+_, _≤_}
+use lib.IntN.{ℤ}
+use lib.ListN.{length}
+use lib.Seq.{sets}
+use Rattle.packed.specs.declared.Term.{Term}
+use Rattle.packed.specs.Limits.{series-limit}
+use Rattle.text.specs.Grammar.{feed, digits, count-bytes, term-bytes, lines-bytes}
+use Rattle.printer.specs.Printer.{first-digit, rest-digits, plain-count, plain-term}
+
+-- There is room for a text from at.
+abbrev pub Room : List ℕ → ℕ → List ℕ → Type 0
+Room text at out = at + length text ≤ length out
+
+-- A text was written from at: the place past it, and the buffer after it.
+pub record Wrote (text : List ℕ) (at : ℕ) (out : List ℕ) (to : ℕ) (after : List ℕ) : Type 0 where
+  pub end : to ≡ at + length text
+  pub holds : after ≡ sets out at text
+
+-- A whole number.
+unfoldable pub whole-text : ℕ → List ℕ
+whole-text v = digits (first-digit v ∷ rest-digits v)
+
+-- A term of these numbers.
+abbrev pub term : ℤ → ℕ → ℤ → Term
+term a b c = record { a = a; b = b; c = c }
+
+-- A term's line and a block's lines, with their line feeds.
+unfoldable pub line-text : Term → List ℕ
+line-text t = term-bytes (plain-term t) ++ feed ∷ []
+
+unfoldable pub lines-text : List Term → List ℕ
+lines-text ts = lines-bytes (map plain-term ts)
+
+unfoldable pub block-text : List Term → List ℕ
+block-text ts = count-bytes (plain-count (length ts)) ++ feed ∷ lines-text ts
+
+-- The places where blocks end, the first of which starts at p: in order, and within the table.
+unfoldable pub Ordered : ℕ → List ℕ → Type 0
+Ordered p [] = p ≤ series-limit
+Ordered p (e ∷ ends) = (p ≤ e) × Ordered e ends

@@ -1,0 +1,9 @@
+-- The size of a vector's components.
+use Prim.Native.Nat.{ℕ, _≤_}
+use lib.IntN.{natAbs}
+use Rattle.rectangular.specs.declared.Vector.{Vector}
+
+pub record Components (k : ℕ) (v : Vector) : Type 0 where
+  pub x-in : natAbs (v .x) ≤ k
+  pub y-in : natAbs (v .y) ≤ k
+  pub z-in : natAbs (v .z) ≤ k
