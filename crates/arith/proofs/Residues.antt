@@ -16,7 +16,7 @@ modulo-times k n d h = sym (ap (λ (z : ℤ). modulo z d) split ∙ modulo-shift
     split : pos k *ℤ n ≡ pos d *ℤ (pos k *ℤ floor n d) +ℤ pos (k * modulo n d)
     split =
         ap (λ (z : ℤ). pos k *ℤ z) (sym (floor-modulo n d h))
-        ∙ ring! (pos k ∷ pos d ∷ floor n d ∷ pos (modulo n d) ∷ []) (search polys depth 40) (search polys depth 40) tt
+        ∙ ring! (pos k ∷ pos d ∷ floor n d ∷ pos (modulo n d) ∷ []) (search polys depth 40) tt
 
 -- the product fits where k·d does
 pub times-fits : (k r d w : ℕ) → r < d → k * d < w → k * r < w

@@ -32,7 +32,7 @@ unfolding q-of
 q-shift Q h k m = rounded-add k m Q h
 
 r-law : (Q k m q : ℤ) → Q *ℤ k +ℤ m -ℤ (k +ℤ q) *ℤ Q ≡ m -ℤ q *ℤ Q
-r-law Q k m q = ring! (Q ∷ k ∷ m ∷ q ∷ []) (search polys depth 60 fits 100000) (search polys depth 60 fits 100000) tt
+r-law Q k m q = ring! (Q ∷ k ∷ m ∷ q ∷ []) (search polys depth 60 fits 100000) tt
 
 pub r-shift : (Q : ℕ) → 0 < Q → (k m : ℤ) → r-of Q (pos Q *ℤ k +ℤ m) ≡ r-of Q m
 unfolding r-of
@@ -41,19 +41,19 @@ r-shift Q h k m = ap (λ t. pos Q *ℤ k +ℤ m -ℤ t *ℤ pos Q) (q-shift Q h 
 -- ---- the remainder
 r-most : (Q : ℕ) → 0 < Q → (x : ℤ) → pos 2 *ℤ r-of Q x ≼ pos Q
 unfolding r-of q-of
-r-most Q h x = cert! (pos Q ∷ x ∷ rounded x Q ∷ []) 0 (gap< (rounded-high x Q h) ⊞ nonneg 1) (search polys depth 60 fits 100000) (search polys depth 60 fits 100000) (search polys depth 60 fits 100000) tt
+r-most Q h x = cert! (pos Q ∷ x ∷ rounded x Q ∷ []) 0 (gap< (rounded-high x Q h) ⊞ nonneg 1) (search polys depth 60 fits 100000) tt
 
 r-least : (Q : ℕ) → 0 < Q → (x : ℤ) → negℤ (pos Q) ≼ pos 2 *ℤ r-of Q x
 unfolding r-of q-of
-r-least Q h x = cert! (pos Q ∷ x ∷ rounded x Q ∷ []) 0 (gap (rounded-low x Q h)) (search polys depth 60 fits 100000) (search polys depth 60 fits 100000) (search polys depth 60 fits 100000) tt
+r-least Q h x = cert! (pos Q ∷ x ∷ rounded x Q ∷ []) 0 (gap (rounded-low x Q h)) (search polys depth 60 fits 100000) tt
 
 pub ref-most : (n : ℤ) (N : ℕ) → 0 < N → pos 2 *ℤ ref-r n N ≼ pos A *ℤ pos N
 unfolding ref-r ref-q
-ref-most n N h = cert! (n ∷ pos N ∷ rounded (n *ℤ pos F) (A * N) ∷ []) 0 (gap< (rounded-high (n *ℤ pos F) (A * N) (omega arith)) ⊞ nonneg 1) (search polys depth 60 fits 100000) (search polys depth 60 fits 100000) (search polys depth 60 fits 100000) tt
+ref-most n N h = cert! (n ∷ pos N ∷ rounded (n *ℤ pos F) (A * N) ∷ []) 0 (gap< (rounded-high (n *ℤ pos F) (A * N) (omega arith)) ⊞ nonneg 1) (search polys depth 60 fits 100000) tt
 
 pub ref-least : (n : ℤ) (N : ℕ) → 0 < N → negℤ (pos A *ℤ pos N) ≼ pos 2 *ℤ ref-r n N
 unfolding ref-r ref-q
-ref-least n N h = cert! (n ∷ pos N ∷ rounded (n *ℤ pos F) (A * N) ∷ []) 0 (gap (rounded-low (n *ℤ pos F) (A * N) (omega arith))) (search polys depth 60 fits 100000) (search polys depth 60 fits 100000) (search polys depth 60 fits 100000) tt
+ref-least n N h = cert! (n ∷ pos N ∷ rounded (n *ℤ pos F) (A * N) ∷ []) 0 (gap (rounded-low (n *ℤ pos F) (A * N) (omega arith))) (search polys depth 60 fits 100000) tt
 
 -- ---- the angles r/s and w/U
 r-angle : {Q step G : ℕ} → Turn Q step G → (x : ℤ) → Angle (r-of Q x) (pos step *ℤ pos U)
@@ -61,28 +61,28 @@ r-angle {Q} {step} {G} t x =
     let ρ = pos Q ∷ pos step ∷ r-of Q x ∷ [] in
     record {
       positive = product-pos (pos step) (pos U) (≺-nat step (t .step-pos)) (record { lt = tt });
-      most = cert! ρ 0 (2500 · gap (r-most Q (t .Q-pos) x) ⊞ 2500 · gap (t .eighth)) (search polys depth 60 fits 100000) (search polys depth 60 fits 100000) (search polys depth 60 fits 100000) tt;
-      least = cert! ρ 0 (2500 · gap (r-least Q (t .Q-pos) x) ⊞ 2500 · gap (t .eighth)) (search polys depth 60 fits 100000) (search polys depth 60 fits 100000) (search polys depth 60 fits 100000) tt;
+      most = cert! ρ 0 (2500 · gap (r-most Q (t .Q-pos) x) ⊞ 2500 · gap (t .eighth)) (search polys depth 60 fits 100000) tt;
+      least = cert! ρ 0 (2500 · gap (r-least Q (t .Q-pos) x) ⊞ 2500 · gap (t .eighth)) (search polys depth 60 fits 100000) tt;
     }
 
 pub w-angle : {Q step G : ℕ} → Turn Q step G → (x : ℤ) → Angle (w-of Q step x) (pos U)
 unfolding w-of
 w-angle {Q} {step} {G} t x =
     let ρ = pos Q ∷ pos step ∷ r-of Q x ∷ [] in
-    let hi : rounded (r-of Q x) step ≼ pos 785400000 = rounded-most (r-of Q x) (pos 785400000) step (t .step-pos) (cert! ρ 1 (gap (r-most Q (t .Q-pos) x) ⊞ gap (t .eighth)) (search polys depth 60 fits 100000) (search polys depth 60 fits 100000) (search polys depth 60 fits 100000) tt) in
-    let lo : negℤ (pos 785400000) ≼ rounded (r-of Q x) step = rounded-least (r-of Q x) (negℤ (pos 785400000)) step (t .step-pos) (cert! ρ 1 (gap (r-least Q (t .Q-pos) x) ⊞ gap (t .eighth)) (search polys depth 60 fits 100000) (search polys depth 60 fits 100000) (search polys depth 60 fits 100000) tt) in
+    let hi : rounded (r-of Q x) step ≼ pos 785400000 = rounded-most (r-of Q x) (pos 785400000) step (t .step-pos) (cert! ρ 1 (gap (r-most Q (t .Q-pos) x) ⊞ gap (t .eighth)) (search polys depth 60 fits 100000) tt) in
+    let lo : negℤ (pos 785400000) ≼ rounded (r-of Q x) step = rounded-least (r-of Q x) (negℤ (pos 785400000)) step (t .step-pos) (cert! ρ 1 (gap (r-least Q (t .Q-pos) x) ⊞ gap (t .eighth)) (search polys depth 60 fits 100000) tt) in
     record {
       positive = record { lt = tt };
-      most = cert! (rounded (r-of Q x) step ∷ []) 0 (5000 · gap hi) (search polys depth 60 fits 100000) (search polys depth 60 fits 100000) (search polys depth 60 fits 100000) tt;
-      least = cert! (rounded (r-of Q x) step ∷ []) 0 (5000 · gap lo) (search polys depth 60 fits 100000) (search polys depth 60 fits 100000) (search polys depth 60 fits 100000) tt;
+      most = cert! (rounded (r-of Q x) step ∷ []) 0 (5000 · gap hi) (search polys depth 60 fits 100000) tt;
+      least = cert! (rounded (r-of Q x) step ∷ []) 0 (5000 · gap lo) (search polys depth 60 fits 100000) tt;
     }
 
 w-near : (R : ℤ) (step : ℕ) → 0 < step → Near (pos 2 *ℤ pos U) (pos 1) (rounded R step) (pos U) R (pos step *ℤ pos U)
 w-near R step h =
     let ρ = R ∷ pos step ∷ rounded R step ∷ [] in
     record {
-      hi = cert! ρ 0 (1000000000000000000 · gap (rounded-low R step h)) (search polys depth 60 fits 100000) (search polys depth 60 fits 100000) (search polys depth 60 fits 100000) tt;
-      lo = cert! ρ 0 (1000000000000000000 · (gap< (rounded-high R step h) ⊞ nonneg 1)) (search polys depth 60 fits 100000) (search polys depth 60 fits 100000) (search polys depth 60 fits 100000) tt;
+      hi = cert! ρ 0 (1000000000000000000 · gap (rounded-low R step h)) (search polys depth 60 fits 100000) tt;
+      lo = cert! ρ 0 (1000000000000000000 · (gap< (rounded-high R step h) ⊞ nonneg 1)) (search polys depth 60 fits 100000) tt;
     }
 
 -- ---- the errors of all steps together
@@ -103,26 +103,26 @@ three-steps k k′ w R R′ s N G f hs hN a b h c =
     let p₂ = f-low-pos k s hs in
     let p₃ = f-low-pos k′ (pos F *ℤ N) (product-pos (pos F) N (record { lt = tt }) hN) in
     let one : Near (whole s N) (pos 1003 *ℤ g *ℤ pos B) (working k w) (pos U) (f-up k w (pos U)) (f-low k (pos U)) =
-    near-as (whole s N) (pos 1003 *ℤ g *ℤ pos B) hU p₁ (ring! (s ∷ N ∷ []) (search polys depth 60 fits 100000) (search polys depth 60 fits 100000) tt) (cert! (s ∷ N ∷ []) 0 (nonneg 0) (search polys depth 60 fits 100000) (search polys depth 60 fits 100000) (search polys depth 60 fits 100000) tt)
+    near-as (whole s N) (pos 1003 *ℤ g *ℤ pos B) hU p₁ (ring! (s ∷ N ∷ []) (search polys depth 60 fits 100000) tt) (cert! (s ∷ N ∷ []) 0 (nonneg 0) (search polys depth 60 fits 100000) tt)
     (near-times (g *ℤ pos B) (hg ⊛ nonneg B) (near-working k w a)) in
     let two : Near (whole s N) (pos 610 *ℤ g *ℤ pos B) (f-up k w (pos U)) (f-low k (pos U)) (f-up k R s) (f-low k s) =
-    near-as (whole s N) (pos 610 *ℤ g *ℤ pos B) p₁ p₂ (ring! (s ∷ N ∷ []) (search polys depth 60 fits 100000) (search polys depth 60 fits 100000) tt) (cert! (s ∷ N ∷ []) 0 (nonneg 0) (search polys depth 60 fits 100000) (search polys depth 60 fits 100000) (search polys depth 60 fits 100000) tt)
+    near-as (whole s N) (pos 610 *ℤ g *ℤ pos B) p₁ p₂ (ring! (s ∷ N ∷ []) (search polys depth 60 fits 100000) tt) (cert! (s ∷ N ∷ []) 0 (nonneg 0) (search polys depth 60 fits 100000) tt)
     (near-times (pos 10 *ℤ g *ℤ pos B) (nonneg 10 ⊛ hg ⊛ nonneg B) (near-f k w (pos U) R s (pos 1) (pos 2 *ℤ pos U) a b (nonneg 1) h)) in
     let three : Near (whole s N) (pos 20 *ℤ pos U *ℤ bound s N G f) (f-up k R s) (f-low k s) (f-up k′ R′ (pos F *ℤ N)) (f-low k′ (pos F *ℤ N)) =
-    near-as (whole s N) (pos 20 *ℤ pos U *ℤ bound s N G f) p₂ p₃ (ring! (s ∷ N ∷ []) (search polys depth 60 fits 100000) (search polys depth 60 fits 100000) tt) (cert! (s ∷ N ∷ G ∷ f ∷ []) 0 (nonneg 0) (search polys depth 60 fits 100000) (search polys depth 60 fits 100000) (search polys depth 60 fits 100000) tt)
+    near-as (whole s N) (pos 20 *ℤ pos U *ℤ bound s N G f) p₂ p₃ (ring! (s ∷ N ∷ []) (search polys depth 60 fits 100000) tt) (cert! (s ∷ N ∷ G ∷ f ∷ []) 0 (nonneg 0) (search polys depth 60 fits 100000) tt)
     (near-times (pos 20 *ℤ pos U) (nonneg 20000000000) c) in
-    near-weaken (all-errors s N G f) hU p₃ (cert! (s ∷ N ∷ G ∷ f ∷ []) 0 (nonneg 0) (search polys depth 60 fits 100000) (search polys depth 60 fits 100000) (search polys depth 60 fits 100000) tt) (near-trans hU p₂ p₃ (near-trans hU p₁ p₂ one two) three)
+    near-weaken (all-errors s N G f) hU p₃ (cert! (s ∷ N ∷ G ∷ f ∷ []) 0 (nonneg 0) (search polys depth 60 fits 100000) tt) (near-trans hU p₂ p₃ (near-trans hU p₁ p₂ one two) three)
 
 -- the difference of the angles, with that of the turns
 spread : (Q s N G X n q q′ m e : ℤ) → pos 0 ≼ N → pos Y *ℤ (X *ℤ N -ℤ s *ℤ n) ≼ e → q ≼ m → negℤ m ≼ q → Q *ℤ pos Y ≼ pos 2 *ℤ pos A *ℤ s +ℤ G → pos 2 *ℤ pos A *ℤ s ≼ Q *ℤ pos Y +ℤ G
     → (X -ℤ q *ℤ Q) *ℤ (pos Y *ℤ N) -ℤ pos 2 *ℤ s *ℤ (n *ℤ pos F -ℤ q′ *ℤ (pos A *ℤ N) +ℤ (q′ -ℤ q) *ℤ (pos A *ℤ N)) ≼ e +ℤ m *ℤ G *ℤ N
 spread Q s N G X n q q′ m e hN h a b c d =
-    cert! (Q ∷ s ∷ N ∷ G ∷ X ∷ n ∷ q ∷ q′ ∷ m ∷ e ∷ []) 1 (2 · gap h ⊞ hN ⊛ (gap b ⊛ gap d ⊞ gap a ⊛ gap c)) (search polys depth 60 fits 100000) (search polys depth 60 fits 100000) (search polys depth 60 fits 100000) tt
+    cert! (Q ∷ s ∷ N ∷ G ∷ X ∷ n ∷ q ∷ q′ ∷ m ∷ e ∷ []) 1 (2 · gap h ⊞ hN ⊛ (gap b ⊛ gap d ⊞ gap a ⊛ gap c)) (search polys depth 60 fits 100000) tt
 
 spread⁻ : (Q s N G X n q q′ m e : ℤ) → pos 0 ≼ N → negℤ e ≼ pos Y *ℤ (X *ℤ N -ℤ s *ℤ n) → q ≼ m → negℤ m ≼ q → Q *ℤ pos Y ≼ pos 2 *ℤ pos A *ℤ s +ℤ G → pos 2 *ℤ pos A *ℤ s ≼ Q *ℤ pos Y +ℤ G
     → pos 2 *ℤ s *ℤ (n *ℤ pos F -ℤ q′ *ℤ (pos A *ℤ N) +ℤ (q′ -ℤ q) *ℤ (pos A *ℤ N)) -ℤ (X -ℤ q *ℤ Q) *ℤ (pos Y *ℤ N) ≼ e +ℤ m *ℤ G *ℤ N
 spread⁻ Q s N G X n q q′ m e hN h a b c d =
-    cert! (Q ∷ s ∷ N ∷ G ∷ X ∷ n ∷ q ∷ q′ ∷ m ∷ e ∷ []) 1 (2 · gap h ⊞ hN ⊛ (gap a ⊛ gap d ⊞ gap b ⊛ gap c)) (search polys depth 60 fits 100000) (search polys depth 60 fits 100000) (search polys depth 60 fits 100000) tt
+    cert! (Q ∷ s ∷ N ∷ G ∷ X ∷ n ∷ q ∷ q′ ∷ m ∷ e ∷ []) 1 (2 · gap h ⊞ hN ⊛ (gap a ⊛ gap d ⊞ gap b ⊛ gap c)) (search polys depth 60 fits 100000) tt
 
 -- X/s and n/N differ by at most e/(Y·s·N), and the quarter of X is at most m
 pub record Close-angles (Q step G : ℕ) (X n : ℤ) (N : ℕ) (m e : ℤ) : Type 0 where

@@ -33,12 +33,12 @@ turned-value (suc (suc zero)) a s v h f g =
     ap (λ z. rounded (z *ℤ even-part (pos v -ℤ pos U)) U) (g (omega arith)) ∙ ap (λ z. rounded z U) (over a (even-part (pos v -ℤ pos U)))
   where
     over : (a e : ℤ) → negℤ a *ℤ e ≡ a *ℤ negℤ e
-    over a e = ring! (a ∷ e ∷ []) (search polys depth 60 fits 100000) (search polys depth 60 fits 100000) tt
+    over a e = ring! (a ∷ e ∷ []) (search polys depth 60 fits 100000) tt
 turned-value (suc (suc (suc zero))) a s v h f g =
     ap (λ z. rounded (z *ℤ negℤ (odd-part (pos v -ℤ pos U))) U) (g (omega arith)) ∙ ap (λ z. rounded z U) (both a (odd-part (pos v -ℤ pos U)))
   where
     both : (a o : ℤ) → negℤ a *ℤ negℤ o ≡ a *ℤ o
-    both a o = ring! (a ∷ o ∷ []) (search polys depth 60 fits 100000) (search polys depth 60 fits 100000) tt
+    both a o = ring! (a ∷ o ∷ []) (search polys depth 60 fits 100000) tt
 turned-value (suc (suc (suc (suc k)))) a s v h f g = absurd (omega arith)
 
 pub worked-is : (a : ℤ) (b : ℕ) (c t s : ℤ) (x q v : ℕ) → modulo (pos x) turn ≡ term-angle b c t → pos q ≡ q-of quarter (pos x) → pos v ≡ pos U +ℤ w-of quarter angle-step (pos x)

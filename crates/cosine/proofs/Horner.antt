@@ -34,14 +34,14 @@ pub record Range (D Z : ℤ) (ds : List ℕ) : Type 0 where
 
 above-step : (d D l : ℤ) → pos 1 ≼ d → pos 0 ≺ D → pos 0 ≺ l → pos 0 ≺ d *ℤ D *ℤ l
 above-step d D l hd hD hl =
-    cert<! (d ∷ D ∷ l ∷ []) 0 ((gap hd ⊞ nonneg 1) ⊛ (gap< hD ⊞ nonneg 1) ⊛ gap< hl ⊞ (gap hd ⊞ nonneg 1) ⊛ gap< hD ⊞ gap hd) (search polys depth 60 fits 100000) (search polys depth 60 fits 100000) (search polys depth 60 fits 100000) tt
+    cert<! (d ∷ D ∷ l ∷ []) 0 ((gap hd ⊞ nonneg 1) ⊛ (gap< hD ⊞ nonneg 1) ⊛ gap< hl ⊞ (gap hd ⊞ nonneg 1) ⊛ gap< hD ⊞ gap hd) (search polys depth 60 fits 100000) tt
 
 least-step : (d D Z l u : ℤ) → pos 1 ≼ d → pos 0 ≼ D → pos 0 ≼ l → Z ≼ D → pos 0 ≼ u → u ≼ l → pos 0 ≼ d *ℤ D *ℤ l -ℤ Z *ℤ u
 least-step d D Z l u hd hD hl hZ hu hul =
-    cert! (d ∷ D ∷ Z ∷ l ∷ u ∷ []) 0 (gap hd ⊛ hD ⊛ hl ⊞ hD ⊛ gap hul ⊞ gap hZ ⊛ hu) (search polys depth 60 fits 100000) (search polys depth 60 fits 100000) (search polys depth 60 fits 100000) tt
+    cert! (d ∷ D ∷ Z ∷ l ∷ u ∷ []) 0 (gap hd ⊛ hD ⊛ hl ⊞ hD ⊛ gap hul ⊞ gap hZ ⊛ hu) (search polys depth 60 fits 100000) tt
 
 most-step : (m Z u : ℤ) → pos 0 ≼ Z → pos 0 ≼ u → m -ℤ Z *ℤ u ≼ m
-most-step m Z u hZ hu = cert! (m ∷ Z ∷ u ∷ []) 0 (hZ ⊛ hu) (search polys depth 60 fits 100000) (search polys depth 60 fits 100000) (search polys depth 60 fits 100000) tt
+most-step m Z u hZ hu = cert! (m ∷ Z ∷ u ∷ []) 0 (hZ ⊛ hu) (search polys depth 60 fits 100000) tt
 
 pub range : (D Z : ℤ) (ds : List ℕ) → Good ds → pos 0 ≺ D → pos 0 ≼ Z → Z ≼ D → Range D Z ds
 unfolding low up
@@ -63,20 +63,20 @@ lip-core : (d P R a b E M f g k k′ : ℤ) → pos 0 ≼ P → pos 1000 *ℤ P 
 lip-core d P R a b E M f g k k′ hP hm hb hbM hE hM hf hk hZ ih hc =
     cert! (d ∷ P ∷ R ∷ a ∷ b ∷ E ∷ M ∷ f ∷ g ∷ k ∷ k′ ∷ []) 999
     (hf ⊛ hE ⊛ hM ⊛ gap hc ⊞ 1000 · (hP ⊛ gap ih) ⊞ 1000000000 · (hb ⊛ gap hZ) ⊞ hk ⊛ hf ⊛ hM ⊛ gap hm ⊞ 1000000000 · (hf ⊛ hE ⊛ gap hbM))
-    (search polys depth 60 fits 100000) (search polys depth 60 fits 100000) (search polys depth 60 fits 100000) tt
+    (search polys depth 60 fits 100000) tt
 
 lip-scale : (d L L′ X X′ f g k′ : ℤ) → pos 0 ≼ d → pos 1000000 *ℤ g *ℤ (X′ *ℤ L -ℤ X *ℤ L′) ≼ d *ℤ k′ *ℤ f *ℤ (L *ℤ L′)
     → pos 1000000 *ℤ g *ℤ ((d *ℤ L -ℤ X) *ℤ (d *ℤ L′) -ℤ (d *ℤ L′ -ℤ X′) *ℤ (d *ℤ L)) ≼ k′ *ℤ f *ℤ (d *ℤ L *ℤ (d *ℤ L′))
-lip-scale d L L′ X X′ f g k′ hd h = cert! (d ∷ L ∷ L′ ∷ X ∷ X′ ∷ f ∷ g ∷ k′ ∷ []) 0 (hd ⊛ gap h) (search polys depth 60 fits 100000) (search polys depth 60 fits 100000) (search polys depth 60 fits 100000) tt
+lip-scale d L L′ X X′ f g k′ hd h = cert! (d ∷ L ∷ L′ ∷ X ∷ X′ ∷ f ∷ g ∷ k′ ∷ []) 0 (hd ⊛ gap h) (search polys depth 60 fits 100000) tt
 
 cross : (Z′ D u′ l : ℤ) → Z′ *ℤ D *ℤ (u′ *ℤ l) ≡ Z′ *ℤ u′ *ℤ (D *ℤ l)
-cross Z′ D u′ l = ring! (Z′ ∷ D ∷ u′ ∷ l ∷ []) (search polys depth 60 fits 100000) (search polys depth 60 fits 100000) tt
+cross Z′ D u′ l = ring! (Z′ ∷ D ∷ u′ ∷ l ∷ []) (search polys depth 60 fits 100000) tt
 
 factor-le : (D Z′ D′ : ℤ) → pos 0 ≼ D → pos 1000 *ℤ Z′ ≼ pos 617 *ℤ D′ → pos 1000 *ℤ (Z′ *ℤ D) ≼ pos 617 *ℤ (D *ℤ D′)
-factor-le D Z′ D′ hD h = cert! (D ∷ Z′ ∷ D′ ∷ []) 0 (hD ⊛ gap h) (search polys depth 60 fits 100000) (search polys depth 60 fits 100000) (search polys depth 60 fits 100000) tt
+factor-le D Z′ D′ hD h = cert! (D ∷ Z′ ∷ D′ ∷ []) 0 (hD ⊛ gap h) (search polys depth 60 fits 100000) tt
 
 factor-le′ : (u l l′ : ℤ) → pos 0 ≼ l′ → u ≼ l → u *ℤ l′ ≼ l *ℤ l′
-factor-le′ u l l′ h k = cert! (u ∷ l ∷ l′ ∷ []) 0 (gap k ⊛ h) (search polys depth 60 fits 100000) (search polys depth 60 fits 100000) (search polys depth 60 fits 100000) tt
+factor-le′ u l l′ h k = cert! (u ∷ l ∷ l′ ∷ []) 0 (gap k ⊛ h) (search polys depth 60 fits 100000) tt
 
 lip-step : (d D D′ Z Z′ l l′ u u′ f g k k′ : ℤ) → pos 0 ≼ d → pos 0 ≼ D → pos 0 ≼ D′ → pos 0 ≼ l → pos 0 ≼ l′ → pos 0 ≼ u → u ≼ l → pos 0 ≼ Z′ → pos 1000 *ℤ Z′ ≼ pos 617 *ℤ D′
     → pos 0 ≼ f → pos 0 ≼ k → g *ℤ (Z′ *ℤ D -ℤ Z *ℤ D′) ≼ f *ℤ (D *ℤ D′)
@@ -97,7 +97,7 @@ pub record Small (D Z : ℤ) : Type 0 where
   pub small : pos 1000 *ℤ Z ≼ pos 617 *ℤ D
 
 pub small-le : {D Z : ℤ} → Small D Z → Z ≼ D
-small-le {D} {Z} s = cert! (D ∷ Z ∷ []) 999 (gap (s .small) ⊞ 383 · gap< (s .positive)) (search polys depth 60 fits 100000) (search polys depth 60 fits 100000) (search polys depth 60 fits 100000) tt
+small-le {D} {Z} s = cert! (D ∷ Z ∷ []) 999 (gap (s .small) ⊞ 383 · gap< (s .positive)) (search polys depth 60 fits 100000) tt
 
 pub range′ : {D Z : ℤ} (ds : List ℕ) → Good ds → Small D Z → Range D Z ds
 range′ {D} {Z} ds g s = range D Z ds g (s .positive) (s .not-neg) (small-le s)
@@ -110,13 +110,13 @@ lam-step d k h =
     ≼-nat (1000000000 + 617 * k) (1000 * d * suc (n / (1000 * d))) (omega arith)
 
 flip : (k f g u l u′ l′ : ℤ) → pos 1000000 *ℤ g *ℤ (u′ *ℤ l -ℤ u *ℤ l′) ≼ k *ℤ f *ℤ (l′ *ℤ l) → pos 1000000 *ℤ g *ℤ (u′ *ℤ l -ℤ u *ℤ l′) ≼ k *ℤ f *ℤ (l *ℤ l′)
-flip k f g u l u′ l′ h = cert! (k ∷ f ∷ g ∷ u ∷ l ∷ u′ ∷ l′ ∷ []) 0 (gap h) (search polys depth 60 fits 100000) (search polys depth 60 fits 100000) (search polys depth 60 fits 100000) tt
+flip k f g u l u′ l′ h = cert! (k ∷ f ∷ g ∷ u ∷ l ∷ u′ ∷ l′ ∷ []) 0 (gap h) (search polys depth 60 fits 100000) tt
 
 pub lip : (ds : List ℕ) → Good ds → (D D′ Z Z′ f g : ℤ) → Small D Z → Small D′ Z′ → pos 0 ≼ f
     → g *ℤ (Z′ *ℤ D -ℤ Z *ℤ D′) ≼ f *ℤ (D *ℤ D′) → g *ℤ (Z *ℤ D′ -ℤ Z′ *ℤ D) ≼ f *ℤ (D′ *ℤ D)
     → pos 1000000 *ℤ g *ℤ (up D Z ds *ℤ low D′ ds -ℤ up D′ Z′ ds *ℤ low D ds) ≼ pos (lam ds) *ℤ f *ℤ (low D ds *ℤ low D′ ds)
 unfolding low up lam
-lip [] _ D D′ Z Z′ f g s s′ hf h h′ = cert! (f ∷ g ∷ []) 0 (nonneg 0) (search polys depth 60 fits 100000) (search polys depth 60 fits 100000) (search polys depth 60 fits 100000) tt
+lip [] _ D D′ Z Z′ f g s s′ hf h h′ = cert! (f ∷ g ∷ []) 0 (nonneg 0) (search polys depth 60 fits 100000) tt
 lip (d ∷ ds) good D D′ Z Z′ f g s s′ hf h h′ =
     let r = range′ ds (good .1) s in
     let r′ = range′ ds (good .1) s′ in

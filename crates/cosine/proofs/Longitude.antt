@@ -35,15 +35,15 @@ angles {L} {n} {N} h =
       N-pos = h .N-pos;
       m-pos = record { le = tt };
       e-pos = nonneg (20000000 * Y) ⊛ nonneg N;
-      q-most = rounded-most (pos angle-per-part *ℤ L) (pos 4010705) quarter (omega arith) (cert! ρ 0 (100 · gap hi) (search polys depth 60 fits 100000) (search polys depth 60 fits 100000) (search polys depth 60 fits 100000) tt);
-      q-least = rounded-least (pos angle-per-part *ℤ L) (negℤ (pos 4010705)) quarter (omega arith) (cert! ρ 0 (100 · gap lo) (search polys depth 60 fits 100000) (search polys depth 60 fits 100000) (search polys depth 60 fits 100000) tt);
-      e-most = cert! ρ 0 (800000000000000000000000000000000 · gap (h .most)) (search polys depth 60 fits 100000) (search polys depth 60 fits 100000) (search polys depth 60 fits 100000) tt;
-      e-least = cert! ρ 0 (800000000000000000000000000000000 · gap (h .least)) (search polys depth 60 fits 100000) (search polys depth 60 fits 100000) (search polys depth 60 fits 100000) tt;
-      near-enough = cert<! ρ 0 (125663545058850191722232910944260000000000000 · gap< (≺-nat N (h .N-pos))) (search polys depth 60 fits 100000) (search polys depth 60 fits 100000) (search polys depth 60 fits 100000) tt;
+      q-most = rounded-most (pos angle-per-part *ℤ L) (pos 4010705) quarter (omega arith) (cert! ρ 0 (100 · gap hi) (search polys depth 60 fits 100000) tt);
+      q-least = rounded-least (pos angle-per-part *ℤ L) (negℤ (pos 4010705)) quarter (omega arith) (cert! ρ 0 (100 · gap lo) (search polys depth 60 fits 100000) tt);
+      e-most = cert! ρ 0 (800000000000000000000000000000000 · gap (h .most)) (search polys depth 60 fits 100000) tt;
+      e-least = cert! ρ 0 (800000000000000000000000000000000 · gap (h .least)) (search polys depth 60 fits 100000) tt;
+      near-enough = cert<! ρ 0 (125663545058850191722232910944260000000000000 · gap< (≺-nat N (h .N-pos))) (search polys depth 60 fits 100000) tt;
     }
 
 errors : (N : ℤ) → pos 0 ≼ N → all-errors (pos 10000 *ℤ pos U) N (pos G) (pos 20000000 *ℤ pos Y *ℤ N +ℤ pos 4010705 *ℤ pos G *ℤ N) ≼ pos 1000 *ℤ pos 2460 *ℤ (pos Y *ℤ (pos 10000 *ℤ pos U) *ℤ N) *ℤ pos B
-errors N h = cert! (N ∷ []) 0 (14757532386414635424795760000000000000000000000000000000000000000000000 · h) (search polys depth 60 fits 100000) (search polys depth 60 fits 100000) (search polys depth 60 fits 100000) tt
+errors N h = cert! (N ∷ []) 0 (14757532386414635424795760000000000000000000000000000000000000000000000 · h) (search polys depth 60 fits 100000) tt
 
 pub Q1-cosine : (L n : ℤ) (N : ℕ) → Near-longitude L n N → Within 2460 (cosine (pos angle-per-part *ℤ L)) (reference-cosine n N)
 unfolding cosine

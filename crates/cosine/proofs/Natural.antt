@@ -56,7 +56,7 @@ offset-range x q e = let v = quarters-value x q e in (omega arith, omega arith)
 -- 2·U·v ≤ v² + U²
 pub square-low : (v : ℕ) → 2 * v ≤ (v * v + 1000000000500000000) / 1000000000
 square-low v =
-    let h : pos (2000000000 * v) ≼ pos (v * v + 1000000000000000000) = cert! (pos v ∷ []) 0 (sqr (pos v -ℤ pos 1000000000)) (search polys depth 60 fits 100000) (search polys depth 60 fits 100000) (search polys depth 60 fits 100000) tt in
+    let h : pos (2000000000 * v) ≼ pos (v * v + 1000000000000000000) = cert! (pos v ∷ []) 0 (sqr (pos v -ℤ pos 1000000000)) (search polys depth 60 fits 100000) tt in
     let k = less⁻¹ (nat (2000000000 * v)) (nat (v * v + 1000000000000000000)) h in
     omega arith
 
@@ -81,10 +81,10 @@ square-is v =
     ∙ ap (λ t. rounded t U) (expand (pos v))
   where
     swap : (x y : ℤ) → x -ℤ y ≡ negℤ y +ℤ x
-    swap x y = ring! (x ∷ y ∷ []) (search polys depth 60 fits 100000) (search polys depth 60 fits 100000) tt
+    swap x y = ring! (x ∷ y ∷ []) (search polys depth 60 fits 100000) tt
 
     expand : (v : ℤ) → pos U *ℤ negℤ (pos 2 *ℤ v) +ℤ (v *ℤ v +ℤ pos 1000000000000000000) ≡ (v -ℤ pos U) *ℤ (v -ℤ pos U)
-    expand v = ring! (v ∷ []) (search polys depth 60 fits 100000) (search polys depth 60 fits 100000) tt
+    expand v = ring! (v ∷ []) (search polys depth 60 fits 100000) tt
 
 -- ---- a step of the series
 
@@ -108,7 +108,7 @@ first-is y d hy hd =
     ∙ ap (λ t. pos U -ℤ t) (sym (rounded-nat y d) ∙ sym (rounded-scale U (pos y) d (omega arith) hd) ∙ ap (λ t. rounded t (U * d)) (swap (pos U) (pos y)))
   where
     swap : (x y : ℤ) → x *ℤ y ≡ y *ℤ x
-    swap x y = ring! (x ∷ y ∷ []) (search polys depth 60 fits 100000) (search polys depth 60 fits 100000) tt
+    swap x y = ring! (x ∷ y ∷ []) (search polys depth 60 fits 100000) tt
 
 -- ---- the odd part, from the series h at v
 
@@ -122,10 +122,10 @@ odd-is v h e =
     ∙ ap (λ t. rounded ((pos v -ℤ pos U) *ℤ t) U) e
   where
     swap : (x y : ℤ) → x -ℤ y ≡ negℤ y +ℤ x
-    swap x y = ring! (x ∷ y ∷ []) (search polys depth 60 fits 100000) (search polys depth 60 fits 100000) tt
+    swap x y = ring! (x ∷ y ∷ []) (search polys depth 60 fits 100000) tt
 
     expand : (v h : ℤ) → pos U *ℤ negℤ h +ℤ v *ℤ h ≡ (v -ℤ pos U) *ℤ h
-    expand v h = ring! (v ∷ h ∷ []) (search polys depth 60 fits 100000) (search polys depth 60 fits 100000) tt
+    expand v h = ring! (v ∷ h ∷ []) (search polys depth 60 fits 100000) tt
 
 -- six steps, from the last divisor to the first
 pub six : (y : ℤ) (a b c d e f : ℕ) (h₆ h₅ h₄ h₃ h₂ h₁ : ℤ)
@@ -151,7 +151,7 @@ odd-of : (v y h : ℕ) → pos y ≡ y-of (pos v -ℤ pos U) → pos h ≡ horne
 odd-of v y h p q = odd-is v h (series-at v y h odds p q)
 
 flip : (a b : ℤ) → a -ℤ b ≡ negℤ (b -ℤ a)
-flip a b = ring! (a ∷ b ∷ []) (search polys depth 60 fits 100000) (search polys depth 60 fits 100000) tt
+flip a b = ring! (a ∷ b ∷ []) (search polys depth 60 fits 100000) tt
 
 -- a number and U more, as the code has it
 lift : (a b : ℕ) → b ≤ 1000000000 + a → pos (1000000000 + a - b) ≡ pos U +ℤ (pos a -ℤ pos b)
@@ -203,7 +203,7 @@ odd-small v h l = mul-le-mul-right h l
 -- ---- the whole, from q and v
 
 pub lowered : (v : ℕ) (w : ℤ) → pos v ≡ pos U +ℤ w → pos v -ℤ pos U ≡ w
-lowered v w e = ap (λ t. t -ℤ pos U) e ∙ ring! (w ∷ []) (search polys depth 60 fits 100000) (search polys depth 60 fits 100000) tt
+lowered v w e = ap (λ t. t -ℤ pos U) e ∙ ring! (w ∷ []) (search polys depth 60 fits 100000) tt
 
 quarter-back : (x q : ℕ) → pos q ≡ q-of quarter (pos x) → q % 4 ≡ modulo (q-of quarter (pos x)) 4
 unfolding modulo

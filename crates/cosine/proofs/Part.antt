@@ -19,13 +19,13 @@ pub record Angle (n N : ℤ) : Type 0 where
   pub least : negℤ (pos 3927 *ℤ N) ≼ pos 5000 *ℤ n
 
 square-pos : (N : ℤ) → pos 0 ≺ N → pos 0 ≺ N *ℤ N
-square-pos N h = cert<! (N ∷ []) 0 (gap< h ⊛ gap< h ⊞ 2 · gap< h) (search polys depth 60 fits 100000) (search polys depth 60 fits 100000) (search polys depth 60 fits 100000) tt
+square-pos N h = cert<! (N ∷ []) 0 (gap< h ⊛ gap< h ⊞ 2 · gap< h) (search polys depth 60 fits 100000) tt
 
 pub angle-small : {n N : ℤ} → Angle n N → Small (N *ℤ N) (n *ℤ n)
 angle-small {n} {N} a = record {
   positive = square-pos N (a .positive);
   not-neg = sqr n;
-  small = cert! (n ∷ N ∷ []) 24999 (gap (a .most) ⊛ gap (a .least) ⊞ 3671 · sqr N) (search polys depth 60 fits 100000) (search polys depth 60 fits 100000) (search polys depth 60 fits 100000) tt;
+  small = cert! (n ∷ N ∷ []) 24999 (gap (a .most) ⊛ gap (a .least) ⊞ 3671 · sqr N) (search polys depth 60 fits 100000) tt;
 }
 
 -- |x² − y²| is at most 2·0.7854·|x − y|
@@ -34,13 +34,13 @@ half-square : (n N m K f g : ℤ) → Angle n N → Angle m K → g *ℤ (n *ℤ
 half-square n N m K f g a b h k =
     cert! (n ∷ N ∷ m ∷ K ∷ f ∷ g ∷ []) 3
     (gap k ⊛ (≺-≼ (a .positive) ⊛ gap (b .least) ⊞ ≺-≼ (b .positive) ⊛ gap (a .least)) ⊞ gap h ⊛ (≺-≼ (a .positive) ⊛ gap (b .most) ⊞ ≺-≼ (b .positive) ⊛ gap (a .most)))
-    (search polys depth 60 fits 100000) (search polys depth 60 fits 100000) (search polys depth 60 fits 100000) tt
+    (search polys depth 60 fits 100000) tt
 
 fix : (k g f a A b B : ℤ) → pos 1000000 *ℤ (pos 2500 *ℤ g) *ℤ (a *ℤ B -ℤ b *ℤ A) ≼ k *ℤ (pos 3927 *ℤ f) *ℤ (A *ℤ B) → pos 2500000000 *ℤ g *ℤ (a *ℤ B -ℤ b *ℤ A) ≼ pos 3927 *ℤ k *ℤ f *ℤ (A *ℤ B)
-fix k g f a A b B h = cert! (k ∷ g ∷ f ∷ a ∷ A ∷ b ∷ B ∷ []) 0 (gap h) (search polys depth 60 fits 100000) (search polys depth 60 fits 100000) (search polys depth 60 fits 100000) tt
+fix k g f a A b B h = cert! (k ∷ g ∷ f ∷ a ∷ A ∷ b ∷ B ∷ []) 0 (gap h) (search polys depth 60 fits 100000) tt
 
 swap : (k g f a A b B : ℤ) → pos 2500000000 *ℤ g *ℤ (b *ℤ A -ℤ a *ℤ B) ≼ pos 3927 *ℤ k *ℤ f *ℤ (B *ℤ A) → pos 2500000000 *ℤ g *ℤ (b *ℤ A -ℤ a *ℤ B) ≼ pos 3927 *ℤ k *ℤ f *ℤ (A *ℤ B)
-swap k g f a A b B h = cert! (k ∷ g ∷ f ∷ a ∷ A ∷ b ∷ B ∷ []) 0 (gap h) (search polys depth 60 fits 100000) (search polys depth 60 fits 100000) (search polys depth 60 fits 100000) tt
+swap k g f a A b B h = cert! (k ∷ g ∷ f ∷ a ∷ A ∷ b ∷ B ∷ []) 0 (gap h) (search polys depth 60 fits 100000) tt
 
 half-h : (ds : List ℕ) → Good ds → (n N m K f g : ℤ) → Angle n N → Angle m K → pos 0 ≼ f → Near g f n N m K
     → pos 2500000000 *ℤ g *ℤ (up (N *ℤ N) (n *ℤ n) ds *ℤ low (K *ℤ K) ds -ℤ up (K *ℤ K) (m *ℤ m) ds *ℤ low (N *ℤ N) ds) ≼ pos 3927 *ℤ pos (lam ds) *ℤ f *ℤ (low (N *ℤ N) ds *ℤ low (K *ℤ K) ds)
@@ -93,7 +93,7 @@ f-low k N = low-by-quarter k (C-low N) (S-low N)
 
 -- every lower number is positive
 zero-small : (D : ℤ) → pos 0 ≺ D → Small D (pos 0)
-zero-small D h = record { positive = h; not-neg = record { le = tt }; small = cert! (D ∷ []) 0 (617 · ≺-≼ h) (search polys depth 60 fits 100000) (search polys depth 60 fits 100000) (search polys depth 60 fits 100000) tt }
+zero-small D h = record { positive = h; not-neg = record { le = tt }; small = cert! (D ∷ []) 0 (617 · ≺-≼ h) (search polys depth 60 fits 100000) tt }
 
 pub C-low-pos : (N : ℤ) → pos 0 ≺ N → pos 0 ≺ C-low N
 unfolding C-low
@@ -117,10 +117,10 @@ half-sin : (n N m K a A b B f g : ℤ) → Angle n N → Angle m K → pos 0 ≼
 half-sin n N m K a A b B f g x y ha hA hB hf h p q =
     let hN = ≺-≼ (x .positive) in
     let hK = ≺-≼ (y .positive) in
-    let e : pos 0 ≼ A = cert! (a ∷ A ∷ []) 0 (ha ⊞ gap hA) (search polys depth 60 fits 100000) (search polys depth 60 fits 100000) (search polys depth 60 fits 100000) tt in
+    let e : pos 0 ≼ A = cert! (a ∷ A ∷ []) 0 (ha ⊞ gap hA) (search polys depth 60 fits 100000) tt in
     cert! (n ∷ N ∷ m ∷ K ∷ a ∷ A ∷ b ∷ B ∷ f ∷ g ∷ []) 1999999
     (100000000 · (ha ⊛ hB ⊛ gap h) ⊞ 100000000 · (hf ⊛ hN ⊛ hK ⊛ hB ⊛ gap hA) ⊞ 778492 · (hf ⊛ hN ⊛ e ⊛ hK ⊛ hB) ⊞ gap p ⊛ hN ⊛ gap (y .least) ⊞ gap q ⊛ hN ⊛ gap (y .most))
-    (search polys depth 60 fits 100000) (search polys depth 60 fits 100000) (search polys depth 60 fits 100000) tt
+    (search polys depth 60 fits 100000) tt
 
 half-S : (n N m K f g : ℤ) → Angle n N → Angle m K → pos 0 ≼ f → Near g f n N m K
     → pos 50 *ℤ g *ℤ (S-up n N *ℤ S-low K -ℤ S-up m K *ℤ S-low N) ≼ pos 61 *ℤ f *ℤ (S-low N *ℤ S-low K)
@@ -132,7 +132,7 @@ half-S n N m K f g x y hf h =
     half-sin n N m K (up (N *ℤ N) (n *ℤ n) all-odds) (low (N *ℤ N) all-odds) (up (K *ℤ K) (m *ℤ m) all-odds) (low (K *ℤ K) all-odds) f g x y (r .least) (r .most) (≺-≼ (r′ .above)) hf (h .hi) (c .hi) (c .lo)
 
 pub turn-about : (g f a A b B : ℤ) → g *ℤ (b *ℤ A -ℤ a *ℤ B) ≼ f *ℤ (B *ℤ A) → g *ℤ (b *ℤ A -ℤ a *ℤ B) ≼ f *ℤ (A *ℤ B)
-turn-about g f a A b B h = cert! (g ∷ f ∷ a ∷ A ∷ b ∷ B ∷ []) 0 (gap h) (search polys depth 60 fits 100000) (search polys depth 60 fits 100000) (search polys depth 60 fits 100000) tt
+turn-about g f a A b B h = cert! (g ∷ f ∷ a ∷ A ∷ b ∷ B ∷ []) 0 (gap h) (search polys depth 60 fits 100000) tt
 
 pub near-S : (n N m K f g : ℤ) → Angle n N → Angle m K → pos 0 ≼ f → Near g f n N m K → Near (pos 50 *ℤ g) (pos 61 *ℤ f) (S-up n N) (S-low N) (S-up m K) (S-low K)
 near-S n N m K f g x y hf h = record {

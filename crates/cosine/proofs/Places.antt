@@ -27,7 +27,7 @@ pub raised-fits : (x : ℤ) (k : ℕ) → natAbs x ≤ k → k < 2 ^ 62 → SFit
 raised-fits x k h l = let m = natAbs-+ x (pos k) in fits (x +ℤ pos k) (omega arith)
 
 pub raised-low : (x : ℤ) (k : ℕ) → natAbs x ≤ k → pos 0 ≼ x +ℤ pos k
-raised-low x k h = cert! (x ∷ pos k ∷ []) 0 (gap (natAbs-low x k h)) (search polys depth 60 fits 100000) (search polys depth 60 fits 100000) (search polys depth 60 fits 100000) tt
+raised-low x k h = cert! (x ∷ pos k ∷ []) 0 (gap (natAbs-low x k h)) (search polys depth 60 fits 100000) tt
 
 -- ---- the places
 
@@ -38,13 +38,13 @@ pub place-first : (t : ℤ) (m q r : ℕ) → pos m ≡ t +ℤ pos t-limit → q
 place-first t m q r e f g = residue-at f g (residue-carry (record { turns = negℤ (pos 1); is = law t ∙ ap (λ z. pos T *ℤ (pos P *ℤ negℤ (pos 1) +ℤ pos 62831853071596) +ℤ pos 100 *ℤ z) (sym e) }))
   where
     law : (t : ℤ) → pos 100 *ℤ t ≡ pos T *ℤ (pos P *ℤ negℤ (pos 1) +ℤ pos 62831853071596) +ℤ pos 100 *ℤ (t +ℤ pos t-limit)
-    law t = ring! (t ∷ []) (search polys depth 60 fits 100000) (search polys depth 60 fits 100000) tt
+    law t = ring! (t ∷ []) (search polys depth 60 fits 100000) tt
 
 pub place-next : (t : ℤ) (g w : ℕ) {q r : ℕ} (z s : ℕ) → z ≡ (g * q + g * r / T) % P → s ≡ g * r % T → Residue (pos w *ℤ t) q r → Residue (pos (g * w) *ℤ t) z s
 place-next t g w z s e f a = residue-at e f (residue-as (law (pos g) (pos w) t) (residue-carry (residue-* g a)))
   where
     law : (g w t : ℤ) → g *ℤ (w *ℤ t) ≡ g *ℤ w *ℤ t
-    law g w t = ring! (g ∷ w ∷ t ∷ []) (search polys depth 60 fits 100000) (search polys depth 60 fits 100000) tt
+    law g w t = ring! (g ∷ w ∷ t ∷ []) (search polys depth 60 fits 100000) tt
 
 -- ---- the angle
 
@@ -53,9 +53,9 @@ digits : (c t g₀ g₁ g₂ g₃ d : ℤ) → d ≡ c +ℤ pos (2 ^ 59) → d �
     → g₀ *ℤ (pos 100 *ℤ t) +ℤ g₁ *ℤ (pos (100 * 2 ^ 15) *ℤ t) +ℤ g₂ *ℤ (pos (100 * 2 ^ 30) *ℤ t) +ℤ g₃ *ℤ (pos (100 * 2 ^ 45) *ℤ t) +ℤ (pos 15778800000000 -ℤ pos (100 * 2 ^ 59) *ℤ t)
     ≡ pos 15778800000000 +ℤ pos 100 *ℤ c *ℤ t
 digits c t g₀ g₁ g₂ g₃ d e f =
-    ring! (t ∷ g₀ ∷ g₁ ∷ g₂ ∷ g₃ ∷ []) {y = pos 15778800000000 +ℤ pos 100 *ℤ (g₀ +ℤ pos (2 ^ 15) *ℤ g₁ +ℤ pos (2 ^ 30) *ℤ g₂ +ℤ pos (2 ^ 45) *ℤ g₃ -ℤ pos (2 ^ 59)) *ℤ t} (search polys depth 60 fits 100000) (search polys depth 60 fits 100000) tt
+    ring! (t ∷ g₀ ∷ g₁ ∷ g₂ ∷ g₃ ∷ []) {y = pos 15778800000000 +ℤ pos 100 *ℤ (g₀ +ℤ pos (2 ^ 15) *ℤ g₁ +ℤ pos (2 ^ 30) *ℤ g₂ +ℤ pos (2 ^ 45) *ℤ g₃ -ℤ pos (2 ^ 59)) *ℤ t} (search polys depth 60 fits 100000) tt
     ∙ ap (λ z. pos 15778800000000 +ℤ pos 100 *ℤ (z -ℤ pos (2 ^ 59)) *ℤ t) (sym f ∙ e)
-    ∙ ring! (c ∷ t ∷ []) (search polys depth 60 fits 100000) (search polys depth 60 fits 100000) tt
+    ∙ ring! (c ∷ t ∷ []) (search polys depth 60 fits 100000) tt
 
 pub angle-is : (p : Prepared) → Ready p → (b : ℕ) (c : ℤ) (d q r : ℕ) → pos d ≡ c +ℤ pos (2 ^ 59)
     → q ≡ d % 32768 * p .q0 + d / 32768 % 32768 * p .q1 + d / 1073741824 % 32768 * p .q2 + d / 35184372088832 * p .q3 + p .q4
@@ -162,13 +162,13 @@ scaled-is a c m e =
     ∙ ap (λ t. rounded t U) (split a (pos c) (pos hi) (pos lo) (pos m) e (ap pos whole))
   where
     sort : (a h c z : ℤ) → h *ℤ c +ℤ z +ℤ pos 10000000000000000 -ℤ (pos 10000000 *ℤ c +ℤ (a +ℤ pos 10000000000000000)) ≡ h *ℤ c -ℤ pos 10000000 *ℤ c -ℤ a +ℤ z
-    sort a h c z = ring! (a ∷ h ∷ c ∷ z ∷ []) (search polys depth 60 fits 100000) (search polys depth 60 fits 100000) tt
+    sort a h c z = ring! (a ∷ h ∷ c ∷ z ∷ []) (search polys depth 60 fits 100000) tt
 
     split : (a c h l m : ℤ) → m ≡ a +ℤ pos 10000000000000000 → m ≡ pos 1000000000 *ℤ h +ℤ l → pos U *ℤ (h *ℤ c -ℤ pos 10000000 *ℤ c -ℤ a) +ℤ l *ℤ c ≡ a *ℤ (c -ℤ pos U)
     split a c h l m e f =
-        ring! (a ∷ c ∷ h ∷ l ∷ []) {y = (pos 1000000000 *ℤ h +ℤ l -ℤ pos 10000000000000000) *ℤ c -ℤ a *ℤ pos U} (search polys depth 60 fits 100000) (search polys depth 60 fits 100000) tt
+        ring! (a ∷ c ∷ h ∷ l ∷ []) {y = (pos 1000000000 *ℤ h +ℤ l -ℤ pos 10000000000000000) *ℤ c -ℤ a *ℤ pos U} (search polys depth 60 fits 100000) tt
         ∙ ap (λ t. (t -ℤ pos 10000000000000000) *ℤ c -ℤ a *ℤ pos U) (sym f ∙ e)
-        ∙ ring! (a ∷ c ∷ []) (search polys depth 60 fits 100000) (search polys depth 60 fits 100000) tt
+        ∙ ring! (a ∷ c ∷ []) (search polys depth 60 fits 100000) tt
 
 pub scaled-high : (m c : ℕ) → m < 20000000000000000 → c ≤ 2000000000 → m / 1000000000 * c ≤ 40000000000000000
 scaled-high m c h k = let l : m / 1000000000 ≤ 20000000 = omega arith in mul-le-mul l k

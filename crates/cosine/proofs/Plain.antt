@@ -42,14 +42,14 @@ power-add x zero j = ap (λ t. power x t) (left j) ∙ one (power x j)
     left j = omega arith
 
     one : (y : ℤ) → y ≡ pos 1 *ℤ y
-    one y = ring! (y ∷ []) (search polys depth 60 fits 100000) (search polys depth 60 fits 100000) tt
+    one y = ring! (y ∷ []) (search polys depth 60 fits 100000) tt
 power-add x (suc i) j = ap (λ t. power x t) (left i j) ∙ ap (λ t. x *ℤ t) (power-add x i j) ∙ assoc x (power x i) (power x j)
   where
     left : (i j : ℕ) → suc i + j ≡ suc (i + j)
     left i j = omega arith
 
     assoc : (x a b : ℤ) → x *ℤ (a *ℤ b) ≡ x *ℤ a *ℤ b
-    assoc x a b = ring! (x ∷ a ∷ b ∷ []) (search polys depth 60 fits 100000) (search polys depth 60 fits 100000) tt
+    assoc x a b = ring! (x ∷ a ∷ b ∷ []) (search polys depth 60 fits 100000) tt
 
 power-upper : (n : ℤ) (N : ℕ) (i : ℕ) → powerᶠ (overᶠ n N) i .upper ≡ power n i
 unfolding power powerᶠ _*ᶠ_
@@ -63,11 +63,11 @@ power-lower n N (suc i) = ap (λ z. pos N *ℤ z) (power-lower n N i)
 
 alternate-times : (m : ℕ) (x : ℤ) → alternate m x ≡ alternate m (pos 1) *ℤ x
 unfolding alternate
-alternate-times zero x = ring! (x ∷ []) (search polys depth 60 fits 100000) (search polys depth 60 fits 100000) tt
+alternate-times zero x = ring! (x ∷ []) (search polys depth 60 fits 100000) tt
 alternate-times (suc m) x = ap negℤ (alternate-times m x) ∙ minus (alternate m (pos 1)) x
   where
     minus : (s x : ℤ) → negℤ (s *ℤ x) ≡ negℤ s *ℤ x
-    minus s x = ring! (s ∷ x ∷ []) (search polys depth 60 fits 100000) (search polys depth 60 fits 100000) tt
+    minus s x = ring! (s ∷ x ∷ []) (search polys depth 60 fits 100000) tt
 
 -- a term over the one lower number d! N^d
 term-over : (n : ℤ) (N d m i : ℕ) → 0 < N → i ≤ d → factorial d / factorial i * factorial i ≡ factorial d
@@ -85,7 +85,7 @@ term-over n N d m i h l e = record {
     back l = omega arith
 
     law : (s x q f a b : ℤ) → s *ℤ x *ℤ (q *ℤ f *ℤ (a *ℤ b)) ≡ s *ℤ (q *ℤ x *ℤ a) *ℤ (f *ℤ b)
-    law s x q f a b = ring! (s ∷ x ∷ q ∷ f ∷ a ∷ b ∷ []) (search polys depth 60 fits 100000) (search polys depth 60 fits 100000) tt
+    law s x q f a b = ring! (s ∷ x ∷ q ∷ f ∷ a ∷ b ∷ []) (search polys depth 60 fits 100000) tt
 
 -- as many terms as have their factorial in d!
 record Fit (d : ℕ) (i : ℕ → ℕ) (m : ℕ) : Type 0 where

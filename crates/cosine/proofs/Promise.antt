@@ -30,11 +30,11 @@ product {b} {c} {t} h =
 
 drift-most : {b : ℕ} {c t : ℤ} → Allowed b c t → rounded (pos angle-per-part *ℤ c *ℤ t) T ≼ pos 20000000000000000000
 drift-most {b} {c} {t} h =
-    rounded-most (pos angle-per-part *ℤ c *ℤ t) (pos 20000000000000000000) T (omega arith) (cert! (c ∷ t ∷ []) 0 (100 · gap (product h .high)) (search polys depth 60 fits 100000) (search polys depth 60 fits 100000) (search polys depth 60 fits 100000) tt)
+    rounded-most (pos angle-per-part *ℤ c *ℤ t) (pos 20000000000000000000) T (omega arith) (cert! (c ∷ t ∷ []) 0 (100 · gap (product h .high)) (search polys depth 60 fits 100000) tt)
 
 drift-least : {b : ℕ} {c t : ℤ} → Allowed b c t → negℤ (pos 20000000000000000000) ≼ rounded (pos angle-per-part *ℤ c *ℤ t) T
 drift-least {b} {c} {t} h =
-    rounded-least (pos angle-per-part *ℤ c *ℤ t) (negℤ (pos 20000000000000000000)) T (omega arith) (cert! (c ∷ t ∷ []) 0 (100 · gap (product h .low)) (search polys depth 60 fits 100000) (search polys depth 60 fits 100000) (search polys depth 60 fits 100000) tt)
+    rounded-least (pos angle-per-part *ℤ c *ℤ t) (negℤ (pos 20000000000000000000)) T (omega arith) (cert! (c ∷ t ∷ []) 0 (100 · gap (product h .low)) (search polys depth 60 fits 100000) tt)
 
 -- the angle before it is reduced
 abbrev angle : ℕ → ℤ → ℤ → ℤ
@@ -50,10 +50,10 @@ angles {b} {c} {t} h =
       N-pos = omega arith;
       m-pos = record { le = tt };
       e-pos = record { le = tt };
-      q-most = rounded-most (angle b c t) (pos 1273247) quarter (omega arith) (cert! ρ 0 (100 · gap few ⊞ gap (drift-most h)) (search polys depth 60 fits 100000) (search polys depth 60 fits 100000) (search polys depth 60 fits 100000) tt);
-      q-least = rounded-least (angle b c t) (negℤ (pos 1273247)) quarter (omega arith) (cert! ρ 0 (100 · nonneg b ⊞ gap (drift-least h)) (search polys depth 60 fits 100000) (search polys depth 60 fits 100000) (search polys depth 60 fits 100000) tt);
-      e-most = cert! ρ 0 (400000000000000000000000000000000000000000 · gap (rounded-low (pos angle-per-part *ℤ c *ℤ t) T (omega arith))) (search polys depth 60 fits 100000) (search polys depth 60 fits 100000) (search polys depth 60 fits 100000) tt;
-      e-least = cert! ρ 0 (400000000000000000000000000000000000000000 · gap< (rounded-high (pos angle-per-part *ℤ c *ℤ t) T (omega arith))) (search polys depth 60 fits 100000) (search polys depth 60 fits 100000) (search polys depth 60 fits 100000) tt;
+      q-most = rounded-most (angle b c t) (pos 1273247) quarter (omega arith) (cert! ρ 0 (100 · gap few ⊞ gap (drift-most h)) (search polys depth 60 fits 100000) tt);
+      q-least = rounded-least (angle b c t) (negℤ (pos 1273247)) quarter (omega arith) (cert! ρ 0 (100 · nonneg b ⊞ gap (drift-least h)) (search polys depth 60 fits 100000) tt);
+      e-most = cert! ρ 0 (400000000000000000000000000000000000000000 · gap (rounded-low (pos angle-per-part *ℤ c *ℤ t) T (omega arith))) (search polys depth 60 fits 100000) tt;
+      e-least = cert! ρ 0 (400000000000000000000000000000000000000000 · gap< (rounded-high (pos angle-per-part *ℤ c *ℤ t) T (omega arith))) (search polys depth 60 fits 100000) tt;
       near-enough = record { lt = tt };
     }
 

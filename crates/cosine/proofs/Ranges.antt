@@ -32,7 +32,7 @@ even-fraction : {n N : ℤ} → Angle n N → Unit-fraction (record { upper = C-
 unfolding C-up C-low
 even-fraction {n} {N} a =
     let r = range′ all-evens good-evens (angle-small a) in
-    record { positive = r .above; most = r .most; least = cert! (up (N *ℤ N) (n *ℤ n) all-evens ∷ low (N *ℤ N) all-evens ∷ []) 0 (r .least ⊞ ≺-≼ (r .above)) (search polys depth 60 fits 100000) (search polys depth 60 fits 100000) (search polys depth 60 fits 100000) tt }
+    record { positive = r .above; most = r .most; least = cert! (up (N *ℤ N) (n *ℤ n) all-evens ∷ low (N *ℤ N) all-evens ∷ []) 0 (r .least ⊞ ≺-≼ (r .above)) (search polys depth 60 fits 100000) tt }
 
 odd-fraction : {n N : ℤ} → Angle n N → Unit-fraction (record { upper = S-up n N; lower = S-low N })
 unfolding S-up S-low
@@ -43,15 +43,15 @@ odd-fraction {n} {N} a =
     let ρ = n ∷ N ∷ u ∷ l ∷ [] in
     record {
       positive = product-pos N l (a .positive) (r .above);
-      most = cert! ρ 4999 (gap (a .most) ⊛ r .least ⊞ 1073 · (≺-≼ (a .positive) ⊛ r .least) ⊞ 5000 · (≺-≼ (a .positive) ⊛ gap (r .most))) (search polys depth 60 fits 100000) (search polys depth 60 fits 100000) (search polys depth 60 fits 100000) tt;
-      least = cert! ρ 4999 (gap (a .least) ⊛ r .least ⊞ 1073 · (≺-≼ (a .positive) ⊛ r .least) ⊞ 5000 · (≺-≼ (a .positive) ⊛ gap (r .most))) (search polys depth 60 fits 100000) (search polys depth 60 fits 100000) (search polys depth 60 fits 100000) tt;
+      most = cert! ρ 4999 (gap (a .most) ⊛ r .least ⊞ 1073 · (≺-≼ (a .positive) ⊛ r .least) ⊞ 5000 · (≺-≼ (a .positive) ⊛ gap (r .most))) (search polys depth 60 fits 100000) tt;
+      least = cert! ρ 4999 (gap (a .least) ⊛ r .least ⊞ 1073 · (≺-≼ (a .positive) ⊛ r .least) ⊞ 5000 · (≺-≼ (a .positive) ⊛ gap (r .most))) (search polys depth 60 fits 100000) tt;
     }
 
 turn-sign : {u l : ℤ} → Unit-fraction (record { upper = u; lower = l }) → Unit-fraction (record { upper = negℤ u; lower = l })
 turn-sign {u} {l} h = record {
   positive = h .positive;
-  most = cert! (u ∷ l ∷ []) 0 (gap (h .least)) (search polys depth 60 fits 100000) (search polys depth 60 fits 100000) (search polys depth 60 fits 100000) tt;
-  least = cert! (u ∷ l ∷ []) 0 (gap (h .most)) (search polys depth 60 fits 100000) (search polys depth 60 fits 100000) (search polys depth 60 fits 100000) tt;
+  most = cert! (u ∷ l ∷ []) 0 (gap (h .least)) (search polys depth 60 fits 100000) tt;
+  least = cert! (u ∷ l ∷ []) 0 (gap (h .most)) (search polys depth 60 fits 100000) tt;
 }
 
 f-unit : (k : ℕ) {n N : ℤ} → Angle n N → Unit-fraction (record { upper = f-up k n N; lower = f-low k N })
@@ -76,7 +76,7 @@ even-in : {w : ℤ} → Angle w (pos U) → In-U (even-part w)
 unfolding even-part
 even-in {w} a =
     let r = horner-range (y-of w) evens (omega arith) (y-range w a) in
-    record { most = r .most; least = cert! (horner (y-of w) evens ∷ []) 0 (r .least) (search polys depth 60 fits 100000) (search polys depth 60 fits 100000) (search polys depth 60 fits 100000) tt }
+    record { most = r .most; least = cert! (horner (y-of w) evens ∷ []) 0 (r .least) (search polys depth 60 fits 100000) tt }
 
 odd-in : {w : ℤ} → Angle w (pos U) → In-U (odd-part w)
 unfolding odd-part
@@ -84,12 +84,12 @@ odd-in {w} a =
     let h = horner (y-of w) odds in
     let r = horner-range (y-of w) odds (omega arith) (y-range w a) in
     record {
-      most = rounded-most (w *ℤ h) (pos U) U (omega arith) (cert! (w ∷ h ∷ []) 4999 (gap (a .most) ⊛ r .least ⊞ 3927000000000 · gap (r .most)) (search polys depth 60 fits 100000) (search polys depth 60 fits 100000) (search polys depth 60 fits 100000) tt);
-      least = rounded-least (w *ℤ h) (negℤ (pos U)) U (omega arith) (cert! (w ∷ h ∷ []) 4999 (gap (a .least) ⊛ r .least ⊞ 3927000000000 · gap (r .most)) (search polys depth 60 fits 100000) (search polys depth 60 fits 100000) (search polys depth 60 fits 100000) tt);
+      most = rounded-most (w *ℤ h) (pos U) U (omega arith) (cert! (w ∷ h ∷ []) 4999 (gap (a .most) ⊛ r .least ⊞ 3927000000000 · gap (r .most)) (search polys depth 60 fits 100000) tt);
+      least = rounded-least (w *ℤ h) (negℤ (pos U)) U (omega arith) (cert! (w ∷ h ∷ []) 4999 (gap (a .least) ⊛ r .least ⊞ 3927000000000 · gap (r .most)) (search polys depth 60 fits 100000) tt);
     }
 
 neg-in : {x : ℤ} → In-U x → In-U (negℤ x)
-neg-in {x} h = record { most = cert! (x ∷ []) 0 (gap (h .least)) (search polys depth 60 fits 100000) (search polys depth 60 fits 100000) (search polys depth 60 fits 100000) tt; least = cert! (x ∷ []) 0 (gap (h .most)) (search polys depth 60 fits 100000) (search polys depth 60 fits 100000) (search polys depth 60 fits 100000) tt }
+neg-in {x} h = record { most = cert! (x ∷ []) 0 (gap (h .least)) (search polys depth 60 fits 100000) tt; least = cert! (x ∷ []) 0 (gap (h .most)) (search polys depth 60 fits 100000) tt }
 
 working-in : (k : ℕ) {w : ℤ} → Angle w (pos U) → In-U (working k w)
 unfolding working cosine-by
@@ -112,9 +112,9 @@ even-large {w} a =
     let p = horner y (3 * 4 ∷ 5 * 6 ∷ 7 * 8 ∷ 9 * 10 ∷ 11 * 12 ∷ []) in
     let r = horner-range y (3 * 4 ∷ 5 * 6 ∷ 7 * 8 ∷ 9 * 10 ∷ 11 * 12 ∷ []) (omega arith) (y-range w a) in
     let s = y-range w a in
-    let few : y ≼ pos 617000000 = rounded-most (w *ℤ w) (pos 617000000) U (omega arith) (cert! (w ∷ []) 999 (gap (angle-small a .small)) (search polys depth 60 fits 100000) (search polys depth 60 fits 100000) (search polys depth 60 fits 100000) tt) in
-    let b : rounded (y *ℤ p) (U * (1 * 2)) ≼ pos 308500000 = rounded-most (y *ℤ p) (pos 308500000) (U * (1 * 2)) (omega arith) (cert! (y ∷ p ∷ []) 0 (s .least ⊛ gap (r .most) ⊞ 1000000000 · gap few) (search polys depth 60 fits 100000) (search polys depth 60 fits 100000) (search polys depth 60 fits 100000) tt) in
-    cert! (rounded (y *ℤ p) (U * (1 * 2)) ∷ []) 0 (gap b) (search polys depth 60 fits 100000) (search polys depth 60 fits 100000) (search polys depth 60 fits 100000) tt
+    let few : y ≼ pos 617000000 = rounded-most (w *ℤ w) (pos 617000000) U (omega arith) (cert! (w ∷ []) 999 (gap (angle-small a .small)) (search polys depth 60 fits 100000) tt) in
+    let b : rounded (y *ℤ p) (U * (1 * 2)) ≼ pos 308500000 = rounded-most (y *ℤ p) (pos 308500000) (U * (1 * 2)) (omega arith) (cert! (y ∷ p ∷ []) 0 (s .least ⊛ gap (r .most) ⊞ 1000000000 · gap few) (search polys depth 60 fits 100000) tt) in
+    cert! (rounded (y *ℤ p) (U * (1 * 2)) ∷ []) 0 (gap b) (search polys depth 60 fits 100000) tt
 
 -- At document 01's turn.
 pub cosine-range : (x : ℤ) → In-U (cosine x)

@@ -20,13 +20,13 @@ residue-+ {n} {m} {q} {r} {s} {t} a b = record {
 }
   where
     law : (T P j k q r s t : ℤ) → T *ℤ (P *ℤ j +ℤ q) +ℤ r +ℤ (T *ℤ (P *ℤ k +ℤ s) +ℤ t) ≡ T *ℤ (P *ℤ (j +ℤ k) +ℤ (q +ℤ s)) +ℤ (r +ℤ t)
-    law T P j k q r s t = ring! (T ∷ P ∷ j ∷ k ∷ q ∷ r ∷ s ∷ t ∷ []) (search polys depth 60 fits 100000) (search polys depth 60 fits 100000) tt
+    law T P j k q r s t = ring! (T ∷ P ∷ j ∷ k ∷ q ∷ r ∷ s ∷ t ∷ []) (search polys depth 60 fits 100000) tt
 
 pub residue-* : {n : ℤ} {q r : ℕ} (g : ℕ) → Residue n q r → Residue (pos g *ℤ n) (g * q) (g * r)
 residue-* {n} {q} {r} g a = record { turns = pos g *ℤ a .turns; is = ap (λ z. pos g *ℤ z) (a .is) ∙ law (pos T) (pos P) (pos g) (a .turns) (pos q) (pos r) }
   where
     law : (T P g k q r : ℤ) → g *ℤ (T *ℤ (P *ℤ k +ℤ q) +ℤ r) ≡ T *ℤ (P *ℤ (g *ℤ k) +ℤ g *ℤ q) +ℤ g *ℤ r
-    law T P g k q r = ring! (T ∷ P ∷ g ∷ k ∷ q ∷ r ∷ []) (search polys depth 60 fits 100000) (search polys depth 60 fits 100000) tt
+    law T P g k q r = ring! (T ∷ P ∷ g ∷ k ∷ q ∷ r ∷ []) (search polys depth 60 fits 100000) tt
 
 -- whole millennia of r go to the quotient, whole turns out of it
 pub residue-carry : {n : ℤ} {q r : ℕ} → Residue n q r → Residue n ((q + r / T) % P) (r % T)
@@ -42,10 +42,10 @@ residue-carry {n} {q} {r} a = record {
     whole = back (pos q) (pos (r / T)) (pos P *ℤ pos ((q + r / T) / P) +ℤ pos ((q + r / T) % P)) (ap pos (omega arith))
       where
         back : (x y z : ℤ) → x +ℤ y ≡ z → x ≡ z -ℤ y
-        back x y z e = ring! (x ∷ y ∷ []) {y = x +ℤ y -ℤ y} (search polys depth 60 fits 100000) (search polys depth 60 fits 100000) tt ∙ ap (λ t. t -ℤ y) e
+        back x y z e = ring! (x ∷ y ∷ []) {y = x +ℤ y -ℤ y} (search polys depth 60 fits 100000) tt ∙ ap (λ t. t -ℤ y) e
 
     law : (T P k j m e s : ℤ) → T *ℤ (P *ℤ k +ℤ (P *ℤ j +ℤ m -ℤ e)) +ℤ (T *ℤ e +ℤ s) ≡ T *ℤ (P *ℤ (k +ℤ j) +ℤ m) +ℤ s
-    law T P k j m e s = ring! (T ∷ P ∷ k ∷ j ∷ m ∷ e ∷ s ∷ []) (search polys depth 60 fits 100000) (search polys depth 60 fits 100000) tt
+    law T P k j m e s = ring! (T ∷ P ∷ k ∷ j ∷ m ∷ e ∷ s ∷ []) (search polys depth 60 fits 100000) tt
 
 -- the opposite, and half of T more
 pub residue-rest : {n : ℤ} {q r : ℕ} → q < P → r < T → Residue n q r → Residue (pos 15778800000000 -ℤ n) (62831853071795 - q) (47336400000000 - r)
@@ -58,7 +58,7 @@ residue-rest {n} {q} {r} hq hr a = record {
     minus x y h = same (nat x -ᵢ nat y) (nat (x - y)) (omega arith)
 
     law : (k q r : ℤ) → pos 15778800000000 -ℤ (pos T *ℤ (pos P *ℤ k +ℤ q) +ℤ r) ≡ pos T *ℤ (pos P *ℤ (negℤ k -ℤ pos 1) +ℤ (pos 62831853071795 -ℤ q)) +ℤ (pos 47336400000000 -ℤ r)
-    law k q r = ring! (k ∷ q ∷ r ∷ []) (search polys depth 60 fits 100000) (search polys depth 60 fits 100000) tt
+    law k q r = ring! (k ∷ q ∷ r ∷ []) (search polys depth 60 fits 100000) tt
 
 -- the same number, written otherwise
 pub residue-as : {n m : ℤ} {q r : ℕ} → n ≡ m → Residue n q r → Residue m q r
@@ -74,8 +74,8 @@ rounded-residue n q r a =
     let u : r < T * e + T = omega arith in
     let ρ = n ∷ k ∷ pos q ∷ pos r ∷ pos e ∷ [] in
     floor-is (pos 2 *ℤ n +ℤ pos T) (pos P *ℤ k +ℤ pos (q + e)) (2 * T) (omega arith)
-    (cert! ρ 0 (2 · gap≡ (sym (a .is)) ⊞ 2 · gap (≼-nat (T * e) r l)) (search polys depth 60 fits 100000) (search polys depth 60 fits 100000) (search polys depth 60 fits 100000) tt)
-    (cert<! ρ 0 (2 · gap≡ (a .is) ⊞ 2 · gap (≼-nat (r + 1) (T * e + T) (omega arith))) (search polys depth 60 fits 100000) (search polys depth 60 fits 100000) (search polys depth 60 fits 100000) tt)
+    (cert! ρ 0 (2 · gap≡ (sym (a .is)) ⊞ 2 · gap (≼-nat (T * e) r l)) (search polys depth 60 fits 100000) tt)
+    (cert<! ρ 0 (2 · gap≡ (a .is) ⊞ 2 · gap (≼-nat (r + 1) (T * e + T) (omega arith))) (search polys depth 60 fits 100000) tt)
 
 -- so the term's angle is q + r/T + 100b, but for whole turns
 pub angle-of : (b : ℕ) (c t : ℤ) (q r : ℕ) → Residue (pos 15778800000000 +ℤ pos angle-per-part *ℤ c *ℤ t) q r → modulo (pos (q + r / T + 100 * b)) P ≡ term-angle b c t
@@ -85,4 +85,4 @@ angle-of b c t q r a =
     ∙ ap (λ z. modulo z P) (law (pos P *ℤ a .turns) (pos (q + r / T)) (pos (100 * b)) ∙ ap (λ z. pos (angle-per-part * b) +ℤ z) (sym (rounded-residue (pos angle-per-part *ℤ c *ℤ t) q r a)))
   where
     law : (x y z : ℤ) → x +ℤ (y +ℤ z) ≡ z +ℤ (x +ℤ y)
-    law x y z = ring! (x ∷ y ∷ z ∷ []) (search polys depth 60 fits 100000) (search polys depth 60 fits 100000) tt
+    law x y z = ring! (x ∷ y ∷ z ∷ []) (search polys depth 60 fits 100000) tt

@@ -20,17 +20,17 @@ fall-core : (P R a b E M k : ℤ) → pos 0 ≼ R → pos 0 ≺ E → pos 0 ≼ 
 fall-core P R a b E M k hR hE hM hk h small ih big =
     cert*! (P ∷ R ∷ a ∷ b ∷ E ∷ M ∷ k ∷ []) (pos 1000000000 *ℤ E) (product-pos (pos 1000000000) E (record { lt = tt }) hE)
     (gap h ⊛ ≺-≼ hE ⊛ gap big ⊞ 1000 · (hR ⊛ gap ih) ⊞ gap h ⊛ hk ⊛ hM ⊛ gap small)
-    (search polys depth 60 fits 100000) (search polys depth 60 fits 100000) (search polys depth 60 fits 100000) (search polys depth 60 fits 100000) tt
+    (search polys depth 60 fits 100000) tt
 
 fall-step : (d D D′ Z Z′ l l′ u u′ : ℤ) → pos 0 ≼ d → Z *ℤ D′ *ℤ (u *ℤ l′) ≼ Z′ *ℤ D *ℤ (u′ *ℤ l)
     → (d *ℤ D′ *ℤ l′ -ℤ Z′ *ℤ u′) *ℤ (d *ℤ D *ℤ l) ≼ (d *ℤ D *ℤ l -ℤ Z *ℤ u) *ℤ (d *ℤ D′ *ℤ l′)
 fall-step d D D′ Z Z′ l l′ u u′ hd h =
-    cert! (d ∷ D ∷ D′ ∷ Z ∷ Z′ ∷ l ∷ l′ ∷ u ∷ u′ ∷ []) 0 (hd ⊛ gap h) (search polys depth 60 fits 100000) (search polys depth 60 fits 100000) (search polys depth 60 fits 100000) tt
+    cert! (d ∷ D ∷ D′ ∷ Z ∷ Z′ ∷ l ∷ l′ ∷ u ∷ u′ ∷ []) 0 (hd ⊛ gap h) (search polys depth 60 fits 100000) tt
 
 -- h is at least 1 - 0.617/d
 above-most : (d D Z l u : ℤ) → pos 20 ≼ d → pos 0 ≼ D → pos 0 ≼ l → pos 0 ≼ u → u ≼ l → pos 1000 *ℤ Z ≼ pos 617 *ℤ D → pos 19383 *ℤ (d *ℤ D *ℤ l) ≼ pos 20000 *ℤ (d *ℤ D *ℤ l -ℤ Z *ℤ u)
 above-most d D Z l u hd hD hl hu hul h =
-    cert! (d ∷ D ∷ Z ∷ l ∷ u ∷ []) 0 (617 · (gap hd ⊛ hD ⊛ hl) ⊞ 12340 · (hD ⊛ gap hul) ⊞ 20 · (hu ⊛ gap h)) (search polys depth 60 fits 100000) (search polys depth 60 fits 100000) (search polys depth 60 fits 100000) tt
+    cert! (d ∷ D ∷ Z ∷ l ∷ u ∷ []) 0 (617 · (gap hd ⊛ hD ⊛ hl) ⊞ 12340 · (hD ⊛ gap hul) ⊞ 20 · (hu ⊛ gap h)) (search polys depth 60 fits 100000) tt
 
 -- the divisors of the odd series after the first
 abbrev rest : List ℕ
@@ -51,7 +51,7 @@ rest-large {D} {Z} s =
 
 -- the product that `fall-core` asks for
 large-product : (k l l′ u′ : ℤ) → pos 0 ≼ l → pos 0 ≼ l′ → pos 617 *ℤ k ≼ pos 969150000 → pos 19383 *ℤ l′ ≼ pos 20000 *ℤ u′ → pos 617 *ℤ k *ℤ (l *ℤ l′) ≼ pos 1000000000 *ℤ (u′ *ℤ l)
-large-product k l l′ u′ hl hl′ hk h = cert! (k ∷ l ∷ l′ ∷ u′ ∷ []) 0 (50000 · (hl ⊛ gap h) ⊞ gap hk ⊛ (hl ⊛ hl′)) (search polys depth 60 fits 100000) (search polys depth 60 fits 100000) (search polys depth 60 fits 100000) tt
+large-product k l l′ u′ hl hl′ hk h = cert! (k ∷ l ∷ l′ ∷ u′ ∷ []) 0 (50000 · (hl ⊛ gap h) ⊞ gap hk ⊛ (hl ⊛ hl′)) (search polys depth 60 fits 100000) tt
 
 -- the odd series falls as the squared angle grows
 fall : (D D′ Z Z′ : ℤ) → Small D Z → Small D′ Z′ → Z *ℤ D′ ≼ Z′ *ℤ D → up D′ Z′ all-odds *ℤ low D all-odds ≼ up D Z all-odds *ℤ low D′ all-odds
@@ -68,10 +68,10 @@ fall D D′ Z Z′ s s′ h =
     let ρ = D ∷ D′ ∷ Z ∷ Z′ ∷ [] in
     fall-step (pos 6) D D′ Z Z′ l l′ u u′ (nonneg 6)
     (fall-core (Z′ *ℤ D) (Z *ℤ D′) (u′ *ℤ l) (u *ℤ l′) (D *ℤ D′) (l *ℤ l′) (pos (lam rest)) (s .not-neg ⊛ hD′) (product-pos D D′ (s .positive) (s′ .positive)) (≺-≼ (r .above) ⊛ ≺-≼ (r′ .above)) (nonneg (lam rest)) h
-    (cert! ρ 0 (hD′ ⊛ gap (s .small)) (search polys depth 60 fits 100000) (search polys depth 60 fits 100000) (search polys depth 60 fits 100000) tt)
+    (cert! ρ 0 (hD′ ⊛ gap (s .small)) (search polys depth 60 fits 100000) tt)
     (lip rest good-rest D D′ Z Z′ (Z′ *ℤ D -ℤ Z *ℤ D′) (D *ℤ D′) s s′ (gap h)
-    (cert! ρ 0 (nonneg 0) (search polys depth 60 fits 100000) (search polys depth 60 fits 100000) (search polys depth 60 fits 100000) tt)
-    (cert! ρ 0 (2 · (gap h ⊛ (hD ⊛ hD′))) (search polys depth 60 fits 100000) (search polys depth 60 fits 100000) (search polys depth 60 fits 100000) tt))
+    (cert! ρ 0 (nonneg 0) (search polys depth 60 fits 100000) tt)
+    (cert! ρ 0 (2 · (gap h ⊛ (hD ⊛ hD′))) (search polys depth 60 fits 100000) tt))
     (large-product (pos (lam rest)) l l′ u′ (≺-≼ (r .above)) (≺-≼ (r′ .above)) lam-rest (rest-large s′)))
 
 -- ---- the two cases of the order of the angles n/N and m/K; a/A and b/B are their odd series
@@ -82,7 +82,7 @@ rising : (n N m K a A b B f g : ℤ) → pos 0 ≼ N → pos 0 ≼ K → pos 0 �
     → g *ℤ (n *ℤ a *ℤ (K *ℤ B) -ℤ m *ℤ b *ℤ (N *ℤ A)) ≼ f *ℤ (N *ℤ A *ℤ (K *ℤ B))
 rising n N m K a A b B f g hN hK hA hB hg ha hb h s e =
     cert! (n ∷ N ∷ m ∷ K ∷ a ∷ A ∷ b ∷ B ∷ f ∷ g ∷ []) 1 (hg ⊛ gap s ⊞ hg ⊛ gap h ⊛ (gap ha ⊛ hB ⊞ gap hb ⊛ hA) ⊞ 2 · (gap e ⊛ (hA ⊛ hB)))
-    (search polys depth 60 fits 100000) (search polys depth 60 fits 100000) (search polys depth 60 fits 100000) tt
+    (search polys depth 60 fits 100000) tt
 
 -- n/N at most m/K
 falling : (n N m K a A b B f g : ℤ) → Angle m K → pos 0 ≼ N → pos 0 ≼ A → pos 0 ≼ B → pos 0 ≼ f → pos 0 ≼ g → pos 0 ≼ a → n *ℤ K ≼ m *ℤ N
@@ -92,7 +92,7 @@ falling n N m K a A b B f g y hN hA hB hf hg ha h p q =
     let hK = ≺-≼ (y .positive) in
     cert! (n ∷ N ∷ m ∷ K ∷ a ∷ A ∷ b ∷ B ∷ f ∷ g ∷ []) 99999999
     (100000000 · (hg ⊛ ha ⊛ hB ⊛ gap h) ⊞ gap p ⊛ hN ⊛ gap (y .least) ⊞ gap q ⊛ hN ⊛ gap (y .most) ⊞ 78778492 · (hf ⊛ hN ⊛ hA ⊛ hK ⊛ hB))
-    (search polys depth 60 fits 100000) (search polys depth 60 fits 100000) (search polys depth 60 fits 100000) tt
+    (search polys depth 60 fits 100000) tt
 
 -- ---- the sine
 
@@ -103,12 +103,12 @@ signs n N m K a A b B up down h = go (≼-or-≺ (pos 0) (n *ℤ K +ℤ m *ℤ N
   where
     go : (pos 0 ≼ n *ℤ K +ℤ m *ℤ N) ⊎ (n *ℤ K +ℤ m *ℤ N ≺ pos 0) → (n *ℤ K +ℤ m *ℤ N) *ℤ (a *ℤ B -ℤ b *ℤ A) ≼ pos 0
     go (inl p) =
-        let s = up (cert! (n ∷ N ∷ m ∷ K ∷ []) 0 (gap h ⊛ p) (search polys depth 60 fits 100000) (search polys depth 60 fits 100000) (search polys depth 60 fits 100000) tt) in
-        cert! (n ∷ N ∷ m ∷ K ∷ a ∷ A ∷ b ∷ B ∷ []) 0 (p ⊛ gap s) (search polys depth 60 fits 100000) (search polys depth 60 fits 100000) (search polys depth 60 fits 100000) tt
+        let s = up (cert! (n ∷ N ∷ m ∷ K ∷ []) 0 (gap h ⊛ p) (search polys depth 60 fits 100000) tt) in
+        cert! (n ∷ N ∷ m ∷ K ∷ a ∷ A ∷ b ∷ B ∷ []) 0 (p ⊛ gap s) (search polys depth 60 fits 100000) tt
     go (inr p) =
         let q = gap (≺-≼ p) in
-        let s = down (cert! (n ∷ N ∷ m ∷ K ∷ []) 0 (gap h ⊛ q) (search polys depth 60 fits 100000) (search polys depth 60 fits 100000) (search polys depth 60 fits 100000) tt) in
-        cert! (n ∷ N ∷ m ∷ K ∷ a ∷ A ∷ b ∷ B ∷ []) 0 (q ⊛ gap s) (search polys depth 60 fits 100000) (search polys depth 60 fits 100000) (search polys depth 60 fits 100000) tt
+        let s = down (cert! (n ∷ N ∷ m ∷ K ∷ []) 0 (gap h ⊛ q) (search polys depth 60 fits 100000) tt) in
+        cert! (n ∷ N ∷ m ∷ K ∷ a ∷ A ∷ b ∷ B ∷ []) 0 (q ⊛ gap s) (search polys depth 60 fits 100000) tt
 
 half-S : (n N m K f g : ℤ) → Angle n N → Angle m K → pos 0 ≼ f → pos 0 ≼ g → Near g f n N m K → g *ℤ (S-up n N *ℤ S-low K -ℤ S-up m K *ℤ S-low N) ≼ f *ℤ (S-low N *ℤ S-low K)
 unfolding S-up S-low
@@ -148,7 +148,7 @@ unfolding C-up C-low
 near-C n N m K f g x y hf h =
     let r = range′ all-evens good-evens (angle-small x) in
     let r′ = range′ all-evens good-evens (angle-small y) in
-    near-as g f (r .above) (r′ .above) (ring! (g ∷ []) (search polys depth 60 fits 100000) (search polys depth 60 fits 100000) tt) (cert! (f ∷ []) 0 (nonneg 0) (search polys depth 60 fits 100000) (search polys depth 60 fits 100000) (search polys depth 60 fits 100000) tt)
+    near-as g f (r .above) (r′ .above) (ring! (g ∷ []) (search polys depth 60 fits 100000) tt) (cert! (f ∷ []) 0 (nonneg 0) (search polys depth 60 fits 100000) tt)
     (near-coarse (pos 3927 *ℤ pos (lam all-evens)) (pos 1) (pos 2500000000) (pos 1) g f (record { lt = tt }) (record { le = tt }) hf (r .above) (r′ .above) lam-evens (near-h all-evens good-evens n N m K f g x y hf h))
 
 pub near-one : (k : ℕ) (n N m K f g : ℤ) → Angle n N → Angle m K → pos 0 ≼ f → pos 0 ≼ g → Near g f n N m K → Near g f (f-up k n N) (f-low k N) (f-up k m K) (f-low k K)

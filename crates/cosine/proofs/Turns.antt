@@ -12,7 +12,7 @@ use Rattle.cosine.specs.Cosine.{cosine-by, sine-by, even-part, odd-part,
 use Rattle.cosine.proofs.Any.{q-shift, r-shift}
 
 again : (Q k m : ℤ) → pos 4 *ℤ Q *ℤ k +ℤ m ≡ Q *ℤ (pos 4 *ℤ k) +ℤ m
-again Q k m = ring! (Q ∷ k ∷ m ∷ []) (search polys depth 60 fits 100000) (search polys depth 60 fits 100000) tt
+again Q k m = ring! (Q ∷ k ∷ m ∷ []) (search polys depth 60 fits 100000) tt
 
 quarters-only : (Q : ℕ) → 0 < Q → (k m : ℤ) → modulo (q-of Q (pos Q *ℤ (pos 4 *ℤ k) +ℤ m)) 4 ≡ modulo (q-of Q m) 4
 quarters-only Q h k m = ap (λ t. modulo t 4) (q-shift Q h (pos 4 *ℤ k) m) ∙ modulo-shift k (q-of Q m) 4 (omega arith)

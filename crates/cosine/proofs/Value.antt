@@ -27,7 +27,7 @@ rounded-below n n′ d d′ h h′ e = go (≼-or-≺ (rounded n d) (rounded n�
     go (inr l) =
         let bad : pos 1 ≼ pos 0 = cert! (n ∷ n′ ∷ pos d ∷ pos d′ ∷ rounded n d ∷ rounded n′ d′ ∷ []) 0
         (2 · (nonneg d ⊛ nonneg d′ ⊛ gap< l) ⊞ nonneg d′ ⊛ gap (rounded-low n d h) ⊞ nonneg d ⊛ gap< (rounded-high n′ d′ h′) ⊞ 2 · gap≡ e ⊞ gap< (≺-nat d h))
-        (search polys depth 60 fits 100000) (search polys depth 60 fits 100000) (search polys depth 60 fits 100000) tt in
+        (search polys depth 60 fits 100000) tt in
         absurd (bad .le)
 
 -- rounding depends on the fraction alone
@@ -38,7 +38,7 @@ scaled : (n n′ N N′ : ℤ) → n *ℤ N′ ≡ n′ *ℤ N → n *ℤ pos F 
 scaled n n′ N N′ e = out n N′ ∙ ap (λ t. pos F *ℤ pos A *ℤ t) e ∙ sym (out n′ N)
   where
     out : (n N : ℤ) → n *ℤ pos F *ℤ (pos A *ℤ N) ≡ pos F *ℤ pos A *ℤ (n *ℤ N)
-    out n N = ring! (n ∷ N ∷ []) (search polys depth 60 fits 100000) (search polys depth 60 fits 100000) tt
+    out n N = ring! (n ∷ N ∷ []) (search polys depth 60 fits 100000) tt
 
 same-q : (n n′ : ℤ) (N N′ : ℕ) → 0 < N → 0 < N′ → n *ℤ pos N′ ≡ n′ *ℤ pos N → ref-q n N ≡ ref-q n′ N′
 unfolding ref-q
@@ -48,14 +48,14 @@ no-gap : (n n′ N N′ q : ℤ) → n *ℤ N′ ≡ n′ *ℤ N → Near (pos 1
 no-gap n n′ N N′ q e =
     let ρ = n ∷ n′ ∷ N ∷ N′ ∷ q ∷ [] in
     record {
-      hi = cert! ρ 0 (16000000000000000000000000000000000000000000000000000000000000 · gap≡ e) (search polys depth 60 fits 100000) (search polys depth 60 fits 100000) (search polys depth 60 fits 100000) tt;
-      lo = cert! ρ 0 (16000000000000000000000000000000000000000000000000000000000000 · gap≡ (sym e)) (search polys depth 60 fits 100000) (search polys depth 60 fits 100000) (search polys depth 60 fits 100000) tt;
+      hi = cert! ρ 0 (16000000000000000000000000000000000000000000000000000000000000 · gap≡ e) (search polys depth 60 fits 100000) tt;
+      lo = cert! ρ 0 (16000000000000000000000000000000000000000000000000000000000000 · gap≡ (sym e)) (search polys depth 60 fits 100000) tt;
     }
 
 none : (a A b B : ℤ) → Near (pos 50 *ℤ pos 1) (pos 61 *ℤ pos 0) a A b B → a *ℤ B ≡ b *ℤ A
 none a A b B h =
     let ρ = a ∷ A ∷ b ∷ B ∷ [] in
-    ≼-antisym (a *ℤ B) (b *ℤ A) (cert! ρ 49 (gap (h .hi)) (search polys depth 60 fits 100000) (search polys depth 60 fits 100000) (search polys depth 60 fits 100000) tt) (cert! ρ 49 (gap (h .lo)) (search polys depth 60 fits 100000) (search polys depth 60 fits 100000) (search polys depth 60 fits 100000) tt)
+    ≼-antisym (a *ℤ B) (b *ℤ A) (cert! ρ 49 (gap (h .hi)) (search polys depth 60 fits 100000) tt) (cert! ρ 49 (gap (h .lo)) (search polys depth 60 fits 100000) tt)
 
 at-shift : (j n n′ : ℤ) (N N′ : ℕ) → 0 < N → 0 < N′ → n *ℤ pos N′ ≡ n′ *ℤ pos N
     → nested (modulo (ref-q n N +ℤ j) 4) (ref-r n N) (pos F *ℤ pos N) ≈ᶠ nested (modulo (ref-q n′ N′ +ℤ j) 4) (ref-r n′ N′) (pos F *ℤ pos N′)

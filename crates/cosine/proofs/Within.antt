@@ -19,11 +19,11 @@ use Rattle.cosine.proofs.Nested.{cosine-is, sine-is, reference-is, refe
 
 within-law : (k g E x u l : ℤ) → pos 0 ≺ g → pos 0 ≺ l → E ≼ pos 1000 *ℤ k *ℤ g *ℤ pos B → pos 1000 *ℤ pos U *ℤ g *ℤ pos B *ℤ (x *ℤ l -ℤ u *ℤ pos U) ≼ E *ℤ (pos U *ℤ l) → x *ℤ l -ℤ pos U *ℤ u ≼ k *ℤ l
 within-law k g E x u l hg hl h e =
-    cert*! (k ∷ g ∷ E ∷ x ∷ u ∷ l ∷ []) (pos 100000000000000000000000000000000000 *ℤ g) (product-pos (pos 100000000000000000000000000000000000) g (record { lt = tt }) hg) (gap e ⊞ 1000000000 · (≺-≼ hl ⊛ gap h)) (search polys depth 60 fits 100000) (search polys depth 60 fits 100000) (search polys depth 60 fits 100000) (search polys depth 60 fits 100000) tt
+    cert*! (k ∷ g ∷ E ∷ x ∷ u ∷ l ∷ []) (pos 100000000000000000000000000000000000 *ℤ g) (product-pos (pos 100000000000000000000000000000000000) g (record { lt = tt }) hg) (gap e ⊞ 1000000000 · (≺-≼ hl ⊛ gap h)) (search polys depth 60 fits 100000) tt
 
 within-law⁻ : (k g E x u l : ℤ) → pos 0 ≺ g → pos 0 ≺ l → E ≼ pos 1000 *ℤ k *ℤ g *ℤ pos B → pos 1000 *ℤ pos U *ℤ g *ℤ pos B *ℤ (u *ℤ pos U -ℤ x *ℤ l) ≼ E *ℤ (pos U *ℤ l) → negℤ (k *ℤ l) ≼ x *ℤ l -ℤ pos U *ℤ u
 within-law⁻ k g E x u l hg hl h e =
-    cert*! (k ∷ g ∷ E ∷ x ∷ u ∷ l ∷ []) (pos 100000000000000000000000000000000000 *ℤ g) (product-pos (pos 100000000000000000000000000000000000) g (record { lt = tt }) hg) (gap e ⊞ 1000000000 · (≺-≼ hl ⊛ gap h)) (search polys depth 60 fits 100000) (search polys depth 60 fits 100000) (search polys depth 60 fits 100000) (search polys depth 60 fits 100000) tt
+    cert*! (k ∷ g ∷ E ∷ x ∷ u ∷ l ∷ []) (pos 100000000000000000000000000000000000 *ℤ g) (product-pos (pos 100000000000000000000000000000000000) g (record { lt = tt }) hg) (gap e ⊞ 1000000000 · (≺-≼ hl ⊛ gap h)) (search polys depth 60 fits 100000) tt
 
 -- at the shift j of the quarters: 0 for the cosine, 3 for the sine
 within-shift : {Q step G : ℕ} → Turn Q step G → (j X n : ℤ) (N : ℕ) (m e : ℤ) → Close-angles Q step G X n N m e → (k : ℕ)

@@ -20,15 +20,15 @@ use Rattle.cosine.proofs.Part.{Angle, angle-small, C-up, C-low, S-up, S
 -- ---- a bound by a whole number survives rounding
 
 halves : (i j : ℤ) → pos 2 *ℤ i ≼ pos 2 *ℤ j +ℤ pos 1 → i ≼ j
-halves i j h = cert! (i ∷ j ∷ []) 1 (gap h) (search polys depth 60 fits 100000) (search polys depth 60 fits 100000) (search polys depth 60 fits 100000) tt
+halves i j h = cert! (i ∷ j ∷ []) 1 (gap h) (search polys depth 60 fits 100000) tt
 
 pub rounded-most : (n i : ℤ) (d : ℕ) → 0 < d → n ≼ pos d *ℤ i → rounded n d ≼ i
 rounded-most n i d h k =
-    halves (rounded n d) i (cert*! (n ∷ i ∷ pos d ∷ rounded n d ∷ []) (pos d) (≺-nat d h) (gap (rounded-low n d h) ⊞ 2 · gap k) (search polys depth 60 fits 100000) (search polys depth 60 fits 100000) (search polys depth 60 fits 100000) (search polys depth 60 fits 100000) tt)
+    halves (rounded n d) i (cert*! (n ∷ i ∷ pos d ∷ rounded n d ∷ []) (pos d) (≺-nat d h) (gap (rounded-low n d h) ⊞ 2 · gap k) (search polys depth 60 fits 100000) tt)
 
 pub rounded-least : (n i : ℤ) (d : ℕ) → 0 < d → pos d *ℤ i ≼ n → i ≼ rounded n d
 rounded-least n i d h k =
-    halves i (rounded n d) (cert*! (n ∷ i ∷ pos d ∷ rounded n d ∷ []) (pos d) (≺-nat d h) (gap< (rounded-high n d h) ⊞ 2 · gap k) (search polys depth 60 fits 100000) (search polys depth 60 fits 100000) (search polys depth 60 fits 100000) (search polys depth 60 fits 100000) tt)
+    halves i (rounded n d) (cert*! (n ∷ i ∷ pos d ∷ rounded n d ∷ []) (pos d) (≺-nat d h) (gap< (rounded-high n d h) ⊞ 2 · gap k) (search polys depth 60 fits 100000) tt)
 
 -- ---- the working Horner values lie from 0 to U
 
@@ -41,9 +41,9 @@ horner-step y p d h a b =
     let r = rounded (y *ℤ p) (U * d) in
     let D : 0 < U * d = omega arith in
     let one : pos 1 ≼ pos d = ≼-nat 1 d h in
-    let lo : pos 0 ≼ r = rounded-least (y *ℤ p) (pos 0) (U * d) D (cert! (y ∷ p ∷ pos d ∷ []) 0 (a .least ⊛ b .least) (search polys depth 60 fits 100000) (search polys depth 60 fits 100000) (search polys depth 60 fits 100000) tt) in
-    let hi : r ≼ pos U = rounded-most (y *ℤ p) (pos U) (U * d) D (cert! (y ∷ p ∷ pos d ∷ []) 0 (gap (a .most) ⊛ b .least ⊞ 1000000000 · gap (b .most) ⊞ 1000000000000000000 · gap one) (search polys depth 60 fits 100000) (search polys depth 60 fits 100000) (search polys depth 60 fits 100000) tt) in
-    record { least = cert! (r ∷ []) 0 (gap hi) (search polys depth 60 fits 100000) (search polys depth 60 fits 100000) (search polys depth 60 fits 100000) tt; most = cert! (r ∷ []) 0 lo (search polys depth 60 fits 100000) (search polys depth 60 fits 100000) (search polys depth 60 fits 100000) tt }
+    let lo : pos 0 ≼ r = rounded-least (y *ℤ p) (pos 0) (U * d) D (cert! (y ∷ p ∷ pos d ∷ []) 0 (a .least ⊛ b .least) (search polys depth 60 fits 100000) tt) in
+    let hi : r ≼ pos U = rounded-most (y *ℤ p) (pos U) (U * d) D (cert! (y ∷ p ∷ pos d ∷ []) 0 (gap (a .most) ⊛ b .least ⊞ 1000000000 · gap (b .most) ⊞ 1000000000000000000 · gap one) (search polys depth 60 fits 100000) tt) in
+    record { least = cert! (r ∷ []) 0 (gap hi) (search polys depth 60 fits 100000) tt; most = cert! (r ∷ []) 0 lo (search polys depth 60 fits 100000) tt }
 
 pub horner-range : (y : ℤ) (ds : List ℕ) → Good ds → Unit-range y → Unit-range (horner y ds)
 unfolding horner
@@ -53,8 +53,8 @@ horner-range y (d ∷ ds) g a = horner-step y (horner y ds) d (g .0) a (horner-r
 pub y-range : (w : ℤ) → Angle w (pos U) → Unit-range (y-of w)
 unfolding y-of
 y-range w a = record {
-  least = rounded-least (w *ℤ w) (pos 0) U (omega arith) (cert! (w ∷ []) 0 (sqr w) (search polys depth 60 fits 100000) (search polys depth 60 fits 100000) (search polys depth 60 fits 100000) tt);
-  most = rounded-most (w *ℤ w) (pos U) U (omega arith) (cert! (w ∷ []) 999 (gap (angle-small a .small)) (search polys depth 60 fits 100000) (search polys depth 60 fits 100000) (search polys depth 60 fits 100000) tt);
+  least = rounded-least (w *ℤ w) (pos 0) U (omega arith) (cert! (w ∷ []) 0 (sqr w) (search polys depth 60 fits 100000) tt);
+  most = rounded-most (w *ℤ w) (pos U) U (omega arith) (cert! (w ∷ []) 999 (gap (angle-small a .small)) (search polys depth 60 fits 100000) tt);
 }
 
 -- ---- |p/U − u/l| is at most e millionths of 1/U
@@ -75,10 +75,10 @@ close-step y p Z u l e e′ d h rp hZ hm yl yh hl he ih hc =
     record {
       hi = cert! ρ 1999
           (1000000000000000000 · (hl ⊛ gap hc) ⊞ 1000000000000000000 · (hl ⊛ (gap< (rounded-high (y *ℤ p) (U * d) D) ⊞ nonneg 1)) ⊞ 1000000000 · (rp .least ⊛ hl ⊛ (gap< yh ⊞ nonneg 1))
-          ⊞ 2000 · (hZ ⊛ gap (ih .lo)) ⊞ 1000000000000000000 · (hl ⊛ gap (rp .most)) ⊞ 2 · (he ⊛ hl ⊛ gap hm)) (search polys depth 60 fits 100000) (search polys depth 60 fits 100000) (search polys depth 60 fits 100000) tt;
+          ⊞ 2000 · (hZ ⊛ gap (ih .lo)) ⊞ 1000000000000000000 · (hl ⊛ gap (rp .most)) ⊞ 2 · (he ⊛ hl ⊛ gap hm)) (search polys depth 60 fits 100000) tt;
       lo = cert! ρ 1999
           (1000000000000000000 · (hl ⊛ gap hc) ⊞ 1000000000000000000 · (hl ⊛ gap (rounded-low (y *ℤ p) (U * d) D)) ⊞ 1000000000 · (rp .least ⊛ hl ⊛ gap yl)
-          ⊞ 2000 · (hZ ⊛ gap (ih .hi)) ⊞ 1000000000000000000 · (hl ⊛ gap (rp .most)) ⊞ 2 · (he ⊛ hl ⊛ gap hm)) (search polys depth 60 fits 100000) (search polys depth 60 fits 100000) (search polys depth 60 fits 100000) tt;
+          ⊞ 2000 · (hZ ⊛ gap (ih .hi)) ⊞ 1000000000000000000 · (hl ⊛ gap (rp .most)) ⊞ 2 · (he ⊛ hl ⊛ gap hm)) (search polys depth 60 fits 100000) tt;
     }
 
 -- above (1/2 + (1/2 + 0.617·e) / d), in millionths of 1/U, from the last divisor to the first
@@ -98,8 +98,8 @@ close-base : (Z u l : ℤ) (d e : ℕ) → pos 0 ≼ Z → pos 1000 *ℤ Z ≼ p
 close-base Z u l d e hZ hm hl hu hul hc =
     let ρ = Z ∷ u ∷ l ∷ pos d ∷ pos e ∷ [] in
     record {
-      hi = cert! ρ 0 (1000000000000000000 · (hl ⊛ gap hc) ⊞ 1000000000000 · (gap hm ⊛ hl) ⊞ 1000000000000000 · (hZ ⊛ gap hul)) (search polys depth 60 fits 100000) (search polys depth 60 fits 100000) (search polys depth 60 fits 100000) tt;
-      lo = cert! ρ 0 (1000000000000000 · (hZ ⊛ hu) ⊞ 1000000000000000000 · (nonneg d ⊛ nonneg e ⊛ hl)) (search polys depth 60 fits 100000) (search polys depth 60 fits 100000) (search polys depth 60 fits 100000) tt;
+      hi = cert! ρ 0 (1000000000000000000 · (hl ⊛ gap hc) ⊞ 1000000000000 · (gap hm ⊛ hl) ⊞ 1000000000000000 · (hZ ⊛ gap hul)) (search polys depth 60 fits 100000) tt;
+      lo = cert! ρ 0 (1000000000000000 · (hZ ⊛ hu) ⊞ 1000000000000000000 · (nonneg d ⊛ nonneg e ⊛ hl)) (search polys depth 60 fits 100000) tt;
     }
 
 y-low : (w : ℤ) → pos (2 * U) *ℤ y-of w ≼ pos 2 *ℤ (w *ℤ w) +ℤ pos U
@@ -140,8 +140,8 @@ even-law : (e h u l : ℤ) → pos 0 ≼ l → e ≼ pos 926000 → Close e h u 
 even-law e h u l hl he c =
     let ρ = e ∷ h ∷ u ∷ l ∷ [] in
     record {
-      hi = cert! ρ 0 (1000000 · gap (c .hi) ⊞ 1000000 · (hl ⊛ gap he) ⊞ 77000000000 · hl) (search polys depth 60 fits 100000) (search polys depth 60 fits 100000) (search polys depth 60 fits 100000) tt;
-      lo = cert! ρ 0 (1000000 · gap (c .lo) ⊞ 1000000 · (hl ⊛ gap he) ⊞ 77000000000 · hl) (search polys depth 60 fits 100000) (search polys depth 60 fits 100000) (search polys depth 60 fits 100000) tt;
+      hi = cert! ρ 0 (1000000 · gap (c .hi) ⊞ 1000000 · (hl ⊛ gap he) ⊞ 77000000000 · hl) (search polys depth 60 fits 100000) tt;
+      lo = cert! ρ 0 (1000000 · gap (c .lo) ⊞ 1000000 · (hl ⊛ gap he) ⊞ 77000000000 · hl) (search polys depth 60 fits 100000) tt;
     }
 
 odd-law : (w e h u l : ℤ) → Angle w (pos U) → pos 0 ≼ l → e ≼ pos 640000 → Close e h u l → Near (pos 1000 *ℤ pos U) (pos 1003) (rounded (w *ℤ h) U) (pos U) (w *ℤ u) (pos U *ℤ l)
@@ -149,8 +149,8 @@ odd-law w e h u l a hl he c =
     let o = rounded (w *ℤ h) U in
     let ρ = w ∷ e ∷ h ∷ u ∷ l ∷ o ∷ [] in
     record {
-      hi = cert! ρ 9999999 (1000000000 · (5000000000 · (hl ⊛ gap (rounded-low (w *ℤ h) U (omega arith))) ⊞ gap (c .hi) ⊛ gap (a .least) ⊞ gap (c .lo) ⊛ gap (a .most) ⊞ 7854000000000 · (hl ⊛ gap he) ⊞ 3440000000000000 · hl)) (search polys depth 60 fits 100000) (search polys depth 60 fits 100000) (search polys depth 60 fits 100000) tt;
-      lo = cert! ρ 9999999 (1000000000 · (5000000000 · (hl ⊛ (gap< (rounded-high (w *ℤ h) U (omega arith)) ⊞ nonneg 1)) ⊞ gap (c .lo) ⊛ gap (a .least) ⊞ gap (c .hi) ⊛ gap (a .most) ⊞ 7854000000000 · (hl ⊛ gap he) ⊞ 3440000000000000 · hl)) (search polys depth 60 fits 100000) (search polys depth 60 fits 100000) (search polys depth 60 fits 100000) tt;
+      hi = cert! ρ 9999999 (1000000000 · (5000000000 · (hl ⊛ gap (rounded-low (w *ℤ h) U (omega arith))) ⊞ gap (c .hi) ⊛ gap (a .least) ⊞ gap (c .lo) ⊛ gap (a .most) ⊞ 7854000000000 · (hl ⊛ gap he) ⊞ 3440000000000000 · hl)) (search polys depth 60 fits 100000) tt;
+      lo = cert! ρ 9999999 (1000000000 · (5000000000 · (hl ⊛ (gap< (rounded-high (w *ℤ h) U (omega arith)) ⊞ nonneg 1)) ⊞ gap (c .lo) ⊛ gap (a .least) ⊞ gap (c .hi) ⊛ gap (a .most) ⊞ 7854000000000 · (hl ⊛ gap he) ⊞ 3440000000000000 · hl)) (search polys depth 60 fits 100000) tt;
     }
 
 near-even : (w : ℤ) → Angle w (pos U) → Near (pos 1000 *ℤ pos U) (pos 1003) (even-part w) (pos U) (C-up w (pos U)) (C-low (pos U))

@@ -28,7 +28,7 @@ steps-rise : (j k : ℕ) → j ≤ k → steps-angle (pos j) ≼ steps-angle (po
 unfolding steps-angle units-angle
 steps-rise j k l =
     rounded-mono (pos j *ℤ pos turn) (pos k *ℤ pos turn) turn-steps (lit< tt)
-    (cert! (pos j ∷ pos k ∷ []) 0 (turn · gap (≼-nat j k l)) (search polys depth 60 fits 100000) (search polys depth 60 fits 100000) (search polys depth 60 fits 100000) tt)
+    (cert! (pos j ∷ pos k ∷ []) 0 (turn · gap (≼-nat j k l)) (search polys depth 60 fits 100000) tt)
 
 pub steps-least : (k : ℕ) → pos 0 ≼ steps-angle (pos k)
 unfolding steps-angle units-angle
@@ -91,7 +91,7 @@ past-on x y j k l h e = implied _ _ back e
         let c′ = cosine (steps-angle (pos k)) in
         let g : pos x *ℤ s′ ≼ pos y *ℤ c′ = record { le = t } in
         let r : pos x *ℤ s ≼ pos y *ℤ c =
-        cert! (pos x ∷ pos y ∷ s ∷ s′ ∷ c ∷ c′ ∷ []) 0 (gap g ⊞ nonneg x ⊛ gap (o .sine-rises) ⊞ nonneg y ⊛ gap (o .cosine-falls)) (search polys depth 60 fits 100000) (search polys depth 60 fits 100000) (search polys depth 60 fits 100000) tt in
+        cert! (pos x ∷ pos y ∷ s ∷ s′ ∷ c ∷ c′ ∷ []) 0 (gap g ⊞ nonneg x ⊛ gap (o .sine-rises) ⊞ nonneg y ⊛ gap (o .cosine-falls)) (search polys depth 60 fits 100000) tt in
         r .le
 
 -- 0 is past nothing

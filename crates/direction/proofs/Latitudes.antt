@@ -13,7 +13,7 @@ use Rattle.integers.proofs.Root.{root-spec}
 use Rattle.direction.specs.Direction.{direction, latitude}
 
 pub flat-sum : (x y : ℤ) → x *ℤ x +ℤ y *ℤ y +ℤ pos 0 ≡ x *ℤ x +ℤ y *ℤ y
-flat-sum x y = ring! (x ∷ y ∷ []) (search polys depth 60 fits 100000) (search polys depth 60 fits 100000) tt
+flat-sum x y = ring! (x ∷ y ∷ []) (search polys depth 60 fits 100000) tt
 
 root-less : (r n w : ℕ) → r * r ≤ n → n < w * w → r < w
 root-less r n w l h = let g = by-contra (r + 1) w (λ (g : w < r + 1). omega (arith, mul-le-mul (le-of g) (le-of g))) in omega arith

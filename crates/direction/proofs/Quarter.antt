@@ -23,18 +23,18 @@ q-zero : (x : ℤ) → pos 0 ≼ x → pos 2 *ℤ x ≺ pos quarter → q-of qua
 unfolding q-of rounded
 q-zero x h k =
     floor-is (pos 2 *ℤ x +ℤ pos quarter) (pos 0) (2 * quarter) (lit< tt)
-    (cert! (x ∷ []) 0 (2 · h) (search polys depth 60 fits 100000) (search polys depth 60 fits 100000) (search polys depth 60 fits 100000) tt)
-    (cert<! (x ∷ []) 0 (gap< k) (search polys depth 60 fits 100000) (search polys depth 60 fits 100000) (search polys depth 60 fits 100000) tt)
+    (cert! (x ∷ []) 0 (2 · h) (search polys depth 60 fits 100000) tt)
+    (cert<! (x ∷ []) 0 (gap< k) (search polys depth 60 fits 100000) tt)
 
 q-one : (x : ℤ) → pos quarter ≼ pos 2 *ℤ x → x ≼ pos quarter → q-of quarter x ≡ pos 1
 unfolding q-of rounded
 q-one x h k =
     floor-is (pos 2 *ℤ x +ℤ pos quarter) (pos 1) (2 * quarter) (lit< tt)
-    (cert! (x ∷ []) 0 (gap h) (search polys depth 60 fits 100000) (search polys depth 60 fits 100000) (search polys depth 60 fits 100000) tt)
-    (cert<! (x ∷ []) 0 (2 · gap k) (search polys depth 60 fits 100000) (search polys depth 60 fits 100000) (search polys depth 60 fits 100000) tt)
+    (cert! (x ∷ []) 0 (gap h) (search polys depth 60 fits 100000) tt)
+    (cert<! (x ∷ []) 0 (2 · gap k) (search polys depth 60 fits 100000) tt)
 
 neg-neg : (w : ℤ) → negℤ (negℤ w) ≡ w
-neg-neg w = ring! (w ∷ []) (search polys depth 60 fits 100000) (search polys depth 60 fits 100000) tt
+neg-neg w = ring! (w ∷ []) (search polys depth 60 fits 100000) tt
 
 even-neg : (w : ℤ) → even-part (negℤ w) ≡ even-part w
 unfolding even-part
@@ -83,10 +83,10 @@ lower x h k = record {
 }
   where
     lower-least : pos 0 ≼ lower-w x
-    lower-least = unfold lower-w in let r = x -ℤ pos 0 *ℤ pos quarter in cert! (x ∷ rounded r angle-step ∷ []) 19999 (gap< (rounded-high r angle-step (lit< tt)) ⊞ 2 · h) (search polys depth 60 fits 100000) (search polys depth 60 fits 100000) (search polys depth 60 fits 100000) tt
+    lower-least = unfold lower-w in let r = x -ℤ pos 0 *ℤ pos quarter in cert! (x ∷ rounded r angle-step ∷ []) 19999 (gap< (rounded-high r angle-step (lit< tt)) ⊞ 2 · h) (search polys depth 60 fits 100000) tt
 
     lower-most : lower-w x ≼ pos w-most
-    lower-most = unfold lower-w in let r = x -ℤ pos 0 *ℤ pos quarter in cert! (x ∷ rounded r angle-step ∷ []) 19999 (gap (rounded-low r angle-step (lit< tt)) ⊞ gap< k) (search polys depth 60 fits 100000) (search polys depth 60 fits 100000) (search polys depth 60 fits 100000) tt
+    lower-most = unfold lower-w in let r = x -ℤ pos 0 *ℤ pos quarter in cert! (x ∷ rounded r angle-step ∷ []) 19999 (gap (rounded-low r angle-step (lit< tt)) ⊞ gap< k) (search polys depth 60 fits 100000) tt
 
 upper : (x : ℤ) → pos quarter ≼ pos 2 *ℤ x → x ≼ pos quarter → Upper x (upper-w x)
 upper x h k = record {
@@ -97,21 +97,21 @@ upper x h k = record {
 }
   where
     upper-least : pos 0 ≼ upper-w x
-    upper-least = unfold upper-w in let r = x -ℤ pos 1 *ℤ pos quarter in cert! (x ∷ rounded r angle-step ∷ []) 19999 (gap (rounded-low r angle-step (lit< tt)) ⊞ 2 · gap k) (search polys depth 60 fits 100000) (search polys depth 60 fits 100000) (search polys depth 60 fits 100000) tt
+    upper-least = unfold upper-w in let r = x -ℤ pos 1 *ℤ pos quarter in cert! (x ∷ rounded r angle-step ∷ []) 19999 (gap (rounded-low r angle-step (lit< tt)) ⊞ 2 · gap k) (search polys depth 60 fits 100000) tt
 
     upper-most : upper-w x ≼ pos w-most
-    upper-most = unfold upper-w in let r = x -ℤ pos 1 *ℤ pos quarter in cert! (x ∷ rounded r angle-step ∷ []) 19999 (gap< (rounded-high r angle-step (lit< tt)) ⊞ gap h) (search polys depth 60 fits 100000) (search polys depth 60 fits 100000) (search polys depth 60 fits 100000) tt
+    upper-most = unfold upper-w in let r = x -ℤ pos 1 *ℤ pos quarter in cert! (x ∷ rounded r angle-step ∷ []) 19999 (gap< (rounded-high r angle-step (lit< tt)) ⊞ gap h) (search polys depth 60 fits 100000) tt
 
 lower-rises : (x x′ : ℤ) → x ≼ x′ → lower-w x ≼ lower-w x′
 unfolding lower-w
-lower-rises x x′ l = rounded-mono _ _ angle-step (lit< tt) (cert! (x ∷ x′ ∷ []) 0 (gap l) (search polys depth 60 fits 100000) (search polys depth 60 fits 100000) (search polys depth 60 fits 100000) tt)
+lower-rises x x′ l = rounded-mono _ _ angle-step (lit< tt) (cert! (x ∷ x′ ∷ []) 0 (gap l) (search polys depth 60 fits 100000) tt)
 
 upper-falls : (x x′ : ℤ) → x ≼ x′ → upper-w x′ ≼ upper-w x
 unfolding upper-w
 upper-falls x x′ l =
     let r = x -ℤ pos 1 *ℤ pos quarter in
     let r′ = x′ -ℤ pos 1 *ℤ pos quarter in
-    cert! (rounded r angle-step ∷ rounded r′ angle-step ∷ []) 0 (gap (rounded-mono r r′ angle-step (lit< tt) (cert! (x ∷ x′ ∷ []) 0 (gap l) (search polys depth 60 fits 100000) (search polys depth 60 fits 100000) (search polys depth 60 fits 100000) tt))) (search polys depth 60 fits 100000) (search polys depth 60 fits 100000) (search polys depth 60 fits 100000) tt
+    cert! (rounded r angle-step ∷ rounded r′ angle-step ∷ []) 0 (gap (rounded-mono r r′ angle-step (lit< tt) (cert! (x ∷ x′ ∷ []) 0 (gap l) (search polys depth 60 fits 100000) tt))) (search polys depth 60 fits 100000) tt
 
 -- ---- where the halves meet, computed
 meet-sine : odd-part (pos w-most) ≼ even-part (pos w-most)
@@ -128,7 +128,7 @@ pub record Opens (x x′ : ℤ) : Type 0 where
   pub cosine-falls : cosine x′ ≼ cosine x
 
 neg-le : (a b : ℤ) → a ≼ b → negℤ b ≼ negℤ a
-neg-le a b l = cert! (a ∷ b ∷ []) 0 (gap l) (search polys depth 60 fits 100000) (search polys depth 60 fits 100000) (search polys depth 60 fits 100000) tt
+neg-le a b l = cert! (a ∷ b ∷ []) 0 (gap l) (search polys depth 60 fits 100000) tt
 
 by-parts : {a b c d : ℤ} → a ≡ c → b ≡ d → c ≼ d → a ≼ b
 by-parts {a} {b} {c} {d} e f l = subst₂ (λ s t. s ≼ t) (sym e) (sym f) l
@@ -168,5 +168,5 @@ quarter-opens x x′ h l k = go (≼-or-≺ (pos quarter) (pos 2 *ℤ x)) (≼-o
     go (inl a) (inl b) = both-upper x x′ _ _ (upper x a k′) (upper x′ b k) (upper-falls x x′ l)
     go (inr a) (inl b) = across x x′ _ _ (lower x h a) (upper x′ b k)
     go (inl a) (inr b) =
-        let bad : pos 1 ≼ pos 0 = cert! (x ∷ x′ ∷ []) 0 (gap a ⊞ gap< b ⊞ 2 · gap l) (search polys depth 60 fits 100000) (search polys depth 60 fits 100000) (search polys depth 60 fits 100000) tt in
+        let bad : pos 1 ≼ pos 0 = cert! (x ∷ x′ ∷ []) 0 (gap a ⊞ gap< b ⊞ 2 · gap l) (search polys depth 60 fits 100000) tt in
         absurd (bad .le)

@@ -1,4 +1,4 @@
--- The ring normaliser with its expressions found by `search polys`: `ring! (a ∷ b ∷ []) (search polys depth 30) (search polys depth 30) tt`,
+-- The ring normaliser with the expressions of both sides found by one `search polys`: `ring! (a ∷ b ∷ []) (search polys depth 30) tt`,
 -- and inequalities from a certificate, a sum of products of facts `pos 0 ≼ z`. Assumes nothing.
 use mathlib.Core.Path.{_≡_, refl, sym, ap, ap₂, _∙_, subst, subst₂}
 use mathlib.Core.List.{List, _∷_}
@@ -53,18 +53,46 @@ p-nat-add m n h k = record { e = h .e ⊕ k .e; is = ap₂ _+ℤ_ (h .is) (k .is
 abbrev pub p-nat-mul : (m n : ℕ) {ρ : List ℤ} → Poly ρ (pos m) → Poly ρ (pos n) → Poly ρ (pos (m * n))
 p-nat-mul m n h k = record { e = h .e ⊗ k .e; is = ap₂ _*ℤ_ (h .is) (k .is) }
 
-pub ruleset polys = (p-add, p-sub, p-mul, p-neg, p-nat-add, p-nat-mul, p-lit, p-var, here, there)
+-- both sides of an equation, and with them what a certificate sums up to
+pub record Sides (ρ : List ℤ) (x y : ℤ) : Type 0 where
+  pub left : Poly ρ x
+  pub right : Poly ρ y
 
-pub ring! : (ρ : List ℤ) {x y : ℤ} (p : Poly ρ x) (q : Poly ρ y) → T (zer (norm (p .e ⊖ q .e))) → x ≡ y
-ring! ρ p q t = sym (p .is) ∙ ring ρ (p .e) (q .e) t ∙ q .is
+abbrev pub sides : {x y : ℤ} {ρ : List ℤ} → Poly ρ x → Poly ρ y → Sides ρ x y
+sides p q = record { left = p; right = q }
+
+pub record Summed (ρ : List ℤ) (x y w : ℤ) : Type 0 where
+  pub left : Poly ρ x
+  pub right : Poly ρ y
+  pub sum : Poly ρ w
+
+abbrev pub summed : {x y w : ℤ} {ρ : List ℤ} → Poly ρ x → Poly ρ y → Poly ρ w → Summed ρ x y w
+summed p q s = record { left = p; right = q; sum = s }
+
+-- and a factor that the goal is multiplied by
+pub record Multiplied (ρ : List ℤ) (x y w m : ℤ) : Type 0 where
+  pub sides : Summed ρ x y w
+  pub factor : Poly ρ m
+
+abbrev pub multiplied : {x y w m : ℤ} {ρ : List ℤ} → Summed ρ x y w → Poly ρ m → Multiplied ρ x y w m
+multiplied s r = record { sides = s; factor = r }
+
+pub ruleset polys = (sides, summed, multiplied, p-add, p-sub, p-mul, p-neg, p-nat-add, p-nat-mul, p-lit, p-var, here, there)
+
+pub ring! : (ρ : List ℤ) {x y : ℤ} (s : Sides ρ x y) → T (zer (norm (s .left .e ⊖ s .right .e))) → x ≡ y
+ring! ρ s t = sym (s .left .is) ∙ ring ρ (s .left .e) (s .right .e) t ∙ s .right .is
 
 -- ---- certificates: from w, which is not negative. (k + 1) · (y − x) + k is w and a constant that is not negative
 
-pub cert! : (ρ : List ℤ) (k : ℕ) {x y w : ℤ} → pos 0 ≼ w → (p : Poly ρ x) (q : Poly ρ y) (s : Poly ρ w) → T (nonn (norm (# (suc k) ⊗ (q .e ⊖ p .e) ⊕ # k ⊖ s .e))) → x ≼ y
-cert! ρ k h p q s t = subst₂ (λ a b. a ≼ b) (p .is) (q .is) (cert ρ (p .e) (q .e) k {w = s .e} (record { nn = subst (λ a. pos 0 ≼ a) (sym (s .is)) h }) t)
+pub cert! : (ρ : List ℤ) (k : ℕ) {x y w : ℤ} → pos 0 ≼ w → (s : Summed ρ x y w) →
+    T (nonn (norm (# (suc k) ⊗ (s .right .e ⊖ s .left .e) ⊕ # k ⊖ s .sum .e))) → x ≼ y
+cert! ρ k h s t =
+    subst₂ (λ a b. a ≼ b) (s .left .is) (s .right .is)
+    (cert ρ (s .left .e) (s .right .e) k {w = s .sum .e} (record { nn = subst (λ a. pos 0 ≼ a) (sym (s .sum .is)) h }) t)
 
-pub cert<! : (ρ : List ℤ) (k : ℕ) {x y w : ℤ} → pos 0 ≼ w → (p : Poly ρ x) (q : Poly ρ y) (s : Poly ρ w) → T (nonn (norm (# (suc k) ⊗ (q .e ⊖ (p .e ⊕ # 1)) ⊕ # k ⊖ s .e))) → x ≺ y
-cert<! ρ k {x} {y} h p q s t = suc-<ℤ x y (cert! ρ k h (p-add x (pos 1) p (p-lit refl)) q s t)
+pub cert<! : (ρ : List ℤ) (k : ℕ) {x y w : ℤ} → pos 0 ≼ w → (s : Summed ρ x y w) →
+    T (nonn (norm (# (suc k) ⊗ (s .right .e ⊖ (s .left .e ⊕ # 1)) ⊕ # k ⊖ s .sum .e))) → x ≺ y
+cert<! ρ k {x} {y} h s t = suc-<ℤ x y (cert! ρ k h (summed (p-add x (pos 1) (s .left) (p-lit refl)) (s .right) (s .sum)) t)
 
 pub gap : {x y : ℤ} → x ≼ y → pos 0 ≼ (y -ℤ x)
 gap {x} {y} h = diff-of-≤ℤ x y h
@@ -90,11 +118,12 @@ pub sqr : (x : ℤ) → pos 0 ≼ (x *ℤ x)
 sqr x = nonneg-sq x
 
 -- ---- the same of naturals: the variables are `pos a`, and subtraction, which is no ring's, is not read
-pub nat-ring! : (ρ : List ℤ) {m n : ℕ} (p : Poly ρ (pos m)) (q : Poly ρ (pos n)) → T (zer (norm (p .e ⊖ q .e))) → m ≡ n
-nat-ring! ρ p q t = ap natAbs (ring! ρ p q t)
+pub nat-ring! : (ρ : List ℤ) {m n : ℕ} (s : Sides ρ (pos m) (pos n)) → T (zer (norm (s .left .e ⊖ s .right .e))) → m ≡ n
+nat-ring! ρ s t = ap natAbs (ring! ρ s t)
 
-pub nat-cert! : (ρ : List ℤ) (k : ℕ) {m n : ℕ} {w : ℤ} → pos 0 ≼ w → (p : Poly ρ (pos m)) (q : Poly ρ (pos n)) (s : Poly ρ w) → T (nonn (norm (# (suc k) ⊗ (q .e ⊖ p .e) ⊕ # k ⊖ s .e))) → m ≤ n
-nat-cert! ρ k {m} {n} h p q s t = leb→le m n (cert! ρ k h p q s t .le)
+pub nat-cert! : (ρ : List ℤ) (k : ℕ) {m n : ℕ} {w : ℤ} → pos 0 ≼ w → (s : Summed ρ (pos m) (pos n) w) →
+    T (nonn (norm (# (suc k) ⊗ (s .right .e ⊖ s .left .e) ⊕ # k ⊖ s .sum .e))) → m ≤ n
+nat-cert! ρ k {m} {n} h s t = leb→le m n (cert! ρ k h s t .le)
 
 -- what is known of naturals, for a certificate
 pub nat-gap : (m n : ℕ) → m ≤ n → pos 0 ≼ (pos n -ℤ pos m)

@@ -170,8 +170,8 @@ modulo-is z k d r l e =
     let h : 0 < d = omega arith in
     let f : floor z d ≡ k =
     floor-is z k d h
-    (cert! (z ∷ k ∷ pos d ∷ pos r ∷ []) 0 (gap≡ (sym e) ⊞ nonneg r) (search polys depth 40) (search polys depth 40) (search polys depth 40) tt)
-    (cert<! (z ∷ k ∷ pos d ∷ pos r ∷ []) 0 (gap≡ e ⊞ gap< (below r d l)) (search polys depth 40) (search polys depth 40) (search polys depth 40) tt) in
+    (cert! (z ∷ k ∷ pos d ∷ pos r ∷ []) 0 (gap≡ (sym e) ⊞ nonneg r) (search polys depth 40) tt)
+    (cert<! (z ∷ k ∷ pos d ∷ pos r ∷ []) 0 (gap≡ e ⊞ gap< (below r d l)) (search polys depth 40) tt) in
     let g : pos d *ℤ k +ℤ pos (modulo z d) ≡ z = subst (λ t. pos d *ℤ t +ℤ pos (modulo z d) ≡ z) f (floor-modulo z d h) in
     let u = same⁻¹ (nat d *ᵢ int k +ᵢ nat (modulo z d)) (nat d *ᵢ int k +ᵢ nat r) (g ∙ e) in
     omega arith
@@ -184,16 +184,16 @@ modulo-add x y d h =
     let s = modulo x d + modulo y d in
     modulo-is (x +ℤ y) (floor x d +ℤ floor y d +ℤ pos (s / d)) d (s % d) (mod-lt s h)
     (sym (ap₂ _+ℤ_ (floor-modulo x d h) (floor-modulo y d h))
-    ∙ ring! (pos d ∷ floor x d ∷ floor y d ∷ pos (modulo x d) ∷ pos (modulo y d) ∷ []) {y = pos d *ℤ (floor x d +ℤ floor y d) +ℤ pos s} (search polys depth 40) (search polys depth 40) tt
+    ∙ ring! (pos d ∷ floor x d ∷ floor y d ∷ pos (modulo x d) ∷ pos (modulo y d) ∷ []) {y = pos d *ℤ (floor x d +ℤ floor y d) +ℤ pos s} (search polys depth 40) tt
     ∙ ap (λ (n : ℕ). pos d *ℤ (floor x d +ℤ floor y d) +ℤ pos n) (sym (div-add-mod s d))
-    ∙ ring! (pos d ∷ floor x d ∷ floor y d ∷ pos (s / d) ∷ pos (s % d) ∷ []) (search polys depth 40) (search polys depth 40) tt)
+    ∙ ring! (pos d ∷ floor x d ∷ floor y d ∷ pos (s / d) ∷ pos (s % d) ∷ []) (search polys depth 40) tt)
 
 -- a multiple of the modulus does not count
 pub modulo-shift : (k z : ℤ) (d : ℕ) → 0 < d → modulo (pos d *ℤ k +ℤ z) d ≡ modulo z d
 modulo-shift k z d h =
     modulo-is (pos d *ℤ k +ℤ z) (k +ℤ floor z d) d (modulo z d) (modulo-lt z d h)
     (ap (λ t. pos d *ℤ k +ℤ t) (sym (floor-modulo z d h))
-    ∙ ring! (pos d ∷ k ∷ floor z d ∷ pos (modulo z d) ∷ []) (search polys depth 40) (search polys depth 40) tt)
+    ∙ ring! (pos d ∷ k ∷ floor z d ∷ pos (modulo z d) ∷ []) (search polys depth 40) tt)
 
 -- ---- a multiple of the divisor comes out of the rounding of a magnitude
 pub near-shift : (s : Bool) (k x d : ℕ) → 0 < d → near s (k * d + x) d ≡ k + near s x d

@@ -15,7 +15,7 @@ use Rattle.integers.specs.Order.{_≼_, _≺_}
 use Rattle.integers.specs.Signs.{sgn}
 use Rattle.integers.proofs.Pairs.{up, dn, int, nat, negᵢ, _+ᵢ_, _-ᵢ_, same, less, less⁻¹, suc-<ℤ}
 use Rattle.integers.proofs.Ring.{#, _⊕_, _⊖_, _⊗_, norm, nonn}
-use Rattle.integers.proofs.Auto.{Poly, polys, cert!, cert<!, gap, gap<, _⊞_, _⊛_, _·_}
+use Rattle.integers.proofs.Auto.{Multiplied, summed, p-mul, polys, cert!, cert<!, gap, gap<, _⊞_, _⊛_, _·_}
 
 pub ≼-or-≺ : (x y : ℤ) → (x ≼ y) ⊎ (y ≺ x)
 ≼-or-≺ x y = go (decLe (up x + dn y) (up y + dn x))
@@ -31,7 +31,7 @@ pub ≼-antisym : (x y : ℤ) → x ≼ y → y ≼ x → x ≡ y
     same (int x) (int y) (omega arith)
 
 pub ≺-≼ : {x y : ℤ} → x ≺ y → x ≼ y
-≺-≼ {x} {y} h = cert! (x ∷ y ∷ []) 0 (gap< h) (search polys depth 30) (search polys depth 30) (search polys depth 30) tt
+≺-≼ {x} {y} h = cert! (x ∷ y ∷ []) 0 (gap< h) (search polys depth 30) tt
 
 -- a factor above 0 is cancelled
 pub cancel : (k x y : ℤ) → pos 0 ≺ k → k *ℤ x ≼ k *ℤ y → x ≼ y
@@ -40,18 +40,21 @@ cancel k x y hk h = go (≼-or-≺ x y)
     go : (x ≼ y) ⊎ (y ≺ x) → x ≼ y
     go (inl l) = l
     go (inr g) =
-        let bad : pos 1 ≼ pos 0 = cert! (k ∷ x ∷ y ∷ []) 0 (gap h ⊞ gap< g ⊛ gap< hk ⊞ gap< hk ⊞ gap< g) (search polys depth 30) (search polys depth 30) (search polys depth 30) tt in
+        let bad : pos 1 ≼ pos 0 = cert! (k ∷ x ∷ y ∷ []) 0 (gap h ⊞ gap< g ⊛ gap< hk ⊞ gap< hk ⊞ gap< g) (search polys depth 30) tt in
         absurd (bad .le)
 
 -- a certificate for the goal times an expression above 0
-pub cert*! : (ρ : List ℤ) (m : ℤ) → pos 0 ≺ m → {x y w : ℤ} → pos 0 ≼ w → (p : Poly ρ x) (q : Poly ρ y) (s : Poly ρ w) (r : Poly ρ m)
-    → T (nonn (norm (# 1 ⊗ (r .e ⊗ q .e ⊖ r .e ⊗ p .e) ⊕ # 0 ⊖ s .e))) → x ≼ y
-cert*! ρ m hm {x} {y} h p q s r t = cancel m x y hm (cert! ρ 0 h (record { e = r .e ⊗ p .e; is = ap₂ _*ℤ_ (r .is) (p .is) }) (record { e = r .e ⊗ q .e; is = ap₂ _*ℤ_ (r .is) (q .is) }) s t)
+pub cert*! : (ρ : List ℤ) (m : ℤ) → pos 0 ≺ m → {x y w : ℤ} → pos 0 ≼ w → (s : Multiplied ρ x y w m)
+    → T (nonn (norm (# 1 ⊗ (s .factor .e ⊗ s .sides .right .e ⊖ s .factor .e ⊗ s .sides .left .e) ⊕ # 0 ⊖ s .sides .sum .e))) → x ≼ y
+cert*! ρ m hm {x} {y} h s t =
+    cancel m x y hm
+    (cert! ρ 0 h
+    (summed (p-mul m x (s .factor) (s .sides .left)) (p-mul m y (s .factor) (s .sides .right)) (s .sides .sum)) t)
 
 -- ---- signs of products
 
 pub product-pos : (a b : ℤ) → pos 0 ≺ a → pos 0 ≺ b → pos 0 ≺ a *ℤ b
-product-pos a b h k = cert<! (a ∷ b ∷ []) 0 (gap< h ⊛ gap< k ⊞ gap< h ⊞ gap< k) (search polys depth 60 fits 100000) (search polys depth 60 fits 100000) (search polys depth 60 fits 100000) tt
+product-pos a b h k = cert<! (a ∷ b ∷ []) 0 (gap< h ⊛ gap< k ⊞ gap< h ⊞ gap< k) (search polys depth 60 fits 100000) tt
 
 -- what has a positive multiple above 0 is above 0
 pub factor-pos : (m p : ℤ) → pos 0 ≼ m → pos 0 ≺ m *ℤ p → pos 0 ≺ p
@@ -60,7 +63,7 @@ factor-pos m p hm h = go (≼-or-≺ p (pos 0))
     go : (p ≼ pos 0) ⊎ (pos 0 ≺ p) → pos 0 ≺ p
     go (inr l) = l
     go (inl g) =
-        let bad : pos 1 ≼ pos 0 = cert! (m ∷ p ∷ []) 0 (gap< h ⊞ hm ⊛ gap g) (search polys depth 60 fits 100000) (search polys depth 60 fits 100000) (search polys depth 60 fits 100000) tt in
+        let bad : pos 1 ≼ pos 0 = cert! (m ∷ p ∷ []) 0 (gap< h ⊞ hm ⊛ gap g) (search polys depth 60 fits 100000) tt in
         absurd (bad .le)
 
 -- what has no larger square is no larger (G4): x ≼ y from x² ≼ y², where y is not negative
@@ -70,7 +73,7 @@ squares-le x y hy h = go (≼-or-≺ x y)
     go : (x ≼ y) ⊎ (y ≺ x) → x ≼ y
     go (inl l) = l
     go (inr g) =
-        let bad : pos 1 ≼ pos 0 = cert! (x ∷ y ∷ []) 0 (gap h ⊞ gap< g ⊛ gap< g ⊞ 2 · gap< g ⊞ 2 · (hy ⊛ gap< g) ⊞ 2 · hy) (search polys depth 60 fits 100000) (search polys depth 60 fits 100000) (search polys depth 60 fits 100000) tt in
+        let bad : pos 1 ≼ pos 0 = cert! (x ∷ y ∷ []) 0 (gap h ⊞ gap< g ⊛ gap< g ⊞ 2 · gap< g ⊞ 2 · (hy ⊛ gap< g) ⊞ 2 · hy) (search polys depth 60 fits 100000) tt in
         absurd (bad .le)
 
 -- ---- magnitudes
@@ -119,9 +122,9 @@ pub natAbs-+ : (x y : ℤ) → natAbs (x +ℤ y) ≤ natAbs x + natAbs y
 natAbs-+ x y =
     natAbs-le (x +ℤ y) (natAbs x + natAbs y)
     (let a = natAbs-low x (natAbs x) (omega arith) in let b = natAbs-low y (natAbs y) (omega arith) in
-    cert! (x ∷ y ∷ pos (natAbs x) ∷ pos (natAbs y) ∷ []) 0 (gap a ⊞ gap b) (search polys depth 30) (search polys depth 30) (search polys depth 30) tt)
+    cert! (x ∷ y ∷ pos (natAbs x) ∷ pos (natAbs y) ∷ []) 0 (gap a ⊞ gap b) (search polys depth 30) tt)
     (let a = natAbs-high x (natAbs x) (omega arith) in let b = natAbs-high y (natAbs y) (omega arith) in
-    cert! (x ∷ y ∷ pos (natAbs x) ∷ pos (natAbs y) ∷ []) 0 (gap a ⊞ gap b) (search polys depth 30) (search polys depth 30) (search polys depth 30) tt)
+    cert! (x ∷ y ∷ pos (natAbs x) ∷ pos (natAbs y) ∷ []) 0 (gap a ⊞ gap b) (search polys depth 30) tt)
 
 pub natAbs-sub : (x y : ℤ) → natAbs (x -ℤ y) ≤ natAbs x + natAbs y
 natAbs-sub x y = subst (λ (n : ℕ). natAbs (x -ℤ y) ≤ natAbs x + n) (natAbs-neg y) (natAbs-+ x (negℤ y))

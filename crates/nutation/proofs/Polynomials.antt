@@ -51,8 +51,8 @@ reach-tail c cs = omega arith
 pub highest : (n : ℤ) (d : ℕ) → 0 < d → (c : ℤ) → polynomial n d (c ∷ []) ≡ c
 unfolding polynomial
 highest n d h c =
-    ap (λ t. c +ℤ rounded t d) (ring! (n ∷ []) {y = pos 0} (search polys depth 60 fits 100000) (search polys depth 60 fits 100000) tt)
-    ∙ ap (λ t. c +ℤ t) (rounded-zero d h) ∙ ring! (c ∷ []) (search polys depth 60 fits 100000) (search polys depth 60 fits 100000) tt
+    ap (λ t. c +ℤ rounded t d) (ring! (n ∷ []) {y = pos 0} (search polys depth 60 fits 100000) tt)
+    ∙ ap (λ t. c +ℤ t) (rounded-zero d h) ∙ ring! (c ∷ []) (search polys depth 60 fits 100000) tt
 
 -- a highest coefficient of 0 changes nothing
 pub highest-zero : (n : ℤ) (d : ℕ) → 0 < d → (c : ℤ) → polynomial n d (c ∷ pos 0 ∷ []) ≡ polynomial n d (c ∷ [])
@@ -65,7 +65,7 @@ unfolding polynomial
 polynomial-scale k hk n d h [] = refl
 polynomial-scale k hk n d h (c ∷ cs) =
     ap (λ t. c +ℤ rounded (t *ℤ (pos k *ℤ n)) (k * d)) (polynomial-scale k hk n d h cs)
-    ∙ ap (λ t. c +ℤ rounded t (k * d)) (ring! (pos k ∷ n ∷ polynomial n d cs ∷ []) {y = pos k *ℤ (polynomial n d cs *ℤ n)} (search polys depth 60 fits 100000) (search polys depth 60 fits 100000) tt)
+    ∙ ap (λ t. c +ℤ rounded t (k * d)) (ring! (pos k ∷ n ∷ polynomial n d cs ∷ []) {y = pos k *ℤ (polynomial n d cs *ℤ n)} (search polys depth 60 fits 100000) tt)
     ∙ ap (λ t. c +ℤ t) (rounded-scale k (polynomial n d cs *ℤ n) d hk h)
 
 -- ---- a value that was worked out, and one coefficient more

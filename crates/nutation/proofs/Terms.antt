@@ -45,7 +45,7 @@ less-small a = let h = modulo-lt a argument-turn (lit< tt) in omega arith
 sum-split : (D a b c d e qa qb qc qd qe ra rb rc rd re A B C E F : ℤ) → D *ℤ qa +ℤ ra ≡ A → D *ℤ qb +ℤ rb ≡ B → D *ℤ qc +ℤ rc ≡ C → D *ℤ qd +ℤ rd ≡ E → D *ℤ qe +ℤ re ≡ F
     → D *ℤ (a *ℤ qa +ℤ b *ℤ qb +ℤ c *ℤ qc +ℤ d *ℤ qd +ℤ e *ℤ qe) +ℤ (a *ℤ ra +ℤ b *ℤ rb +ℤ c *ℤ rc +ℤ d *ℤ rd +ℤ e *ℤ re) ≡ a *ℤ A +ℤ b *ℤ B +ℤ c *ℤ C +ℤ d *ℤ E +ℤ e *ℤ F
 sum-split D a b c d e qa qb qc qd qe ra rb rc rd re A B C E F h1 h2 h3 h4 h5 =
-    ring! (D ∷ a ∷ b ∷ c ∷ d ∷ e ∷ qa ∷ qb ∷ qc ∷ qd ∷ qe ∷ ra ∷ rb ∷ rc ∷ rd ∷ re ∷ []) {y = a *ℤ (D *ℤ qa +ℤ ra) +ℤ b *ℤ (D *ℤ qb +ℤ rb) +ℤ c *ℤ (D *ℤ qc +ℤ rc) +ℤ d *ℤ (D *ℤ qd +ℤ rd) +ℤ e *ℤ (D *ℤ qe +ℤ re)} (search polys depth 60 fits 100000) (search polys depth 60 fits 100000) tt
+    ring! (D ∷ a ∷ b ∷ c ∷ d ∷ e ∷ qa ∷ qb ∷ qc ∷ qd ∷ qe ∷ ra ∷ rb ∷ rc ∷ rd ∷ re ∷ []) {y = a *ℤ (D *ℤ qa +ℤ ra) +ℤ b *ℤ (D *ℤ qb +ℤ rb) +ℤ c *ℤ (D *ℤ qc +ℤ rc) +ℤ d *ℤ (D *ℤ qd +ℤ rd) +ℤ e *ℤ (D *ℤ qe +ℤ re)} (search polys depth 60 fits 100000) tt
     ∙ ap₂ _+ℤ_ (ap₂ _+ℤ_ (ap₂ _+ℤ_ (ap₂ _+ℤ_ (ap (λ t. a *ℤ t) h1) (ap (λ t. b *ℤ t) h2)) (ap (λ t. c *ℤ t) h3)) (ap (λ t. d *ℤ t) h4)) (ap (λ t. e *ℤ t) h5)
 
 turned-arguments : ℤ → Row → ℤ
@@ -70,7 +70,7 @@ sum-turns t r =
 turn-out : (k m : ℤ) → units-angle argument-turn (pos argument-turn *ℤ k +ℤ m) ≡ pos turn *ℤ k +ℤ units-angle argument-turn m
 unfolding units-angle
 turn-out k m =
-    ap (λ z. rounded z argument-turn) (ring! (k ∷ m ∷ []) {y = pos argument-turn *ℤ (pos turn *ℤ k) +ℤ m *ℤ pos turn} (search polys depth 60 fits 100000) (search polys depth 60 fits 100000) tt)
+    ap (λ z. rounded z argument-turn) (ring! (k ∷ m ∷ []) {y = pos argument-turn *ℤ (pos turn *ℤ k) +ℤ m *ℤ pos turn} (search polys depth 60 fits 100000) tt)
     ∙ rounded-add (pos turn *ℤ k) (m *ℤ pos turn) argument-turn (lit< tt)
 
 pub cosine-left : (k m s : ℤ) → pos argument-turn *ℤ k +ℤ m ≡ s → cosine (units-angle argument-turn m) ≡ cosine (units-angle argument-turn s)
@@ -101,7 +101,7 @@ left-angle m =
 pub coefficient-is : (t first rate r : ℤ) → r ≡ pos 10 *ℤ first +ℤ rounded (rate *ℤ t) 3155760000000 → r ≡ coefficient t first rate
 unfolding coefficient
 coefficient-is t first rate r e =
-    e ∙ ap (λ z. pos 10 *ℤ first +ℤ z) (sym (ap (λ z. rounded z millennium) (ring! (t ∷ rate ∷ []) {y = pos 10 *ℤ (rate *ℤ t)} (search polys depth 60 fits 100000) (search polys depth 60 fits 100000) tt) ∙ rounded-scale 10 (rate *ℤ t) 3155760000000 (lit< tt) (lit< tt)))
+    e ∙ ap (λ z. pos 10 *ℤ first +ℤ z) (sym (ap (λ z. rounded z millennium) (ring! (t ∷ rate ∷ []) {y = pos 10 *ℤ (rate *ℤ t)} (search polys depth 60 fits 100000) tt) ∙ rounded-scale 10 (rate *ℤ t) 3155760000000 (lit< tt) (lit< tt)))
 
 pub ten-times : (first : ℤ) → natAbs first ≤ 171996 → natAbs (pos 10 *ℤ first) ≤ 1719960
 ten-times first h = omega (arith, natAbs-* (pos 10) first)
@@ -146,4 +146,4 @@ combined-from r a s1 s2 s3 s4 s5 e1 e2 e3 e4 e5 =
     ∙ ap (λ z. z +ℤ times-node r *ℤ a .node) (e4 ∙ ap (λ z. z +ℤ times-f r *ℤ a .latitude) (e3 ∙ ap (λ z. z +ℤ times-m1 r *ℤ a .moon) (e2 ∙ ap (λ z. z +ℤ times-m r *ℤ a .sun) (e1 ∙ zero-left (times-d r *ℤ a .elongation)))))
   where
     zero-left : (z : ℤ) → pos 0 +ℤ z ≡ z
-    zero-left z = ring! (z ∷ []) (search polys depth 60 fits 100000) (search polys depth 60 fits 100000) tt
+    zero-left z = ring! (z ∷ []) (search polys depth 60 fits 100000) tt

@@ -8,16 +8,16 @@ use borrow.Author.Tests.{ltb-true, leb-true}
 use lib.Dec.{leb, ltb}
 use lib.IntN.{ℤ, natAbs}
 use lib.ListN.{drop}
-use Rattle.units.specs.Units.{a-limit, b-limit, c-limit}
+use Rattle.units.specs.Units.{a-limit, b-limit, c-limit, total-limit, coarse-limit}
 use Rattle.units.specs.declared.Refusal.{Refusal}
 use Rattle.units.specs.declared.Refusal.the-variants.{OverLimit, TotalOverLimit, TooCoarse}
 use Rattle.packed_numbers.specs.Numbers.{Read, got, bad, next, number, folded, unfolded}
 use Rattle.packed_numbers.specs.machine.Answers.{plain}
 use Rattle.packed_numbers.proofs.Folding.{folded-unfolded, unfolded-folded}
 use Rattle.packed_numbers.proofs.Reading.{After, moved}
-use Rattle.packed.specs.declared.Term.{Term}
-use Rattle.packed.specs.declared.Tally.{Tally}
-use Rattle.packed.specs.Limits.{total-limit, coarse-limit, weight, a-fits, b-fits, c-fits, total-fits, coarse-fits}
+use Rattle.limits.specs.declared.Term.{Term}
+use Rattle.limits.specs.declared.Tally.{Tally}
+use Rattle.limits.specs.Limits.{weight, a-fits, b-fits, c-fits, total-fits, coarse-fits}
 use Rattle.packed.specs.Series.{judged, read-a, read-b, read-c, read-term}
 use Rattle.packed.specs.machine.Answers.{shown-term, term-of}
 use Rattle.packed.specs.declared.terms.TermRead.the-variants.{Found, Wrong}

@@ -10,9 +10,10 @@ use lib.IntN.{ℤ}
 use Rattle.units.specs.declared.Refusal.{Refusal}
 use Rattle.units.specs.declared.Refusal.the-variants.{OverLimit, TotalOverLimit, TooCoarse}
 use Rattle.packed_numbers.specs.Numbers.{Read, got, bad, next, closed, groups-from, number, unfolded}
-use Rattle.packed.specs.declared.Term.{Term}
-use Rattle.packed.specs.declared.Tally.{Tally}
-use Rattle.packed.specs.Limits.{no-tally, block-count, opened, added, factor, count-fits, a-fits, b-fits, c-fits, total-fits, coarse-fits}
+use Rattle.units.specs.Units.{block-count}
+use Rattle.limits.specs.declared.Term.{Term}
+use Rattle.limits.specs.declared.Tally.{Tally}
+use Rattle.limits.specs.Limits.{no-tally, opened, added, factor, count-fits, a-fits, b-fits, c-fits, total-fits, coarse-fits}
 use Rattle.packed.specs.Series.{judged, read-a, read-b, read-c, read-term, read-terms, read-block, read-blocks, read-series, after-block}
 
 -- The answer on x, and that on x ++ y.

@@ -13,9 +13,10 @@ use Rattle.units.specs.declared.Refusal.{Refusal}
 use Rattle.units.specs.declared.Refusal.the-variants.{OverLimit}
 use Rattle.packed_numbers.specs.Numbers.{Read, got, bad, next, number}
 use Rattle.packed_numbers.proofs.Reading.{After, moved, later, next-after, number-after}
-use Rattle.packed.specs.declared.Term.{Term}
-use Rattle.packed.specs.declared.Tally.{Tally}
-use Rattle.packed.specs.Limits.{total-limit, coarse-limit, coarse-base, block-limit, series-limit, powers, factor, opened, added, count-fits}
+use Rattle.units.specs.Units.{total-limit, coarse-limit, coarse-base, block-limit, series-limit, powers}
+use Rattle.limits.specs.declared.Term.{Term}
+use Rattle.limits.specs.declared.Tally.{Tally}
+use Rattle.limits.specs.Limits.{factor, opened, added, count-fits}
 use Rattle.packed.specs.Series.{judged, read-term, read-terms, read-block, summed, after-block}
 use Rattle.packed.specs.machine.Answers.{walked}
 use Rattle.packed.proofs.Judging.{judged-after, term-after}

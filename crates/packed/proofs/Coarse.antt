@@ -8,9 +8,10 @@ use borrow.Author.Tests.{eq-eqb, ne-eqb}
 use lib.Dec.{eqb}
 use lib.ListN.{length, take, drop, drop-of-length-le}
 use lib.Seq.{drop-drop}
-use Rattle.packed.specs.declared.Term.{Term}
-use Rattle.packed.specs.Limits.{powers, block-count, coarse-base, coarse-limit, factor}
-use Rattle.packed.specs.Allowed.{coarseness, coordinate}
+use Rattle.units.specs.Units.{powers, block-count, coarse-base, coarse-limit}
+use Rattle.limits.specs.declared.Term.{Term}
+use Rattle.limits.specs.Limits.{factor}
+use Rattle.limits.specs.Allowed.{coarseness, coordinate}
 use Rattle.packed.proofs.Limits.{burden}
 
 -- The coarseness sum before the terms of block k: at power 0 a new coordinate begins.

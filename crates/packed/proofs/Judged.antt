@@ -4,11 +4,13 @@ use mathlib.Core.List.{List, [], _∷_}
 use Prim.Native.Nat.{ℕ, zero, suc, _+_, _≤_, _<_}
 use native.Mathlib.Omega.{arith}
 use lib.ListN.{length, getD}
-use Rattle.packed.specs.declared.Term.{Term}
-use Rattle.packed.specs.declared.Tally.{Tally}
-use Rattle.packed.specs.Limits.{block-limit, series-limit, total-limit, block-count, coarse-base, coarse-limit, factor, opened, no-tally}
-use Rattle.packed.specs.Series.{after-block, term-count}
-use Rattle.packed.specs.Allowed.{total-of, BlockFits, Allowed}
+use Rattle.units.specs.Units.{block-limit, series-limit, total-limit, block-count, coarse-base, coarse-limit}
+use Rattle.limits.specs.declared.Term.{Term}
+use Rattle.limits.specs.declared.Tally.{Tally}
+use Rattle.limits.specs.Limits.{factor, opened, no-tally}
+use Rattle.packed.specs.Series.{after-block}
+use Rattle.limits.specs.Allowed.{term-count}
+use Rattle.limits.specs.Allowed.{total-of, BlockFits, Allowed}
 use Rattle.packed.proofs.Blocks.{opened-within, summed-terms}
 use Rattle.packed.proofs.Limits.{burden, GoodTerms, terms-fit, terms-total, terms-coarse, terms-good, summed-coarse}
 use Rattle.packed.proofs.Coarse.{start, Coarse, no-blocks, a-block, coarse-coordinate, coarse-blocks}

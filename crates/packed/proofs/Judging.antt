@@ -10,13 +10,13 @@ use borrow.Author.Tests.{lt-ltb, le-ltb, lt-leb, le-leb, eq-eqb, ne-eqb}
 use lib.IntN.{ℤ, natAbs}
 use lib.ListN.{drop}
 use Rattle.integers.proofs.Tests.{both}
-use Rattle.units.specs.Units.{U, a-limit, b-limit, c-limit}
+use Rattle.units.specs.Units.{U, a-limit, b-limit, c-limit, total-limit, coarse-limit, coarse-share}
 use Rattle.units.specs.declared.Refusal.{Refusal}
 use Rattle.units.specs.declared.Refusal.the-variants.{OverLimit, TotalOverLimit, TooCoarse}
 use Rattle.packed_numbers.specs.Numbers.{Read, got, bad, next, number, unfolded}
 use Rattle.packed_numbers.proofs.Reading.{After, moved, stopped, cond-after, next-after, number-after, later}
-use Rattle.packed.specs.declared.Tally.{Tally}
-use Rattle.packed.specs.Limits.{total-limit, coarse-limit, coarse-share, constant, weight, a-fits, b-fits, c-fits, total-fits, coarse-fits, term-may-come}
+use Rattle.limits.specs.declared.Tally.{Tally}
+use Rattle.limits.specs.Limits.{constant, weight, a-fits, b-fits, c-fits, total-fits, coarse-fits, term-may-come}
 use Rattle.packed.specs.Series.{judged, read-a, read-b, read-c, read-term}
 use Rattle.packed.specs.machine.Answers.{term-of}
 

@@ -6,12 +6,12 @@ use Prim.Native.Nat.{ℕ, _+_, _*_, _≤_}
 use native.Mathlib.Nat.{mul-add}
 use native.Mathlib.Omega.{arith}
 use lib.IntN.{natAbs}
-use Rattle.units.specs.Units.{U}
-use Rattle.packed.specs.declared.Term.{Term}
-use Rattle.packed.specs.declared.Tally.{Tally}
-use Rattle.packed.specs.Limits.{total-limit, constant, weight, coarse-share, coarse-limit, added}
+use Rattle.units.specs.Units.{U, total-limit, coarse-share, coarse-limit}
+use Rattle.limits.specs.declared.Term.{Term}
+use Rattle.limits.specs.declared.Tally.{Tally}
+use Rattle.limits.specs.Limits.{constant, weight, added}
 use Rattle.packed.specs.Series.{summed}
-use Rattle.packed.specs.Allowed.{AllFit, none, more, total-of, moving-total, moving-count}
+use Rattle.limits.specs.Allowed.{AllFit, none, more, total-of, moving-total, moving-count}
 use Rattle.packed.proofs.Accepting.{GoodTerm}
 
 -- What a block adds to the coarseness sum, at factor f.

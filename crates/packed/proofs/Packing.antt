@@ -10,8 +10,8 @@ use Rattle.units.specs.Units.{c-limit}
 use Rattle.packed_numbers.specs.Numbers.{Read, got, next, number, encode, folded}
 use Rattle.packed_numbers.proofs.Folding.{folded-natAbs}
 use Rattle.packed_numbers.proofs.Shortest.{AllBytes, bytes-append, encode-bytes, number-encoded, number-encodes}
-use Rattle.packed.specs.declared.Term.{Term}
-use Rattle.packed.specs.declared.Tally.{Tally}
+use Rattle.limits.specs.declared.Term.{Term}
+use Rattle.limits.specs.declared.Tally.{Tally}
 use Rattle.packed.specs.Series.{read-term, read-terms, read-block, read-blocks, after-block, pack-term, pack-terms, pack-block, pack}
 use Rattle.packed.proofs.Accepting.{GoodTerm, term-accepted, term-made, next-got}
 use Rattle.packed.proofs.Blocks.{TermsAt, no-terms, a-term, block-accepted, block-got}

@@ -5,10 +5,10 @@ use Prim.Native.Nat.{ℕ, zero, suc, _+_, _-_, _≤_, _<_}
 use native.Mathlib.Omega.{arith}
 use lib.IntN.{ℤ}
 use lib.ListN.{length, getD}
-use Rattle.packed.specs.declared.Term.{Term}
-use Rattle.packed.specs.Limits.{series-limit, block-count}
-use Rattle.packed.specs.Series.{term-count}
-use Rattle.packed.specs.Allowed.{TermFits, AllFit, more, Allowed}
+use Rattle.limits.specs.declared.Term.{Term}
+use Rattle.units.specs.Units.{series-limit, block-count}
+use Rattle.limits.specs.Allowed.{term-count}
+use Rattle.limits.specs.Allowed.{TermFits, AllFit, more, Allowed}
 use Rattle.packed.specs.machine.Tables.{term-at, terms-at, blocks-at, table-blocks, block-ends, Holds}
 
 -- Where block j starts: where the one before it ends.

@@ -6,8 +6,8 @@ use native.Mathlib.Numerals.{add-one}
 use native.Mathlib.Omega.{arith}
 use lib.IntN.{ℤ, pos}
 use lib.ListN.{length, getD, take, drop, take-append-drop}
-use Rattle.packed.specs.declared.Term.{Term}
-use Rattle.packed.specs.Series.{term-count}
+use Rattle.limits.specs.declared.Term.{Term}
+use Rattle.limits.specs.Allowed.{term-count}
 use Rattle.packed.specs.machine.Tables.{term-at, terms-at, blocks-at, block-ends, table-blocks}
 use Rattle.packed.specs.machine.Answers.{a-of, b-of, c-of}
 

@@ -7,10 +7,11 @@ use lib.ListN.{replicate}
 use Rattle.units.specs.declared.Refusal.the-variants.{NotShortest}
 use Rattle.packed_numbers.specs.Numbers.{Read, got, bad, next, closed, groups-from, number, groups, encode}
 use Rattle.packed_numbers.proofs.Shortest.{AllBytes}
-use Rattle.packed.specs.declared.Term.{Term}
-use Rattle.packed.specs.Limits.{block-count, no-tally, opened, count-fits}
+use Rattle.units.specs.Units.{block-count}
+use Rattle.limits.specs.declared.Term.{Term}
+use Rattle.limits.specs.Limits.{no-tally, opened, count-fits}
 use Rattle.packed.specs.Series.{accepted, refused, judged, read-terms, read-block, summed, after-block, read-blocks, read-series, ended, parse, pack}
-use Rattle.packed.specs.Allowed.{Allowed}
+use Rattle.limits.specs.Allowed.{Allowed}
 use Rattle.packed.proofs.Judged.{good-allowed, allowed-good}
 use Rattle.packed.proofs.Packing.{blocks-begin, blocks-are-good, blocks-packed}
 

@@ -10,11 +10,13 @@ use lib.Seq.{take-suc-set, take-all, drop-cons}
 use Rattle.units.specs.declared.Refusal.{Refusal}
 use Rattle.units.specs.declared.Refusal.the-variants.{ByteAfterEnd}
 use Rattle.packed_numbers.specs.Numbers.{Read, got, bad, next}
-use Rattle.packed.specs.declared.Term.{Term}
-use Rattle.packed.specs.declared.Tally.{Tally}
+use Rattle.units.specs.Units.{coarse-limit, series-limit, block-count}
+use Rattle.limits.specs.declared.Term.{Term}
+use Rattle.limits.specs.declared.Tally.{Tally}
 use Rattle.packed.specs.declared.Checked.the-variants.{Terms, NoSeries}
-use Rattle.packed.specs.Limits.{coarse-limit, series-limit, block-count, no-tally}
-use Rattle.packed.specs.Series.{read-block, read-blocks, read-series, after-block, accepted, refused, ended, parse, checked, term-count}
+use Rattle.limits.specs.Limits.{no-tally}
+use Rattle.packed.specs.Series.{read-block, read-blocks, read-series, after-block, accepted, refused, ended, parse, checked}
+use Rattle.limits.specs.Allowed.{term-count}
 use Rattle.packed.specs.machine.Tables.{Sized, Holds, block-ends, unpacked}
 use Rattle.packed.specs.machine.Answers.{filled, Filled, a-of, b-of, c-of}
 use Rattle.packed.proofs.Walking.{Stepped, joined, joined-none, joined-more}

@@ -14,10 +14,11 @@ use lib.Seq.{take-suc-set}
 use Rattle.units.specs.declared.Refusal.{Refusal}
 use Rattle.packed_numbers.specs.Numbers.{Read, got, bad, next}
 use Rattle.packed_numbers.proofs.Reading.{After, moved}
-use Rattle.packed.specs.declared.Term.{Term}
-use Rattle.packed.specs.declared.Tally.{Tally}
+use Rattle.units.specs.Units.{total-limit, coarse-limit, series-limit}
+use Rattle.limits.specs.declared.Term.{Term}
+use Rattle.limits.specs.declared.Tally.{Tally}
 use Rattle.packed.specs.declared.table.Walk.the-variants.{Moved, Stopped}
-use Rattle.packed.specs.Limits.{total-limit, coarse-limit, series-limit, added}
+use Rattle.limits.specs.Limits.{added}
 use Rattle.packed.specs.Series.{read-term, read-terms, summed}
 use Rattle.packed.specs.machine.Tables.{Sized}
 use Rattle.packed.specs.machine.Answers.{walked, stored, filled, Filled, a-of, b-of, c-of}

@@ -8,11 +8,13 @@ use lib.ListN.{length}
 use Rattle.units.specs.declared.Refusal.{Refusal}
 use Rattle.units.specs.declared.Refusal.the-variants.{OverLimit, TotalOverLimit, TooCoarse, ByteAfterEnd}
 use Rattle.packed_numbers.specs.Numbers.{Read, got, bad, next, number, encode, folded, unfolded}
-use Rattle.packed.specs.declared.Term.{Term}
+use Rattle.units.specs.Units.{block-count}
+use Rattle.limits.specs.declared.Term.{Term}
 use Rattle.packed.specs.declared.Checked.{Checked}
 use Rattle.packed.specs.declared.Checked.the-variants.{Terms, NoSeries}
-use Rattle.packed.specs.declared.Tally.{Tally}
-use Rattle.packed.specs.Limits.{no-tally, opened, added, factor, count-fits, a-fits, b-fits, c-fits, total-fits, coarse-fits, block-count}
+use Rattle.limits.specs.declared.Tally.{Tally}
+use Rattle.limits.specs.Allowed.{term-count}
+use Rattle.limits.specs.Limits.{no-tally, opened, added, factor, count-fits, a-fits, b-fits, c-fits, total-fits, coarse-fits}
 
 -- A value that passes a test, or the refusal with the offset of the last byte before at.
 unfoldable pub judged : {A : Type 0} → Bool → (ℕ → Refusal) → ℕ → Read A → Read A
@@ -83,11 +85,7 @@ ended (bad r) = refused r
 unfoldable pub parse : List ℕ → Parsed
 parse bytes = ended (read-series 0 bytes)
 
--- The number of terms, and what a check of a packed series answers.
-unfoldable pub term-count : List (List Term) → ℕ
-term-count [] = 0
-term-count (ts ∷ blocks) = length ts + term-count blocks
-
+-- What a check of a packed series answers.
 unfoldable pub checked : Parsed → Checked
 checked (accepted blocks) = Terms (term-count blocks)
 checked (refused r) = NoSeries r

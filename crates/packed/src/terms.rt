@@ -1,6 +1,6 @@
 // The numbers of a packed series read and judged, up to a whole term. For this crate alone.
 use crate::Checked;
-use crate::Tally;
+use limits::Tally;
 use packed_numbers::Number;
 use packed_numbers::magnitude;
 use packed_numbers::number_at;
@@ -11,10 +11,10 @@ ghost use mathlib.Core.Path.{_≡_};
 ghost use lib.IntN.{natAbs};
 ghost use lib.ListN.{length};
 ghost use Prim.Native.Nat.{_+_, _-_, _<_, _≤_};
-ghost use Rattle.units.specs.Units.{a-limit};
+ghost use Rattle.units.specs.Units.{a-limit, total-limit, coarse-limit, series-limit, block-count};
 ghost use Rattle.packed_numbers.specs.Numbers.{folded, unfolded};
 ghost use Rattle.packed_numbers.specs.machine.Answers.{shown, plain, at-offset};
-ghost use Rattle.packed.specs.Limits.{total-limit, coarse-limit, series-limit, block-count, factor, weight, added, opened, term-may-come};
+ghost use Rattle.limits.specs.Limits.{factor, weight, added, opened, term-may-come};
 ghost use Rattle.packed.specs.Series.{read-a, read-b, read-c, read-term, read-terms, summed, read-block, after-block, parse, checked};
 ghost use Rattle.packed.specs.machine.Tables.{Sized, unpacked};
 ghost use Rattle.packed.specs.machine.Answers.{shown-term, term-of, walked, Stored, Filled};

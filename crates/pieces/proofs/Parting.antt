@@ -8,14 +8,13 @@ use lib.ListN.{length, getD, set}
 use mir.Syntax.{w64}
 use mir.Val.{SFits}
 use Rattle.arith.proofs.Cells.{Cell}
-use Rattle.units.specs.Units.{U, a-limit}
+use Rattle.units.specs.Units.{U, a-limit, series-limit}
 use Rattle.cosine.specs.Cosine.{even-part, odd-part}
 use Rattle.cosine.specs.machine.Parity.{even-value, odd-value, half-value, InRange}
 use Rattle.cosine.specs.Terms.{term-value}
 use Rattle.cosine.specs.declared.term.Worked.{Worked}
-use Rattle.packed.specs.declared.Term.{Term}
-use Rattle.packed.specs.Limits.{series-limit}
-use Rattle.packed.specs.Allowed.{BlockFits}
+use Rattle.limits.specs.declared.Term.{Term}
+use Rattle.limits.specs.Allowed.{BlockFits}
 use Rattle.packed.specs.machine.Tables.{terms-at}
 use Rattle.pieces.specs.declared.Counts.{Counts}
 use Rattle.pieces.specs.Sums.{block-sum}

@@ -12,8 +12,8 @@ use Rattle.units.specs.Units.{U}
 use Rattle.cosine.specs.Cosine.{cosine}
 use Rattle.cosine.specs.Terms.{term-angle, term-cosine, term-value}
 use Rattle.cosine.proofs.Ranges.{cosine-size}
-use Rattle.packed.specs.declared.Term.{Term}
-use Rattle.packed.specs.Allowed.{total-of}
+use Rattle.limits.specs.declared.Term.{Term}
+use Rattle.limits.specs.Allowed.{total-of}
 use Rattle.pieces.specs.Sums.{block-sum}
 
 -- 0 in any share is 0

@@ -7,11 +7,10 @@ use lib.IntN.{ℤ, pos, natAbs, _+ℤ_, +ℤ-assoc, +ℤ-idl, +ℤ-idr}
 use lib.ListN.{length, getD}
 use Rattle.integers.proofs.Order.{natAbs-+}
 use Rattle.arith.proofs.Cells.{Cell, cell}
-use Rattle.units.specs.Units.{a-limit, b-limit, c-limit}
+use Rattle.units.specs.Units.{a-limit, b-limit, c-limit, total-limit, series-limit}
 use Rattle.cosine.specs.Terms.{term-value}
-use Rattle.packed.specs.declared.Term.{Term}
-use Rattle.packed.specs.Limits.{total-limit, series-limit}
-use Rattle.packed.specs.Allowed.{TermFits, AllFit, none, more, BlockFits, total-of}
+use Rattle.limits.specs.declared.Term.{Term}
+use Rattle.limits.specs.Allowed.{TermFits, AllFit, none, more, BlockFits, total-of}
 use Rattle.packed.specs.machine.Tables.{term-at, terms-at}
 use Rattle.pieces.specs.Sums.{block-sum}
 use Rattle.pieces.specs.machine.Parted.{piece-limit}

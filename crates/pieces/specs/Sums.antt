@@ -2,7 +2,7 @@
 use mathlib.Core.List.{List, [], _∷_}
 use lib.IntN.{ℤ, pos, _+ℤ_}
 use Rattle.cosine.specs.Terms.{term-value}
-use Rattle.packed.specs.declared.Term.{Term}
+use Rattle.limits.specs.declared.Term.{Term}
 
 -- "S_i is the sum of block i."
 unfoldable pub block-sum : ℤ → List Term → ℤ

@@ -10,7 +10,7 @@ use Rattle.units.specs.declared.Instant.{Instant}
 use Rattle.units.specs.declared.Coordinates.{Coordinates}
 use Rattle.units.specs.declared.Refusal.{Refusal}
 use Rattle.units.specs.declared.Refusal.the-variants.{PastLimit, NotUsable}
-use Rattle.packed.specs.declared.Term.{Term}
+use Rattle.limits.specs.declared.Term.{Term}
 use Rattle.packed.specs.Series.{Parsed, accepted, refused, parse}
 use Rattle.series.specs.Sums.{coordinates}
 use Rattle.place.specs.declared.Geocentric.{Geocentric}

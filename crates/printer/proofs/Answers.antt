@@ -8,10 +8,11 @@ use lib.IntN.{ℤ}
 use lib.ListN.{length}
 use Rattle.units.specs.declared.Refusal.{Refusal}
 use Rattle.units.specs.declared.Refusal.the-variants.{NoRoom}
-use Rattle.packed.specs.declared.Term.{Term}
+use Rattle.limits.specs.declared.Term.{Term}
 use Rattle.packed.specs.declared.Checked.the-variants.{NoSeries}
-use Rattle.packed.specs.Limits.{series-limit}
-use Rattle.packed.specs.Series.{Parsed, accepted, refused, parse, checked, term-count}
+use Rattle.units.specs.Units.{series-limit}
+use Rattle.packed.specs.Series.{Parsed, accepted, refused, parse, checked}
+use Rattle.limits.specs.Allowed.{term-count}
 use Rattle.packed.specs.machine.Tables.{table-blocks, unpacked}
 use Rattle.packed.proofs.Theorems.{accepted-allowed}
 use Rattle.printer.specs.declared.Printed.the-variants.{Length, NoText}

@@ -8,9 +8,9 @@ use lib.IntN.{natAbs}
 use lib.ListN.{length, length-append}
 use Rattle.integers.specs.Signs.{negative}
 use Rattle.units.specs.Units.{parts}
-use Rattle.packed.specs.declared.Term.{Term}
-use Rattle.packed.specs.declared.Tally.{Tally}
-use Rattle.packed.specs.Series.{term-count}
+use Rattle.limits.specs.declared.Term.{Term}
+use Rattle.limits.specs.declared.Tally.{Tally}
+use Rattle.limits.specs.Allowed.{term-count}
 use Rattle.packed.proofs.Accepting.{GoodTerm}
 use Rattle.packed.proofs.Limits as limits
 use Rattle.packed.proofs.Judged as judged

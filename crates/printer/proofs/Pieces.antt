@@ -8,7 +8,7 @@ use native.Mathlib.Omega.{arith}
 use lib.IntN.{natAbs}
 use lib.ListN.{length}
 use Rattle.integers.specs.Signs.{negative}
-use Rattle.packed.specs.declared.Term.{Term}
+use Rattle.limits.specs.declared.Term.{Term}
 use Rattle.text.specs.Grammar.{spaces, sign, digits, decimal, term-bytes}
 use Rattle.printer.specs.Printer.{last-digits, plain-decimal, plain-term}
 use Rattle.printer.specs.machine.Writing.{Room, Wrote, whole-text, line-text}

@@ -5,9 +5,9 @@ use mathlib.Core.List.{List, [], _∷_, map}
 use Prim.Native.Nat.{ℕ, _+_}
 use native.Mathlib.Omega.{arith}
 use lib.ListN.{length, length-map}
-use Rattle.packed.specs.declared.Term.{Term}
-use Rattle.packed.specs.declared.Tally.{Tally}
-use Rattle.packed.specs.Limits.{factor, opened, added}
+use Rattle.limits.specs.declared.Term.{Term}
+use Rattle.limits.specs.declared.Tally.{Tally}
+use Rattle.limits.specs.Limits.{factor, opened, added}
 use Rattle.packed.specs.Series.{after-block}
 use Rattle.packed.proofs.Limits as limits
 use Rattle.packed.proofs.Judged as judged

@@ -8,9 +8,9 @@ use native.Mathlib.Omega.{arith}
 use lib.IntN.{ℤ, pos}
 use lib.ListN.{length, getD, drop, drop-of-length-le, length-append}
 use lib.Seq.{drop-cons}
-use Rattle.packed.specs.declared.Term.{Term}
-use Rattle.packed.specs.Limits.{series-limit}
-use Rattle.packed.specs.Series.{term-count}
+use Rattle.limits.specs.declared.Term.{Term}
+use Rattle.units.specs.Units.{series-limit}
+use Rattle.limits.specs.Allowed.{term-count}
 use Rattle.packed.specs.machine.Tables.{term-at, terms-at, blocks-at, block-ends, table-blocks}
 use Rattle.text.specs.Grammar.{term-bytes, lines-bytes, count-bytes, blocks-bytes}
 use Rattle.printer.specs.Printer.{plain-count, plain-term, plain-block, plain-text}

@@ -7,8 +7,8 @@ use borrow.Author.Tests.{le-leb}
 use lib.ListN.{length, take, replicate, length-replicate, length-map}
 use lib.Seq.{sets}
 use Rattle.packed_numbers.proofs.Shortest.{AllBytes}
-use Rattle.packed.specs.declared.Term.{Term}
-use Rattle.packed.specs.Limits.{no-tally}
+use Rattle.limits.specs.declared.Term.{Term}
+use Rattle.limits.specs.Limits.{no-tally}
 use Rattle.packed.specs.Series.{accepted, parse, pack}
 use Rattle.packed.proofs.Judged.{allowed-good}
 use Rattle.packed.proofs.Theorems.{accepted-allowed, pack-parse, parse-pack}

@@ -10,7 +10,7 @@ use lib.Seq.{sets}
 use Rattle.integers.specs.Signs.{negative}
 use Rattle.units.specs.Units as units
 use Rattle.units.specs.declared.Refusal.the-variants.{NoRoom}
-use Rattle.packed.specs.declared.Term.{Term}
+use Rattle.limits.specs.declared.Term.{Term}
 use Rattle.packed.specs.Series.{Parsed, accepted, refused}
 use Rattle.text.specs.Grammar.{Decimal, CountLine, TermLine, Block, blocks-bytes}
 use Rattle.printer.specs.declared.Printed.{Printed}

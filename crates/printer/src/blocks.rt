@@ -7,7 +7,7 @@ use crate::lines::put_lines;
 ghost use mathlib.Core.Path.{_≡_};
 ghost use lib.ListN.{length};
 ghost use Prim.Native.Nat.{_+_, _-_, _*_, _≤_};
-ghost use Rattle.packed.specs.Limits.{series-limit, block-count};
+ghost use Rattle.units.specs.Units.{series-limit, block-count};
 ghost use Rattle.packed.specs.machine.Tables.{Sized, terms-at, table-blocks};
 ghost use Rattle.printer.specs.Printer.{plain-text};
 ghost use Rattle.printer.specs.machine.Writing.{Room, Wrote, block-text, Ordered};

@@ -10,7 +10,7 @@ use packed::table::unpack;
 use units::Refusal;
 ghost use mathlib.Core.Path.{_≡_};
 ghost use lib.ListN.{length};
-ghost use Rattle.packed.specs.Limits.{block-count};
+ghost use Rattle.units.specs.Units.{block-count};
 ghost use Rattle.packed.specs.Series.{accepted, parse};
 ghost use Rattle.packed.specs.machine.Tables.{Sized, table-blocks};
 ghost use Rattle.printer.specs.Printer.{printed, printed-out};

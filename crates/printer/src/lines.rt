@@ -7,7 +7,7 @@ use arith::signed::is_neg;
 ghost use mathlib.Core.Path.{_≡_};
 ghost use lib.ListN.{length};
 ghost use Prim.Native.Nat.{_+_, _-_, _*_, _≤_};
-ghost use Rattle.packed.specs.Limits.{series-limit};
+ghost use Rattle.units.specs.Units.{series-limit};
 ghost use Rattle.packed.specs.machine.Tables.{Sized, terms-at};
 ghost use Rattle.printer.specs.machine.Writing.{Room, Wrote, term, line-text, lines-text};
 

@@ -117,7 +117,7 @@ pub three : {x x′ y y′ z z′ : ℤ} → x ≡ x′ → y ≡ y′ → z ≡
 three {x} {x′} {y} {y′} {z} {z′} p q r = rw (p, q, r)
 
 pub minus-is : (y z : ℤ) → natAbs y ≤ 2 ^ 61 → z ≡ pos 0 -ℤ Cell y → Cell z ≡ negℤ y
-minus-is y z h e = difference-is (pos 0) y z (omega arith) h e ∙ ring! (y ∷ []) (search polys depth 30) (search polys depth 30) tt
+minus-is y z h e = difference-is (pos 0) y z (omega arith) h e ∙ ring! (y ∷ []) (search polys depth 30) tt
 
 -- the sum of squares, from the bits
 pub squared-cells : (v : Vector) → Components (2 ^ 45) v → Cell (v .x) *ℤ Cell (v .x) +ℤ Cell (v .y) *ℤ Cell (v .y) +ℤ Cell (v .z) *ℤ Cell (v .z) ≡ squared v

@@ -28,7 +28,7 @@ radius-most r e = at-most r (pos 6400000000000) (both (leZ (pos 10000000000) r) 
 pub radius-size : (r : ℤ) → radius-usable r ≡ true → natAbs r ≤ 6400000000000
 radius-size r e =
     let l = radius-least r e in
-    natAbs-le r 6400000000000 (cert! (r ∷ []) 0 (gap l) (search polys depth 30) (search polys depth 30) (search polys depth 30) tt) (radius-most r e)
+    natAbs-le r 6400000000000 (cert! (r ∷ []) 0 (gap l) (search polys depth 30) tt) (radius-most r e)
 
 -- the tests of `usable_radius`
 pub radius-second : (r : ℤ) → Cell r ≡ r → leZ (pos 10000000000) (Cell r) ≡ true → leZ (Cell r) (pos 6400000000000) ≡ radius-usable r

@@ -28,10 +28,10 @@ use Rattle.separation.proofs.Apart.{apart-bd}
 -- ---- One of the two is large.
 
 far-even : (w : ℤ) → Angle w (pos U) → Far (pos 1) (pos 690000000) (even-part w)
-far-even w a = inl (cert! (even-part w ∷ []) 0 (gap (even-large a)) (search polys depth 60 fits 100000) (search polys depth 60 fits 100000) (search polys depth 60 fits 100000) tt)
+far-even w a = inl (cert! (even-part w ∷ []) 0 (gap (even-large a)) (search polys depth 60 fits 100000) tt)
 
 far-minus : (w : ℤ) → Angle w (pos U) → Far (pos 1) (pos 690000000) (negℤ (even-part w))
-far-minus w a = inr (cert! (even-part w ∷ []) 0 (gap (even-large a)) (search polys depth 60 fits 100000) (search polys depth 60 fits 100000) (search polys depth 60 fits 100000) tt)
+far-minus w a = inr (cert! (even-part w ∷ []) 0 (gap (even-large a)) (search polys depth 60 fits 100000) tt)
 
 far-by : (k : ℕ) (w : ℤ) → Angle w (pos U) → One-far (cosine-by negℤ k (even-part w) (odd-part w)) (sine-by negℤ k (even-part w) (odd-part w))
 unfolding cosine-by sine-by
@@ -50,8 +50,8 @@ natural : (x n : ℤ) (d : ℕ) → 0 < d → natAbs x ≤ angle-limit → Bd (p
 natural x n d hd hx b = record {
   N-pos = omega arith;
   limit = hx;
-  most = cert! (x ∷ n ∷ pos d ∷ []) 0 (100000000000 · gap (b .high)) (search polys depth 60 fits 100000) (search polys depth 60 fits 100000) (search polys depth 60 fits 100000) tt;
-  least = cert! (x ∷ n ∷ pos d ∷ []) 0 (100000000000 · gap (b .low)) (search polys depth 60 fits 100000) (search polys depth 60 fits 100000) (search polys depth 60 fits 100000) tt;
+  most = cert! (x ∷ n ∷ pos d ∷ []) 0 (100000000000 · gap (b .high)) (search polys depth 60 fits 100000) tt;
+  least = cert! (x ∷ n ∷ pos d ∷ []) 0 (100000000000 · gap (b .low)) (search polys depth 60 fits 100000) tt;
 }
 
 longitude : (x n l : ℤ) → pos 0 ≺ l → natAbs x ≤ angle-limit → Bd (pos tolerance *ℤ l) (l *ℤ x -ℤ n) → Near-longitude x n (parts * natAbs l)

@@ -10,8 +10,8 @@ use Rattle.integers.proofs.Bounds.{Bd}
 pub apart-bd : (A x : ℤ) (f : Fraction) → Apart (wholeᶠ A) (wholeᶠ x) f → Bd (A *ℤ f .lower) (f .lower *ℤ x -ℤ f .upper)
 unfolding _+ᶠ_ negᶠ
 apart-bd A x f h = record {
-  low = cert! (A ∷ x ∷ f .lower ∷ f .upper ∷ []) 0 (gap (h .least)) (search polys depth 60 fits 100000) (search polys depth 60 fits 100000) (search polys depth 60 fits 100000) tt;
-  high = cert! (A ∷ x ∷ f .lower ∷ f .upper ∷ []) 0 (gap (h .most)) (search polys depth 60 fits 100000) (search polys depth 60 fits 100000) (search polys depth 60 fits 100000) tt;
+  low = cert! (A ∷ x ∷ f .lower ∷ f .upper ∷ []) 0 (gap (h .least)) (search polys depth 60 fits 100000) tt;
+  high = cert! (A ∷ x ∷ f .lower ∷ f .upper ∷ []) 0 (gap (h .most)) (search polys depth 60 fits 100000) tt;
 }
 
 pub apart-wider : (a b : ℤ) (f g : Fraction) → a ≼ b → Apart (wholeᶠ a) f g → Apart (wholeᶠ b) f g
@@ -20,6 +20,6 @@ apart-wider a b f g l h = record {
   lower-e = record { lt = tt };
   lower-f = h .lower-f;
   lower-g = h .lower-g;
-  most = cert! (a ∷ b ∷ f .upper ∷ f .lower ∷ g .upper ∷ g .lower ∷ []) 0 (gap (h .most) ⊞ gap l ⊛ (≺-≼ (h .lower-f) ⊛ ≺-≼ (h .lower-g))) (search polys depth 60 fits 100000) (search polys depth 60 fits 100000) (search polys depth 60 fits 100000) tt;
-  least = cert! (a ∷ b ∷ f .upper ∷ f .lower ∷ g .upper ∷ g .lower ∷ []) 0 (gap (h .least) ⊞ gap l ⊛ (≺-≼ (h .lower-f) ⊛ ≺-≼ (h .lower-g))) (search polys depth 60 fits 100000) (search polys depth 60 fits 100000) (search polys depth 60 fits 100000) tt;
+  most = cert! (a ∷ b ∷ f .upper ∷ f .lower ∷ g .upper ∷ g .lower ∷ []) 0 (gap (h .most) ⊞ gap l ⊛ (≺-≼ (h .lower-f) ⊛ ≺-≼ (h .lower-g))) (search polys depth 60 fits 100000) tt;
+  least = cert! (a ∷ b ∷ f .upper ∷ f .lower ∷ g .upper ∷ g .lower ∷ []) 0 (gap (h .least) ⊞ gap l ⊛ (≺-≼ (h .lower-f) ⊛ ≺-≼ (h .lower-g))) (search polys depth 60 fits 100000) tt;
 }

@@ -27,7 +27,7 @@ sun-part : (l q R p T u a n : ℤ) → pos 0 ≼ q → pos 0 ≼ p → Bd l (pos
 sun-part l q R p T u a n hq hp hu ha =
     let r = pos 2 *ℤ (l *ℤ u -ℤ pos U *ℤ (negℤ a)) in
     let t = pos U *ℤ (q *ℤ a -ℤ R *ℤ n) in
-    bd-as _ _ _ _ refl (ring! (l ∷ q ∷ R ∷ p ∷ u ∷ a ∷ n ∷ []) (search polys depth 60 fits 100000) (search polys depth 60 fits 100000) tt)
+    bd-as _ _ _ _ refl (ring! (l ∷ q ∷ R ∷ p ∷ u ∷ a ∷ n ∷ []) (search polys depth 60 fits 100000) tt)
     (times p (q *ℤ l +ℤ pos 2 *ℤ T) (q *ℤ negℤ r +ℤ pos 2 *ℤ t) hp
     (bd-+ (q *ℤ l) (pos 2 *ℤ T) (q *ℤ negℤ r) (pos 2 *ℤ t) (times q l (negℤ r) hq (bd-neg l r hu)) (times (pos 2) T t (nonneg 2) ha)))
 
@@ -36,7 +36,7 @@ full-part : (Q q R p T a n : ℤ) → pos 0 ≼ Q → Bd q n → Bd (pos 200000 
     → Bd (Q *ℤ T +ℤ pos U *ℤ (pos 200000 *ℤ Q *ℤ q)) (pos U *ℤ (Q *ℤ q *ℤ a -ℤ p *ℤ n))
 full-part Q q R p T a n hQ hn hR ha =
     let t = pos U *ℤ (q *ℤ a -ℤ R *ℤ n) in
-    bd-as _ _ _ _ refl (ring! (Q ∷ q ∷ R ∷ p ∷ a ∷ n ∷ []) (search polys depth 60 fits 100000) (search polys depth 60 fits 100000) tt)
+    bd-as _ _ _ _ refl (ring! (Q ∷ q ∷ R ∷ p ∷ a ∷ n ∷ []) (search polys depth 60 fits 100000) tt)
     (bd-+ (Q *ℤ T) (pos U *ℤ (pos 200000 *ℤ Q *ℤ q)) (Q *ℤ t) (pos U *ℤ ((Q *ℤ R -ℤ p) *ℤ n))
     (times Q T t hQ ha) (times (pos U) (pos 200000 *ℤ Q *ℤ q) ((Q *ℤ R -ℤ p) *ℤ n) (nonneg U) (bd-* (pos 200000 *ℤ Q) q (Q *ℤ R -ℤ p) n hR hn)))
 
@@ -47,24 +47,24 @@ planet-part D c E F v a b m n hc hv ha hb =
     let r = pos 2 *ℤ (D *ℤ v -ℤ pos U *ℤ (a -ℤ b)) in
     let s = pos U *ℤ (c *ℤ a -ℤ m) in
     let t = pos U *ℤ (c *ℤ b -ℤ n) in
-    bd-as _ _ _ _ refl (ring! (D ∷ c ∷ v ∷ a ∷ b ∷ m ∷ n ∷ []) (search polys depth 60 fits 100000) (search polys depth 60 fits 100000) tt)
+    bd-as _ _ _ _ refl (ring! (D ∷ c ∷ v ∷ a ∷ b ∷ m ∷ n ∷ []) (search polys depth 60 fits 100000) tt)
     (bd-+ (c *ℤ D) (pos 2 *ℤ E +ℤ pos 2 *ℤ F) (c *ℤ negℤ r) (pos 2 *ℤ negℤ s +ℤ pos 2 *ℤ t) (times c D (negℤ r) hc (bd-neg D r hv))
     (bd-+ (pos 2 *ℤ E) (pos 2 *ℤ F) (pos 2 *ℤ negℤ s) (pos 2 *ℤ t) (times (pos 2) E (negℤ s) (nonneg 2) (bd-neg E s ha)) (times (pos 2) F t (nonneg 2) hb)))
 
 -- The Sun is within 10,469/U of its direction, the planet within 118,721/U.
 sun-small : (l q R p : ℤ) → pos 0 ≼ q → pos 0 ≼ p → pos 47 *ℤ R ≼ pos 100 *ℤ l → pos 4700000000 ≼ l
     → p *ℤ (q *ℤ l +ℤ pos 2 *ℤ (q *ℤ (pos U +ℤ pos 4920 *ℤ R))) ≼ pos 10469 *ℤ (pos 2 *ℤ (l *ℤ q) *ℤ p)
-sun-small l q R p hq hp hR hl = cert! (l ∷ q ∷ R ∷ p ∷ []) 46 ((hp ⊛ hq) ⊛ (9840 · gap hR ⊞ 39 · gap hl ⊞ nonneg 89300000000)) (search polys depth 60 fits 100000) (search polys depth 60 fits 100000) (search polys depth 60 fits 100000) tt
+sun-small l q R p hq hp hR hl = cert! (l ∷ q ∷ R ∷ p ∷ []) 46 ((hp ⊛ hq) ⊛ (9840 · gap hR ⊞ 39 · gap hl ⊞ nonneg 89300000000)) (search polys depth 60 fits 100000) tt
 
 planet-small : (D Q q R S : ℤ) → pos 0 ≼ Q → pos 0 ≼ q → R +ℤ S ≼ pos 16 *ℤ D → pos 10000000000 ≼ D
     → Q *ℤ q *ℤ D +ℤ (pos 2 *ℤ (Q *ℤ (q *ℤ (pos U +ℤ pos 4920 *ℤ R)) +ℤ pos U *ℤ (pos 200000 *ℤ Q *ℤ q)) +ℤ pos 2 *ℤ (Q *ℤ (q *ℤ (pos U +ℤ pos 4920 *ℤ S)) +ℤ pos U *ℤ (pos 200000 *ℤ Q *ℤ q)))
     ≼ pos 118721 *ℤ (pos 2 *ℤ (D *ℤ (Q *ℤ q)))
 planet-small D Q q R S hQ hq hR hD =
-    cert! (D ∷ Q ∷ q ∷ R ∷ S ∷ []) 0 ((hQ ⊛ hq) ⊛ (9840 · gap hR ⊞ 80001 · gap hD ⊞ nonneg 6000000000)) (search polys depth 60 fits 100000) (search polys depth 60 fits 100000) (search polys depth 60 fits 100000) tt
+    cert! (D ∷ Q ∷ q ∷ R ∷ S ∷ []) 0 ((hQ ⊛ hq) ⊛ (9840 · gap hR ⊞ 80001 · gap hD ⊞ nonneg 6000000000)) (search polys depth 60 fits 100000) tt
 
 -- Two lower numbers, Y and W, become one.
 wide-part : (m t a Y c u : ℤ) → pos 0 ≼ m → Bd t (a *ℤ c -ℤ Y *ℤ u) → Bd (m *ℤ t) (m *ℤ a *ℤ c -ℤ m *ℤ Y *ℤ u)
-wide-part m t a Y c u hm h = bd-as _ _ _ _ refl (ring! (m ∷ a ∷ Y ∷ c ∷ u ∷ []) (search polys depth 60 fits 100000) (search polys depth 60 fits 100000) tt) (times m t (a *ℤ c -ℤ Y *ℤ u) hm h)
+wide-part m t a Y c u hm h = bd-as _ _ _ _ refl (ring! (m ∷ a ∷ Y ∷ c ∷ u ∷ []) (search polys depth 60 fits 100000) tt) (times m t (a *ℤ c -ℤ Y *ℤ u) hm h)
 
 wide : (m t a Y : ℤ) (s u : Vector) → pos 0 ≼ m → Bd³ t (sub (scl a s) (scl Y u)) → Bd³ (m *ℤ t) (sub (scl (m *ℤ a) s) (scl (m *ℤ Y) u))
 unfolding geocentric scl
@@ -83,8 +83,8 @@ common u v s g a b Y W η ζ ha hb hY hW ws wg hη hζ = record {
   b-pos = product-pos Y b hY hb;
   W-pos = product-pos W Y hW hY;
   near-u = wide W η a Y s u (≺-≼ hW) ws;
-  near-v = subst (λ (m : ℤ). Bd³ (Y *ℤ ζ) (sub (scl (Y *ℤ b) g) (scl m v))) (ring! (W ∷ Y ∷ []) (search polys depth 60 fits 100000) (search polys depth 60 fits 100000) tt) (wide Y ζ b W g v (≺-≼ hY) wg);
-  small = cert! (Y ∷ W ∷ η ∷ ζ ∷ []) 0 (≺-≼ hW ⊛ gap hη ⊞ ≺-≼ hY ⊛ gap hζ ⊞ 810 · (≺-≼ hW ⊛ ≺-≼ hY)) (search polys depth 60 fits 100000) (search polys depth 60 fits 100000) (search polys depth 60 fits 100000) tt;
+  near-v = subst (λ (m : ℤ). Bd³ (Y *ℤ ζ) (sub (scl (Y *ℤ b) g) (scl m v))) (ring! (W ∷ Y ∷ []) (search polys depth 60 fits 100000) tt) (wide Y ζ b W g v (≺-≼ hY) wg);
+  small = cert! (Y ∷ W ∷ η ∷ ζ ∷ []) 0 (≺-≼ hW ⊛ gap hη ⊞ ≺-≼ hY ⊛ gap hζ ⊞ 810 · (≺-≼ hW ⊛ ≺-≼ hY)) (search polys depth 60 fits 100000) tt;
 }
 
 -- ---- The two directions.
@@ -101,7 +101,7 @@ unfolding sun scl
 sun-within l a w = record { x = turn (a .x) (w .x); y = turn (a .y) (w .y); z = turn (a .z) (w .z) }
   where
     turn : (p : ℤ) → Bd l (negℤ p) → Bd l p
-    turn p h = bd-as l l (negℤ (negℤ p)) p refl (ring! (p ∷ []) (search polys depth 60 fits 100000) (search polys depth 60 fits 100000) tt) (bd-neg l (negℤ p) h)
+    turn p h = bd-as l l (negℤ (negℤ p)) p refl (ring! (p ∷ []) (search polys depth 60 fits 100000) tt) (bd-neg l (negℤ p) h)
 
 toward-within : (Q : ℤ) (w e : Figures) → pos 0 ≼ Q → Faithful Q w e → Bd³ (Q *ℤ Q) (toward Q e)
 unfolding toward
@@ -159,10 +159,10 @@ pub sun-long : (w : Figures) → pos 10000000000 ≼ w .R → One-far (w .cosB) 
 sun-long w h f g = long (pos (length (sun (placed w)))) w h f g (sun-within _ (placed w) (within-length (sun (placed w))))
 
 length-least : (R l : ℤ) → pos 10000000000 ≼ R → pos 47 *ℤ R ≼ pos 100 *ℤ l → pos 4700000000 ≼ l
-length-least R l h k = cert! (R ∷ l ∷ []) 99 (gap k ⊞ 47 · gap h) (search polys depth 60 fits 100000) (search polys depth 60 fits 100000) (search polys depth 60 fits 100000) tt
+length-least R l h k = cert! (R ∷ l ∷ []) 99 (gap k ⊞ 47 · gap h) (search polys depth 60 fits 100000) tt
 
 radius-pos : (Q R p : ℤ) → pos 0 ≺ Q → pos 10000000000 ≼ R → Bd (pos 200000 *ℤ Q) (Q *ℤ R -ℤ p) → pos 0 ≺ p
-radius-pos Q R p hQ hR b = cert<! (Q ∷ R ∷ p ∷ []) 0 (gap (b .high) ⊞ gap< hQ ⊛ gap hR ⊞ gap hR ⊞ 9999800000 · gap< hQ) (search polys depth 60 fits 100000) (search polys depth 60 fits 100000) (search polys depth 60 fits 100000) tt
+radius-pos Q R p hQ hR b = cert<! (Q ∷ R ∷ p ∷ []) 0 (gap (b .high) ⊞ gap< hQ ⊛ gap hR ⊞ gap hR ⊞ 9999800000 · gap< hQ) (search polys depth 60 fits 100000) tt
 
 -- Exact figures over Q, working ones faithful to them, usable; and no working cosine and sine are both small.
 pub record Sky (Q : ℤ) (planet earth planet* earth* : Figures) : Type 0 where
@@ -209,7 +209,7 @@ module _ (Q : ℤ) (planet earth planet* earth* : Figures) (sky : Sky Q planet e
       let Q₁ = ≺-≼ hQ in
       common (unit (sun (placed earth))) (unit (sub (placed planet) (placed earth))) (sun (whole-place Q earth*)) (sub (whole-place Q planet*) (whole-place Q earth*))
       (pos 2 *ℤ pos U *ℤ earth .R) (pos 2 *ℤ pos U) (pos 2 *ℤ (pos l *ℤ q) *ℤ earth* .R) (pos 2 *ℤ (pos D *ℤ (Q *ℤ q))) _ _
-      (product-pos (pos 2 *ℤ pos U) (earth .R) (record { lt = tt }) (cert<! (earth .R ∷ []) 0 (gap (sky .usable .earth-far)) (search polys depth 60 fits 100000) (search polys depth 60 fits 100000) (search polys depth 60 fits 100000) tt))
+      (product-pos (pos 2 *ℤ pos U) (earth .R) (record { lt = tt }) (cert<! (earth .R ∷ []) 0 (gap (sky .usable .earth-far)) (search polys depth 60 fits 100000) tt))
       (record { lt = tt })
       (product-pos (pos 2 *ℤ (pos l *ℤ q)) (earth* .R) (product-pos (pos 2) (pos l *ℤ q) (record { lt = tt }) (product-pos (pos l) q (≺-nat l l-pos) (product-pos Q Q hQ hQ))) p-pos)
       (product-pos (pos 2) (pos D *ℤ (Q *ℤ q)) (record { lt = tt }) (product-pos (pos D) (Q *ℤ q) (≺-nat D D-pos) (product-pos Q q hQ (product-pos Q Q hQ hQ))))

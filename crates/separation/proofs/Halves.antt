@@ -35,18 +35,18 @@ unfolding geocentric
 back t a b w = record { x = turn (a .x) (b .x) (w .x); y = turn (a .y) (b .y) (w .y); z = turn (a .z) (b .z) (w .z) }
   where
     turn : (p q : ℤ) → Bd t (p -ℤ q) → Bd t (q -ℤ p)
-    turn p q h = bd-as t t (negℤ (p -ℤ q)) (q -ℤ p) refl (ring! (p ∷ q ∷ []) (search polys depth 60 fits 100000) (search polys depth 60 fits 100000) tt) (bd-neg t (p -ℤ q) h)
+    turn p q h = bd-as t t (negℤ (p -ℤ q)) (q -ℤ p) refl (ring! (p ∷ q ∷ []) (search polys depth 60 fits 100000) tt) (bd-neg t (p -ℤ q) h)
 
 -- ---- Exact vectors over one lower number W, and a row of the table.
 
 -- What `form-low` and `passes` say, as facts of F.
 as-form : (up low t : ℤ) (s g : Vector) → up *ℤ (dot s s +ℤ dot g g) ≼ pos 2 *ℤ low *ℤ dot s g +ℤ t *ℤ low → negℤ (t *ℤ low) ≼ form up low s g
 unfolding form
-as-form up low t s g h = cert! (up ∷ low ∷ t ∷ dot s s ∷ dot g g ∷ dot s g ∷ []) 0 (gap h) (search polys depth 60 fits 100000) (search polys depth 60 fits 100000) (search polys depth 60 fits 100000) tt
+as-form up low t s g h = cert! (up ∷ low ∷ t ∷ dot s s ∷ dot g g ∷ dot s g ∷ []) 0 (gap h) (search polys depth 60 fits 100000) tt
 
 of-form : (up low : ℤ) (s g : Vector) → pos 0 ≼ form up low s g → up *ℤ (dot s s +ℤ dot g g) ≼ pos 2 *ℤ low *ℤ dot s g
 unfolding form
-of-form up low s g h = cert! (up ∷ low ∷ dot s s ∷ dot g g ∷ dot s g ∷ []) 0 h (search polys depth 60 fits 100000) (search polys depth 60 fits 100000) (search polys depth 60 fits 100000) tt
+of-form up low s g h = cert! (up ∷ low ∷ dot s s ∷ dot g g ∷ dot s g ∷ []) 0 h (search polys depth 60 fits 100000) tt
 
 module _ (W η ζ : ℤ) (u v s g : Vector) (hW : pos 0 ≺ W) (hu : Unit³ u) (hv : Unit³ v) (ws : Bd³ η (sub s (scl W u))) (wg : Bd³ ζ (sub g (scl W v))) (small : η +ℤ ζ ≼ eps *ℤ W)
     (c : Fraction) (G T T′ : ℤ) (row : Row c G T T′) where
@@ -98,7 +98,7 @@ module _ (up low : ℤ) (a b : ℤ) (s g : Vector) (ha : pos 0 ≺ a) (hb : pos 
   longer : Passes up low (dot s g) (dot s s) (dot g g) → Passes up low (dot (scl a s) (scl b g)) (dot (scl a s) (scl a s)) (dot (scl b g) (scl b g))
   longer h = rw (dot-scl a b s g, dot-scl a a s s, dot-scl b b g g) (record {
     ahead = product-pos (a *ℤ b) (dot s g) (product-pos a b ha hb) (h .ahead);
-    close = cert! (up ∷ low ∷ a ∷ b ∷ dot s g ∷ dot s s ∷ dot g g ∷ []) 0 (sqr (a *ℤ b) ⊛ gap (h .close)) (search polys depth 60 fits 100000) (search polys depth 60 fits 100000) (search polys depth 60 fits 100000) tt;
+    close = cert! (up ∷ low ∷ a ∷ b ∷ dot s g ∷ dot s s ∷ dot g g ∷ []) 0 (sqr (a *ℤ b) ⊛ gap (h .close)) (search polys depth 60 fits 100000) tt;
   })
 
   shorter : Passes up low (dot (scl a s) (scl b g)) (dot (scl a s) (scl a s)) (dot (scl b g) (scl b g)) → Passes up low (dot s g) (dot s s) (dot g g)
@@ -107,7 +107,7 @@ module _ (up low : ℤ) (a b : ℤ) (s g : Vector) (ha : pos 0 ≺ a) (hb : pos 
       record {
         ahead = factor-pos (a *ℤ b) (dot s g) (≺-≼ (product-pos a b ha hb)) (k .ahead);
         close = cert*! (up ∷ low ∷ a ∷ b ∷ dot s g ∷ dot s s ∷ dot g g ∷ []) (a *ℤ b *ℤ (a *ℤ b)) (product-pos (a *ℤ b) (a *ℤ b) (product-pos a b ha hb) (product-pos a b ha hb))
-            (gap (k .close)) (search polys depth 60 fits 100000) (search polys depth 60 fits 100000) (search polys depth 60 fits 100000) (search polys depth 60 fits 100000) tt;
+            (gap (k .close)) (search polys depth 60 fits 100000) tt;
       }
 
 -- ---- Any vectors that are close enough.

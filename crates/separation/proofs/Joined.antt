@@ -139,7 +139,7 @@ module _ (p e : Coordinates) (p* e* : Exact-coordinates) (hp : Near⁵ (figures 
   lower-pos k h l =
       let c = cosine-of-arcminutes k in
       let r = table k h l in
-      cert<! (c .upper ∷ c .lower ∷ []) 0 (gap< (r .positive) ⊞ gap (r .at-most)) (search polys depth 60 fits 100000) (search polys depth 60 fits 100000) (search polys depth 60 fits 100000) tt
+      cert<! (c .upper ∷ c .lower ∷ []) 0 (gap< (r .positive) ⊞ gap (r .at-most)) (search polys depth 60 fits 100000) tt
 
   abbrev u : Vector
   u = unit (sun (placed (figures e)))

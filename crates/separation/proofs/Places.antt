@@ -74,9 +74,9 @@ one-part Q R c C hQ hR s =
     (times (Q *ℤ Q) (pos U) ρ (hQ ⊛ hQ) (bd-rounded (R *ℤ c) U U-pos)) (times (pos 2 *ℤ (Q *ℤ R)) (pos 2460 *ℤ Q) δ (nonneg 2 ⊛ (hQ ⊛ hR)) (s .near)) in
     let A = Q *ℤ Q *ℤ pos U +ℤ pos 2 *ℤ (Q *ℤ R) *ℤ (pos 2460 *ℤ Q) in
     let B = pos 2 *ℤ (Q *ℤ Q *ℤ (pos U +ℤ pos 4920 *ℤ R)) in
-    let l : A ≼ B = cert! (Q ∷ R ∷ []) 0 (1000000000 · (hQ ⊛ hQ) ⊞ 4920 · (hQ ⊛ hQ ⊛ hR)) (search polys depth 60 fits 100000) (search polys depth 60 fits 100000) (search polys depth 60 fits 100000) tt in
+    let l : A ≼ B = cert! (Q ∷ R ∷ []) 0 (1000000000 · (hQ ⊛ hQ) ⊞ 4920 · (hQ ⊛ hQ ⊛ hR)) (search polys depth 60 fits 100000) tt in
     bd-cancel (pos 2) (Q *ℤ Q *ℤ (pos U +ℤ pos 4920 *ℤ R)) (pos U *ℤ (Q *ℤ Q *ℤ z -ℤ R *ℤ (Q *ℤ C))) (record { lt = tt })
-    (bd-as B B _ (pos 2 *ℤ (pos U *ℤ (Q *ℤ Q *ℤ z -ℤ R *ℤ (Q *ℤ C)))) refl (ring! (Q ∷ R ∷ c ∷ C ∷ z ∷ []) (search polys depth 60 fits 100000) (search polys depth 60 fits 100000) tt) (bd-le A B _ l b))
+    (bd-as B B _ (pos 2 *ℤ (pos U *ℤ (Q *ℤ Q *ℤ z -ℤ R *ℤ (Q *ℤ C)))) refl (ring! (Q ∷ R ∷ c ∷ C ∷ z ∷ []) (search polys depth 60 fits 100000) tt) (bd-le A B _ l b))
 
 -- A rounded product of a rounded product.
 two-part : (Q R c C d D : ℤ) → pos 0 ≼ Q → pos 0 ≼ R → Seen Q c C → Seen Q d D
@@ -94,7 +94,7 @@ two-part Q R c C d D hQ hR s t =
     let e₄ = times (pos 2 *ℤ R *ℤ pos U) (Q *ℤ (pos 2460 *ℤ Q)) (C *ℤ δ′) (nonneg 2 ⊛ hR ⊛ nonneg U) (bd-* Q (pos 2460 *ℤ Q) C δ′ (s .exact) (t .near)) in
     let b = bd-+ _ _ _ _ (bd-+ _ _ _ _ e₁ e₂) (bd-+ _ _ _ _ e₃ e₄) in
     bd-cancel (pos (2 * U)) (Q *ℤ Q *ℤ (pos U +ℤ pos 4920 *ℤ R)) (pos U *ℤ (Q *ℤ Q *ℤ x -ℤ R *ℤ (C *ℤ D))) (record { lt = tt })
-    (bd-as _ _ _ _ (ring! (Q ∷ R ∷ []) (search polys depth 60 fits 100000) (search polys depth 60 fits 100000) tt) (ring! (Q ∷ R ∷ c ∷ C ∷ d ∷ D ∷ f ∷ x ∷ []) (search polys depth 60 fits 100000) (search polys depth 60 fits 100000) tt) b)
+    (bd-as _ _ _ _ (ring! (Q ∷ R ∷ []) (search polys depth 60 fits 100000) tt) (ring! (Q ∷ R ∷ c ∷ C ∷ d ∷ D ∷ f ∷ x ∷ []) (search polys depth 60 fits 100000) tt) b)
 
 -- U times Q²·place − R·direction, in each component.
 pub place-near : (Q : ℤ) (w e : Figures) → pos 0 ≼ Q → pos 0 ≼ w .R → Faithful Q w e
@@ -121,24 +121,24 @@ far-rounded k A n c hk hA f g = go f g
     r = rounded (n *ℤ c) U
 
     above : A *ℤ pos 690000000 ≼ k *ℤ (n *ℤ c) → pos 138 *ℤ A -ℤ pos 100 *ℤ k ≼ pos 200 *ℤ k *ℤ r
-    above h = cert! (k ∷ A ∷ n ∷ c ∷ r ∷ []) 9999999 (hk ⊛ gap< (rounded-high (n *ℤ c) U U-pos) ⊞ hk ⊞ 2 · gap h) (search polys depth 60 fits 100000) (search polys depth 60 fits 100000) (search polys depth 60 fits 100000) tt
+    above h = cert! (k ∷ A ∷ n ∷ c ∷ r ∷ []) 9999999 (hk ⊛ gap< (rounded-high (n *ℤ c) U U-pos) ⊞ hk ⊞ 2 · gap h) (search polys depth 60 fits 100000) tt
 
     below : k *ℤ (n *ℤ c) ≼ negℤ (A *ℤ pos 690000000) → pos 200 *ℤ k *ℤ r ≼ negℤ (pos 138 *ℤ A -ℤ pos 100 *ℤ k)
-    below h = cert! (k ∷ A ∷ n ∷ c ∷ r ∷ []) 9999999 (hk ⊛ gap (rounded-low (n *ℤ c) U U-pos) ⊞ 2 · gap h) (search polys depth 60 fits 100000) (search polys depth 60 fits 100000) (search polys depth 60 fits 100000) tt
+    below h = cert! (k ∷ A ∷ n ∷ c ∷ r ∷ []) 9999999 (hk ⊛ gap (rounded-low (n *ℤ c) U U-pos) ⊞ 2 · gap h) (search polys depth 60 fits 100000) tt
 
     go : Far k A n → Far (pos 1) (pos 690000000) c → Far (pos 200 *ℤ k) (pos 138 *ℤ A -ℤ pos 100 *ℤ k) r
-    go (inl a) (inl b) = inl (above (cert! (k ∷ A ∷ n ∷ c ∷ []) 0 (gap a ⊛ gap b ⊞ hA ⊛ gap b ⊞ 690000000 · gap a) (search polys depth 60 fits 100000) (search polys depth 60 fits 100000) (search polys depth 60 fits 100000) tt))
-    go (inr a) (inr b) = inl (above (cert! (k ∷ A ∷ n ∷ c ∷ []) 0 (gap a ⊛ gap b ⊞ hA ⊛ gap b ⊞ 690000000 · gap a) (search polys depth 60 fits 100000) (search polys depth 60 fits 100000) (search polys depth 60 fits 100000) tt))
-    go (inl a) (inr b) = inr (below (cert! (k ∷ A ∷ n ∷ c ∷ []) 0 (gap a ⊛ gap b ⊞ hA ⊛ gap b ⊞ 690000000 · gap a) (search polys depth 60 fits 100000) (search polys depth 60 fits 100000) (search polys depth 60 fits 100000) tt))
-    go (inr a) (inl b) = inr (below (cert! (k ∷ A ∷ n ∷ c ∷ []) 0 (gap a ⊛ gap b ⊞ hA ⊛ gap b ⊞ 690000000 · gap a) (search polys depth 60 fits 100000) (search polys depth 60 fits 100000) (search polys depth 60 fits 100000) tt))
+    go (inl a) (inl b) = inl (above (cert! (k ∷ A ∷ n ∷ c ∷ []) 0 (gap a ⊛ gap b ⊞ hA ⊛ gap b ⊞ 690000000 · gap a) (search polys depth 60 fits 100000) tt))
+    go (inr a) (inr b) = inl (above (cert! (k ∷ A ∷ n ∷ c ∷ []) 0 (gap a ⊛ gap b ⊞ hA ⊛ gap b ⊞ 690000000 · gap a) (search polys depth 60 fits 100000) tt))
+    go (inl a) (inr b) = inr (below (cert! (k ∷ A ∷ n ∷ c ∷ []) 0 (gap a ⊛ gap b ⊞ hA ⊛ gap b ⊞ 690000000 · gap a) (search polys depth 60 fits 100000) tt))
+    go (inr a) (inl b) = inr (below (cert! (k ∷ A ∷ n ∷ c ∷ []) 0 (gap a ⊛ gap b ⊞ hA ⊛ gap b ⊞ 690000000 · gap a) (search polys depth 60 fits 100000) tt))
 
 -- One of the cosine and the sine is at least 0.69 in size.
 abbrev pub One-far : ℤ → ℤ → Type 0
 One-far c s = Far (pos 1) (pos 690000000) c ⊎ Far (pos 1) (pos 690000000) s
 
 far-le : (k A n l : ℤ) → pos 0 ≼ k → Far k A n → Bd l n → A ≼ k *ℤ l
-far-le k A n l hk (inl h) b = cert! (k ∷ A ∷ n ∷ l ∷ []) 0 (gap h ⊞ hk ⊛ gap (b .high)) (search polys depth 60 fits 100000) (search polys depth 60 fits 100000) (search polys depth 60 fits 100000) tt
-far-le k A n l hk (inr h) b = cert! (k ∷ A ∷ n ∷ l ∷ []) 0 (gap h ⊞ hk ⊛ gap (b .low)) (search polys depth 60 fits 100000) (search polys depth 60 fits 100000) (search polys depth 60 fits 100000) tt
+far-le k A n l hk (inl h) b = cert! (k ∷ A ∷ n ∷ l ∷ []) 0 (gap h ⊞ hk ⊛ gap (b .high)) (search polys depth 60 fits 100000) tt
+far-le k A n l hk (inr h) b = cert! (k ∷ A ∷ n ∷ l ∷ []) 0 (gap h ⊞ hk ⊛ gap (b .low)) (search polys depth 60 fits 100000) tt
 
 -- l is at least each component of the place.
 pub long : (l : ℤ) (w : Figures) → pos 10000000000 ≼ w .R → One-far (w .cosB) (w .sinB) → One-far (w .cosL) (w .sinL) → Bd³ l (placed w) → pos 47 *ℤ w .R ≼ pos 100 *ℤ l
@@ -149,15 +149,15 @@ long l w hR fB fL b = goB fB
     R = w .R
 
     R₀ : pos 0 ≼ R
-    R₀ = cert! (R ∷ []) 0 (gap hR) (search polys depth 60 fits 100000) (search polys depth 60 fits 100000) (search polys depth 60 fits 100000) tt
+    R₀ = cert! (R ∷ []) 0 (gap hR) (search polys depth 60 fits 100000) tt
 
     start : Far (pos 1) R R
-    start = inl (cert! (R ∷ []) 0 (nonneg 0) (search polys depth 60 fits 100000) (search polys depth 60 fits 100000) (search polys depth 60 fits 100000) tt)
+    start = inl (cert! (R ∷ []) 0 (nonneg 0) (search polys depth 60 fits 100000) tt)
 
     goB : One-far (w .cosB) (w .sinB) → pos 47 *ℤ R ≼ pos 100 *ℤ l
     goB (inr h) =
         let a = far-le (pos 200 *ℤ pos 1) (pos 138 *ℤ R -ℤ pos 100 *ℤ pos 1) (rounded (R *ℤ w .sinB) U) l (nonneg 200) (far-rounded (pos 1) R R (w .sinB) (nonneg 1) R₀ start h) (b .z) in
-        cert! (R ∷ l ∷ []) 1 (gap a ⊞ 44 · gap hR) (search polys depth 60 fits 100000) (search polys depth 60 fits 100000) (search polys depth 60 fits 100000) tt
+        cert! (R ∷ l ∷ []) 1 (gap a ⊞ 44 · gap hR) (search polys depth 60 fits 100000) tt
     goB (inl h) = goL fL
       where
         f : ℤ
@@ -167,13 +167,13 @@ long l w hR fB fL b = goB fB
         flat = far-rounded (pos 1) R R (w .cosB) (nonneg 1) R₀ start h
 
         A₀ : pos 0 ≼ pos 138 *ℤ R -ℤ pos 100 *ℤ pos 1
-        A₀ = cert! (R ∷ []) 0 (138 · gap hR) (search polys depth 60 fits 100000) (search polys depth 60 fits 100000) (search polys depth 60 fits 100000) tt
+        A₀ = cert! (R ∷ []) 0 (138 · gap hR) (search polys depth 60 fits 100000) tt
 
         end : (c : ℤ) → Bd l (rounded (f *ℤ c) U) → Far (pos 1) (pos 690000000) c → pos 47 *ℤ R ≼ pos 100 *ℤ l
         end c bd g =
             let a = far-le (pos 200 *ℤ (pos 200 *ℤ pos 1)) (pos 138 *ℤ (pos 138 *ℤ R -ℤ pos 100 *ℤ pos 1) -ℤ pos 100 *ℤ (pos 200 *ℤ pos 1)) (rounded (f *ℤ c) U) l (nonneg 40000)
             (far-rounded (pos 200 *ℤ pos 1) (pos 138 *ℤ R -ℤ pos 100 *ℤ pos 1) f c (nonneg 200) A₀ flat g) bd in
-            cert! (R ∷ l ∷ []) 399 (gap a ⊞ 244 · gap hR) (search polys depth 60 fits 100000) (search polys depth 60 fits 100000) (search polys depth 60 fits 100000) tt
+            cert! (R ∷ l ∷ []) 399 (gap a ⊞ 244 · gap hR) (search polys depth 60 fits 100000) tt
 
         goL : One-far (w .cosL) (w .sinL) → pos 47 *ℤ R ≼ pos 100 *ℤ l
         goL (inl g) = end (w .cosL) (b .x) g

@@ -18,7 +18,7 @@ small-part : (up low η ζ e f : ℤ) → pos 0 ≼ up → up ≼ low → Bd η 
 small-part up low η ζ e f hu hl he hf =
     cert! (up ∷ low ∷ η ∷ ζ ∷ e ∷ f ∷ []) 0
     ((hu ⊞ gap hl) ⊛ (gap (he .low) ⊛ gap (hf .low) ⊞ gap (he .high) ⊛ gap (hf .high)) ⊞ gap hl ⊛ (sqr η ⊞ sqr ζ) ⊞ hu ⊛ (gap (he .low) ⊛ gap (he .high) ⊞ gap (hf .low) ⊛ gap (hf .high)))
-    (search polys depth 60 fits 100000) (search polys depth 60 fits 100000) (search polys depth 60 fits 100000) tt
+    (search polys depth 60 fits 100000) tt
 
 pub form-small : (up low η ζ : ℤ) (e f : Vector) → pos 0 ≼ up → up ≼ low → Bd³ η e → Bd³ ζ f → negℤ (pos 3 *ℤ low *ℤ ((η +ℤ ζ) *ℤ (η +ℤ ζ))) ≼ form up low e f
 unfolding dot form
@@ -27,7 +27,7 @@ form-small up low η ζ e f hu hl we wf =
     (small-part up low η ζ (e .x) (f .x) hu hl (we .x) (wf .x)
     ⊞ small-part up low η ζ (e .y) (f .y) hu hl (we .y) (wf .y)
     ⊞ small-part up low η ζ (e .z) (f .z) hu hl (we .z) (wf .z))
-    (search polys depth 60 fits 100000) (search polys depth 60 fits 100000) (search polys depth 60 fits 100000) tt
+    (search polys depth 60 fits 100000) tt
 
 -- From (a, b) to (a′, b′), η and ζ away: H² bounds |low·b − up·a|² and |low·a − up·b|².
 pub transfer : (up low H η ζ : ℤ) (a b a′ b′ : Vector) → pos 0 ≼ up → up ≼ low → Bd³ η (sub a′ a) → Bd³ ζ (sub b′ b) → pos 0 ≼ H
@@ -48,7 +48,7 @@ transfer up low H η ζ a b a′ b′ hu hl we wf hH ha hb =
         → pos 2 *ℤ F ≼ pos 2 *ℤ F′ +ℤ pos 7 *ℤ (η +ℤ ζ) *ℤ H +ℤ pos 6 *ℤ low *ℤ ((η +ℤ ζ) *ℤ (η +ℤ ζ))
     final F F′ p q r e hp hq hr =
         cert! (F ∷ F′ ∷ p ∷ q ∷ r ∷ η ∷ ζ ∷ H ∷ low ∷ []) 0 (2 · gap≡ (sym e) ⊞ gap hp ⊞ gap hq ⊞ 2 · gap hr)
-        (search polys depth 60 fits 100000) (search polys depth 60 fits 100000) (search polys depth 60 fits 100000) tt
+        (search polys depth 60 fits 100000) tt
 
 -- ---- The exact test of p = a·b, X = |a|², Y = |b|².
 
@@ -65,7 +65,7 @@ passes up low p X Y hu hl hs h = record { ahead = p-pos; close = squares }
     go (inr l) = l
     go (inl g) =
         let bad : pos 1 ≼ pos 0 =
-        cert! (up ∷ low ∷ p ∷ X ∷ Y ∷ []) 0 (gap h ⊞ 2 · (hl ⊛ gap g) ⊞ gap< hu ⊛ gap< hs ⊞ gap< hu ⊞ gap< hs) (search polys depth 60 fits 100000) (search polys depth 60 fits 100000) (search polys depth 60 fits 100000) tt in
+        cert! (up ∷ low ∷ p ∷ X ∷ Y ∷ []) 0 (gap h ⊞ 2 · (hl ⊛ gap g) ⊞ gap< hu ⊛ gap< hs ⊞ gap< hu ⊞ gap< hs) (search polys depth 60 fits 100000) tt in
         absurd (bad .le)
 
     p-pos : pos 0 ≺ p
@@ -74,7 +74,7 @@ passes up low p X Y hu hl hs h = record { ahead = p-pos; close = squares }
     squares : up *ℤ up *ℤ (X *ℤ Y) ≼ low *ℤ low *ℤ (p *ℤ p)
     squares =
         cert! (up ∷ low ∷ p ∷ X ∷ Y ∷ []) 3 (gap h ⊛ (2 · (hl ⊛ gap (≺-≼ p-pos)) ⊞ gap (≺-≼ hu) ⊛ gap (≺-≼ hs)) ⊞ sqr (up *ℤ (X -ℤ Y)))
-        (search polys depth 60 fits 100000) (search polys depth 60 fits 100000) (search polys depth 60 fits 100000) tt
+        (search polys depth 60 fits 100000) tt
 
 -- Where it holds, and the lengths are nearly equal, F is hardly below 0.
 pub form-low : (up low p X Y t : ℤ) → pos 0 ≺ up → up ≼ low → pos 0 ≺ X +ℤ Y → pos 0 ≼ t → (X -ℤ Y) *ℤ (X -ℤ Y) ≼ t *ℤ (X +ℤ Y) → Passes up low p X Y
@@ -91,14 +91,14 @@ form-low up low p X Y t hu hl hs ht hd h = go (≼-or-≺ (up *ℤ (X +ℤ Y)) (
     p′ = gap (≺-≼ (h .ahead))
 
     us : pos 0 ≺ up *ℤ (X +ℤ Y)
-    us = cert<! (up ∷ X ∷ Y ∷ []) 0 (gap< hu ⊛ gap< hs ⊞ gap< hu ⊞ gap< hs) (search polys depth 60 fits 100000) (search polys depth 60 fits 100000) (search polys depth 60 fits 100000) tt
+    us = cert<! (up ∷ X ∷ Y ∷ []) 0 (gap< hu ⊛ gap< hs ⊞ gap< hu ⊞ gap< hs) (search polys depth 60 fits 100000) tt
 
     go : (up *ℤ (X +ℤ Y) ≼ pos 2 *ℤ low *ℤ p) ⊎ (pos 2 *ℤ low *ℤ p ≺ up *ℤ (X +ℤ Y)) → up *ℤ (X +ℤ Y) ≼ pos 2 *ℤ low *ℤ p +ℤ t *ℤ low
-    go (inl l) = cert! (up ∷ low ∷ p ∷ X ∷ Y ∷ t ∷ []) 0 (gap l ⊞ ht ⊛ (up′ ⊞ gap hl)) (search polys depth 60 fits 100000) (search polys depth 60 fits 100000) (search polys depth 60 fits 100000) tt
+    go (inl l) = cert! (up ∷ low ∷ p ∷ X ∷ Y ∷ t ∷ []) 0 (gap l ⊞ ht ⊛ (up′ ⊞ gap hl)) (search polys depth 60 fits 100000) tt
     go (inr g) =
         cert*! (up ∷ low ∷ p ∷ X ∷ Y ∷ t ∷ []) (up *ℤ (X +ℤ Y)) us
         (up′ ⊛ s′ ⊛ ht ⊛ gap hl ⊞ sqr up ⊛ gap hd ⊞ 4 · gap (h .close) ⊞ 2 · (gap (≺-≼ g) ⊛ ((up′ ⊞ gap hl) ⊛ p′)))
-        (search polys depth 60 fits 100000) (search polys depth 60 fits 100000) (search polys depth 60 fits 100000) (search polys depth 60 fits 100000) tt
+        (search polys depth 60 fits 100000) tt
 
 -- ---- The squared length of a′, η away from a.
 
@@ -107,11 +107,11 @@ unfolding dot geocentric
 length-low η H a a′ w hH h =
     cert! (η ∷ H ∷ a .x ∷ a .y ∷ a .z ∷ a′ .x ∷ a′ .y ∷ a′ .z ∷ []) 0
     (gap (product-bd η H (sub a′ a) a w hH h .low) ⊞ 2 · (sqr (a′ .x -ℤ a .x) ⊞ sqr (a′ .y -ℤ a .y) ⊞ sqr (a′ .z -ℤ a .z)))
-    (search polys depth 60 fits 100000) (search polys depth 60 fits 100000) (search polys depth 60 fits 100000) tt
+    (search polys depth 60 fits 100000) tt
 
 pub length-high : (η H : ℤ) (a a′ : Vector) → Bd³ η (sub a′ a) → pos 0 ≼ H → dot a a ≼ H *ℤ H → pos 2 *ℤ dot a′ a′ ≼ pos 2 *ℤ dot a a +ℤ pos 7 *ℤ η *ℤ H +ℤ pos 6 *ℤ (η *ℤ η)
 unfolding dot geocentric
 length-high η H a a′ w hH h =
     cert! (η ∷ H ∷ a .x ∷ a .y ∷ a .z ∷ a′ .x ∷ a′ .y ∷ a′ .z ∷ []) 0
     (gap (product-bd η H (sub a′ a) a w hH h .high) ⊞ 2 · (gap (w .x .low) ⊛ gap (w .x .high) ⊞ gap (w .y .low) ⊛ gap (w .y .high) ⊞ gap (w .z .low) ⊛ gap (w .z .high)))
-    (search polys depth 60 fits 100000) (search polys depth 60 fits 100000) (search polys depth 60 fits 100000) tt
+    (search polys depth 60 fits 100000) tt

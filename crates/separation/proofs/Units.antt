@@ -59,25 +59,25 @@ unit-near l a h =
 expand : (l : ℤ) (u a : Vector) → let r = scl (pos 2) (sub (scl l u) (scl (pos U) a)) in
     pos 4 *ℤ (l *ℤ l *ℤ dot u u) ≡ pos 4 *ℤ (pos (U * U) *ℤ dot a a) +ℤ pos U *ℤ (pos 4 *ℤ dot r a) +ℤ dot r r
 unfolding dot scl geocentric
-expand l u a = ring! (l ∷ u .x ∷ u .y ∷ u .z ∷ a .x ∷ a .y ∷ a .z ∷ []) (search polys depth 60 fits 100000) (search polys depth 60 fits 100000) tt
+expand l u a = ring! (l ∷ u .x ∷ u .y ∷ u .z ∷ a .x ∷ a .y ∷ a .z ∷ []) (search polys depth 60 fits 100000) tt
 
 square-high : (η : ℤ) (r : Vector) → Bd³ η r → dot r r ≼ pos 3 *ℤ (η *ℤ η)
 unfolding dot
 square-high η r w =
-    cert! (η ∷ r .x ∷ r .y ∷ r .z ∷ []) 0 (gap (w .x .low) ⊛ gap (w .x .high) ⊞ gap (w .y .low) ⊛ gap (w .y .high) ⊞ gap (w .z .low) ⊛ gap (w .z .high)) (search polys depth 60 fits 100000) (search polys depth 60 fits 100000) (search polys depth 60 fits 100000) tt
+    cert! (η ∷ r .x ∷ r .y ∷ r .z ∷ []) 0 (gap (w .x .low) ⊛ gap (w .x .high) ⊞ gap (w .y .low) ⊛ gap (w .y .high) ⊞ gap (w .z .low) ⊛ gap (w .z .high)) (search polys depth 60 fits 100000) tt
 
 -- Over plain numbers: q = |u|², X = |a|², m = 4(2r·a), e = |2r|².
 high-end : (l q X m e : ℤ) → pos U ≼ l → X ≼ l *ℤ l +ℤ pos 2 *ℤ l → m ≼ pos 7 *ℤ l *ℤ (l +ℤ pos 1) → e ≼ pos 3 *ℤ (l *ℤ l)
     → pos 4 *ℤ (l *ℤ l *ℤ q) ≡ pos 4 *ℤ (pos (U * U) *ℤ X) +ℤ pos U *ℤ m +ℤ e → q ≼ pos (U * U + 4 * U)
 high-end l q X m e hl hX hm he eq =
-    cert*! (l ∷ q ∷ X ∷ m ∷ e ∷ []) (pos 4 *ℤ (l *ℤ l)) (cert<! (l ∷ []) 0 (4 · (gap hl ⊛ gap hl) ⊞ 8000000000 · gap hl) (search polys depth 60 fits 100000) (search polys depth 60 fits 100000) (search polys depth 60 fits 100000) tt)
-    (gap≡ eq ⊞ 4000000000000000000 · gap hX ⊞ 1000000000 · gap hm ⊞ gap he ⊞ 8999999997 · (gap hl ⊛ gap hl) ⊞ 9999999987000000000 · gap hl ⊞ nonneg 999999990000000000000000000) (search polys depth 60 fits 100000) (search polys depth 60 fits 100000) (search polys depth 60 fits 100000) (search polys depth 60 fits 100000) tt
+    cert*! (l ∷ q ∷ X ∷ m ∷ e ∷ []) (pos 4 *ℤ (l *ℤ l)) (cert<! (l ∷ []) 0 (4 · (gap hl ⊛ gap hl) ⊞ 8000000000 · gap hl) (search polys depth 60 fits 100000) tt)
+    (gap≡ eq ⊞ 4000000000000000000 · gap hX ⊞ 1000000000 · gap hm ⊞ gap he ⊞ 8999999997 · (gap hl ⊛ gap hl) ⊞ 9999999987000000000 · gap hl ⊞ nonneg 999999990000000000000000000) (search polys depth 60 fits 100000) tt
 
 low-end : (l q X m e : ℤ) → pos U ≼ l → l *ℤ l ≼ X → negℤ (pos 7 *ℤ l *ℤ (l +ℤ pos 1)) ≼ m → pos 0 ≼ e
     → pos 4 *ℤ (l *ℤ l *ℤ q) ≡ pos 4 *ℤ (pos (U * U) *ℤ X) +ℤ pos U *ℤ m +ℤ e → pos (U * U) ≼ q +ℤ pos (4 * U)
 low-end l q X m e hl hX hm he eq =
-    cert*! (l ∷ q ∷ X ∷ m ∷ e ∷ []) (pos 4 *ℤ (l *ℤ l)) (cert<! (l ∷ []) 0 (4 · (gap hl ⊛ gap hl) ⊞ 8000000000 · gap hl) (search polys depth 60 fits 100000) (search polys depth 60 fits 100000) (search polys depth 60 fits 100000) tt)
-    (gap≡ (sym eq) ⊞ 4000000000000000000 · gap hX ⊞ 1000000000 · gap hm ⊞ he ⊞ 9000000000 · (gap hl ⊛ gap hl) ⊞ 17999999993000000000 · gap hl ⊞ nonneg 8999999993000000000000000000) (search polys depth 60 fits 100000) (search polys depth 60 fits 100000) (search polys depth 60 fits 100000) (search polys depth 60 fits 100000) tt
+    cert*! (l ∷ q ∷ X ∷ m ∷ e ∷ []) (pos 4 *ℤ (l *ℤ l)) (cert<! (l ∷ []) 0 (4 · (gap hl ⊛ gap hl) ⊞ 8000000000 · gap hl) (search polys depth 60 fits 100000) tt)
+    (gap≡ (sym eq) ⊞ 4000000000000000000 · gap hX ⊞ 1000000000 · gap hm ⊞ he ⊞ 9000000000 · (gap hl ⊛ gap hl) ⊞ 17999999993000000000 · gap hl ⊞ nonneg 8999999993000000000000000000) (search polys depth 60 fits 100000) tt
 
 pub unit-over-is : (l : ℕ) (a : Vector) → pos U ≼ pos l → pos l *ℤ pos l ≼ dot a a → dot a a ≼ pos l *ℤ pos l +ℤ pos 2 *ℤ pos l → Unit³ (unit-over l a)
 unit-over-is l a hl lo hi =
@@ -85,7 +85,7 @@ unit-over-is l a hl lo hi =
     let r = scl (pos 2) (sub (scl (pos l) u) (scl (pos U) a)) in
     let l₀ : 0 < l = above l hl in
     let w : Bd³ (pos l) r = unit-near l a l₀ in
-    let h : dot a a ≼ (pos l +ℤ pos 1) *ℤ (pos l +ℤ pos 1) = cert! (pos l ∷ dot a a ∷ []) 0 (gap hi) (search polys depth 60 fits 100000) (search polys depth 60 fits 100000) (search polys depth 60 fits 100000) tt in
+    let h : dot a a ≼ (pos l +ℤ pos 1) *ℤ (pos l +ℤ pos 1) = cert! (pos l ∷ dot a a ∷ []) 0 (gap hi) (search polys depth 60 fits 100000) tt in
     let k : pos 0 ≼ pos l +ℤ pos 1 = nonneg (l + 1) in
     record {
       least = low-end (pos l) (dot u u) (dot a a) (pos 4 *ℤ dot r a) (dot r r) hl lo (product-bd (pos l) (pos l +ℤ pos 1) r a w k h .low) (square-nonneg r) (expand (pos l) u a);
@@ -107,7 +107,7 @@ within-length a =
     let l₀ = nonneg (length a) in
     let ρ = pos (length a) ∷ a .x ∷ a .y ∷ a .z ∷ [] in
     record {
-      x = root-bd (a .x) (pos (length a)) l₀ (cert! ρ 0 (gap h ⊞ sqr (a .y) ⊞ sqr (a .z)) (search polys depth 60 fits 100000) (search polys depth 60 fits 100000) (search polys depth 60 fits 100000) tt);
-      y = root-bd (a .y) (pos (length a)) l₀ (cert! ρ 0 (gap h ⊞ sqr (a .x) ⊞ sqr (a .z)) (search polys depth 60 fits 100000) (search polys depth 60 fits 100000) (search polys depth 60 fits 100000) tt);
-      z = root-bd (a .z) (pos (length a)) l₀ (cert! ρ 0 (gap h ⊞ sqr (a .x) ⊞ sqr (a .y)) (search polys depth 60 fits 100000) (search polys depth 60 fits 100000) (search polys depth 60 fits 100000) tt);
+      x = root-bd (a .x) (pos (length a)) l₀ (cert! ρ 0 (gap h ⊞ sqr (a .y) ⊞ sqr (a .z)) (search polys depth 60 fits 100000) tt);
+      y = root-bd (a .y) (pos (length a)) l₀ (cert! ρ 0 (gap h ⊞ sqr (a .x) ⊞ sqr (a .z)) (search polys depth 60 fits 100000) tt);
+      z = root-bd (a .z) (pos (length a)) l₀ (cert! ρ 0 (gap h ⊞ sqr (a .x) ⊞ sqr (a .y)) (search polys depth 60 fits 100000) tt);
     }

@@ -25,14 +25,14 @@ pub record Held (Q : ℤ) (f : Fraction) : Type 0 where
   pub is : f .lower *ℤ m ≡ Q
 
 held-self : (f : Fraction) → pos 0 ≺ f .lower → Held (f .lower) f
-held-self f h = record { m = pos 1; m-pos = record { lt = tt }; low-pos = h; is = ring! (f .lower ∷ []) (search polys depth 60 fits 100000) (search polys depth 60 fits 100000) tt }
+held-self f h = record { m = pos 1; m-pos = record { lt = tt }; low-pos = h; is = ring! (f .lower ∷ []) (search polys depth 60 fits 100000) tt }
 
 held-left : (Q t : ℤ) (f : Fraction) → pos 0 ≺ t → Held Q f → Held (Q *ℤ t) f
 held-left Q t f ht h = record {
   m = h .m *ℤ t;
   m-pos = product-pos (h .m) t (h .m-pos) ht;
   low-pos = h .low-pos;
-  is = ring! (f .lower ∷ h .m ∷ t ∷ []) {y = f .lower *ℤ h .m *ℤ t} (search polys depth 60 fits 100000) (search polys depth 60 fits 100000) tt ∙ ap (λ (q : ℤ). q *ℤ t) (h .is);
+  is = ring! (f .lower ∷ h .m ∷ t ∷ []) {y = f .lower *ℤ h .m *ℤ t} (search polys depth 60 fits 100000) tt ∙ ap (λ (q : ℤ). q *ℤ t) (h .is);
 }
 
 held-right : (Q t : ℤ) (f : Fraction) → pos 0 ≺ t → Held Q f → Held (t *ℤ Q) f
@@ -40,17 +40,17 @@ held-right Q t f ht h = record {
   m = t *ℤ h .m;
   m-pos = product-pos t (h .m) ht (h .m-pos);
   low-pos = h .low-pos;
-  is = ring! (f .lower ∷ h .m ∷ t ∷ []) {y = t *ℤ (f .lower *ℤ h .m)} (search polys depth 60 fits 100000) (search polys depth 60 fits 100000) tt ∙ ap (λ (q : ℤ). t *ℤ q) (h .is);
+  is = ring! (f .lower ∷ h .m ∷ t ∷ []) {y = t *ℤ (f .lower *ℤ h .m)} (search polys depth 60 fits 100000) tt ∙ ap (λ (q : ℤ). t *ℤ q) (h .is);
 }
 
 over-held : (Q : ℤ) (f : Fraction) (h : Held Q f) → Over Q f (f .upper *ℤ h .m)
-over-held Q f h = record { low-pos = h .low-pos; same = ap (λ (q : ℤ). f .upper *ℤ q) (sym (h .is)) ∙ ring! (f .upper ∷ f .lower ∷ h .m ∷ []) (search polys depth 60 fits 100000) (search polys depth 60 fits 100000) tt }
+over-held Q f h = record { low-pos = h .low-pos; same = ap (λ (q : ℤ). f .upper *ℤ q) (sym (h .is)) ∙ ring! (f .upper ∷ f .lower ∷ h .m ∷ []) (search polys depth 60 fits 100000) tt }
 
 -- The fraction and x/U differ by at most A/U: the same over Q.
 bd-held : (Q A x : ℤ) (f : Fraction) (h : Held Q f) → Bd (A *ℤ f .lower) (x *ℤ f .lower -ℤ pos U *ℤ f .upper) → Bd (A *ℤ Q) (x *ℤ Q -ℤ pos U *ℤ (f .upper *ℤ h .m))
 bd-held Q A x f h b =
     subst (λ (q : ℤ). Bd (A *ℤ q) (x *ℤ q -ℤ pos U *ℤ (f .upper *ℤ h .m))) (h .is)
-    (bd-as _ _ _ _ (ring! (A ∷ f .lower ∷ h .m ∷ []) (search polys depth 60 fits 100000) (search polys depth 60 fits 100000) tt) (ring! (x ∷ f .lower ∷ f .upper ∷ h .m ∷ []) (search polys depth 60 fits 100000) (search polys depth 60 fits 100000) tt)
+    (bd-as _ _ _ _ (ring! (A ∷ f .lower ∷ h .m ∷ []) (search polys depth 60 fits 100000) tt) (ring! (x ∷ f .lower ∷ f .upper ∷ h .m ∷ []) (search polys depth 60 fits 100000) tt)
     (bd-* (A *ℤ f .lower) (h .m) (x *ℤ f .lower -ℤ pos U *ℤ f .upper) (h .m) b (bd-self (h .m) (≺-≼ (h .m-pos)))))
 
 -- ---- The five figures of which an exact place is made.
@@ -147,7 +147,7 @@ seen-of Q x f h n = record {
 radius-of : (Q r : ℤ) (f : Fraction) (h : Held Q f) → Bd (pos 200000 *ℤ f .lower) (f .lower *ℤ r -ℤ f .upper) → Bd (pos 200000 *ℤ Q) (Q *ℤ r -ℤ f .upper *ℤ h .m)
 radius-of Q r f h b =
     subst (λ (q : ℤ). Bd (pos 200000 *ℤ q) (q *ℤ r -ℤ f .upper *ℤ h .m)) (h .is)
-    (bd-as _ _ _ _ (ring! (f .lower ∷ h .m ∷ []) (search polys depth 60 fits 100000) (search polys depth 60 fits 100000) tt) (ring! (r ∷ f .lower ∷ f .upper ∷ h .m ∷ []) (search polys depth 60 fits 100000) (search polys depth 60 fits 100000) tt)
+    (bd-as _ _ _ _ (ring! (f .lower ∷ h .m ∷ []) (search polys depth 60 fits 100000) tt) (ring! (r ∷ f .lower ∷ f .upper ∷ h .m ∷ []) (search polys depth 60 fits 100000) tt)
     (bd-* (pos 200000 *ℤ f .lower) (h .m) (f .lower *ℤ r -ℤ f .upper) (h .m) b (bd-self (h .m) (≺-≼ (h .m-pos)))))
 
 pub faithful : (Q : ℤ) (w : Figures) (e : Five) (h : Held⁵ Q e) → Near⁵ w e → Faithful Q w (whole Q e h)
@@ -163,7 +163,7 @@ faithful Q w e h n = record {
 -- R cos B cos L over Q³.
 three : (Q r b l : ℤ) (R B L : Fraction) → Over Q R r → Over Q B b → Over Q L l → Over (Q *ℤ (Q *ℤ Q)) (R *ᶠ B *ᶠ L) (r *ℤ (b *ℤ l))
 three Q r b l R B L hR hB hL =
-    over-as (Q *ℤ Q *ℤ Q) (Q *ℤ (Q *ℤ Q)) (r *ℤ b *ℤ l) (r *ℤ (b *ℤ l)) (R *ᶠ B *ᶠ L) (ring! (Q ∷ []) (search polys depth 60 fits 100000) (search polys depth 60 fits 100000) tt) (ring! (r ∷ b ∷ l ∷ []) (search polys depth 60 fits 100000) (search polys depth 60 fits 100000) tt)
+    over-as (Q *ℤ Q *ℤ Q) (Q *ℤ (Q *ℤ Q)) (r *ℤ b *ℤ l) (r *ℤ (b *ℤ l)) (R *ᶠ B *ᶠ L) (ring! (Q ∷ []) (search polys depth 60 fits 100000) tt) (ring! (r ∷ b ∷ l ∷ []) (search polys depth 60 fits 100000) tt)
     (over-* (Q *ℤ Q) Q (r *ℤ b) l (R *ᶠ B) L (over-* Q Q r b R B hR hB) hL)
 
 pub place-over : (Q : ℤ) (c : Exact-coordinates) (h : Held⁵ Q (five-of c)) → Over³ (Q *ℤ (Q *ℤ Q)) (exact-place c) (whole-place Q (whole Q (five-of c) h))

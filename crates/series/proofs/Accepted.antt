@@ -4,9 +4,9 @@ use mathlib.Core.List.{List, [], _∷_}
 use Prim.Native.Nat.{ℕ, zero, suc, _<_}
 use native.Mathlib.Omega.{arith}
 use lib.ListN.{length, getD, take, drop}
-use Rattle.packed.specs.declared.Term.{Term}
+use Rattle.limits.specs.declared.Term.{Term}
 use Rattle.packed.specs.Series.{parse, accepted}
-use Rattle.packed.specs.Allowed.{BlockFits, Allowed}
+use Rattle.limits.specs.Allowed.{BlockFits, Allowed}
 use Rattle.packed.proofs.Theorems.{accepted-allowed}
 
 -- Every block of a list is within the limits of a block.

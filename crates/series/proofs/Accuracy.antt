@@ -16,15 +16,15 @@ use Rattle.integers.proofs.Order.{natAbs-low, natAbs-high, ≼-antisym}
 use Rattle.integers.proofs.Division.{rounded-add}
 use Rattle.integers.proofs.Tests.{both}
 use Rattle.integers.proofs.Bounds.{Bd, bd-rounded}
-use Rattle.units.specs.Units.{U, millennium, t-limit, tau-limit}
+use Rattle.units.specs.Units.{U, millennium, t-limit, tau-limit, coarse-share}
 use Rattle.cosine.specs.Cosine.{cosine}
 use Rattle.cosine.specs.Reference.{Within}
 use Rattle.cosine.specs.Terms.{term-angle, term-cosine, term-value, term-reference}
 use Rattle.cosine.proofs.Promise.{P1, P1-constant}
 use Rattle.cosine.proofs.Figures.{figures}
-use Rattle.packed.specs.declared.Term.{Term}
-use Rattle.packed.specs.Limits.{constant, weight, coarse-share}
-use Rattle.packed.specs.Allowed.{TermFits, AllFit, none, more, coarseness, moving-total, moving-count}
+use Rattle.limits.specs.declared.Term.{Term}
+use Rattle.limits.specs.Limits.{constant, weight}
+use Rattle.limits.specs.Allowed.{TermFits, AllFit, none, more, coarseness, moving-total, moving-count}
 use Rattle.packed.proofs.Limits.{burden, burden-more}
 use Rattle.pieces.specs.Sums.{block-sum}
 use Rattle.series.specs.Sums.{running-sum}
@@ -63,8 +63,8 @@ constant-cosine t = ap (λ z. cosine (pos (modulo (pos 0 +ℤ rounded z millenni
 -- so its value is a
 whole-rounded : (a : ℤ) → rounded (a *ℤ u) U ≡ a
 whole-rounded a =
-    ap (λ z. rounded z U) (ring! (a ∷ []) {y = u *ℤ a +ℤ pos 0} (search polys depth 60 fits 100000) (search polys depth 60 fits 100000) tt)
-    ∙ rounded-add a (pos 0) U (omega arith) ∙ unfold rounded floor in ring! (a ∷ []) (search polys depth 60 fits 100000) (search polys depth 60 fits 100000) tt
+    ap (λ z. rounded z U) (ring! (a ∷ []) {y = u *ℤ a +ℤ pos 0} (search polys depth 60 fits 100000) tt)
+    ∙ rounded-add a (pos 0) U (omega arith) ∙ unfold rounded floor in ring! (a ∷ []) (search polys depth 60 fits 100000) tt
 
 -- and its reference cosine is 1
 constant-reference : (t : ℤ) → term-reference 0 (pos 0) t .upper ≡ term-reference 0 (pos 0) t .lower
@@ -72,8 +72,8 @@ constant-reference t =
     let z = term-reference 0 (pos 0) t in
     let h = subst (λ x. Within 0 x z) (constant-cosine t) (P1-constant t) in
     ≼-antisym (z .upper) (z .lower)
-    (cert! (z .upper ∷ z .lower ∷ []) 999999999 (gap (h .least)) (search polys depth 60 fits 100000) (search polys depth 60 fits 100000) (search polys depth 60 fits 100000) tt)
-    (cert! (z .upper ∷ z .lower ∷ []) 999999999 (gap (h .most)) (search polys depth 60 fits 100000) (search polys depth 60 fits 100000) (search polys depth 60 fits 100000) tt)
+    (cert! (z .upper ∷ z .lower ∷ []) 999999999 (gap (h .least)) (search polys depth 60 fits 100000) tt)
+    (cert! (z .upper ∷ z .lower ∷ []) 999999999 (gap (h .most)) (search polys depth 60 fits 100000) tt)
 
 no-burden : (f : ℕ) → 0 ≡ f * (coarse-share * 0 + U * 0)
 no-burden f = omega arith
@@ -170,7 +170,7 @@ unfolding exact-sum
 exact-none t i = refl
 
 plus-zero : (x : ℤ) → x ≡ x +ℤ pos 0
-plus-zero x = ring! (x ∷ []) (search polys depth 60 fits 100000) (search polys depth 60 fits 100000) tt
+plus-zero x = ring! (x ∷ []) (search polys depth 60 fits 100000) tt
 
 one-close : (t : ℤ) → natAbs t ≤ t-limit → (i : ℕ) (b : List Term) → AllFit b → Sum-close t i (b ∷ [])
 one-close t ht i b h =

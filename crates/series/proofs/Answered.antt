@@ -10,7 +10,7 @@ use Rattle.units.specs.Units.{t-limit, in-limit}
 use Rattle.units.specs.declared.Instant.{Instant}
 use Rattle.units.specs.declared.Coordinates.{Coordinates}
 use Rattle.units.specs.declared.Refusal.the-variants.{PastLimit}
-use Rattle.packed.specs.declared.Term.{Term}
+use Rattle.limits.specs.declared.Term.{Term}
 use Rattle.packed.specs.Series.{Parsed, parse, accepted, refused}
 use Rattle.series.specs.declared.CoordinatesAnswer.the-variants.{At, NoCoordinates}
 use Rattle.series.specs.Sums.{coordinates-answer, coordinates, of-parsed}

@@ -7,15 +7,14 @@ use native.Mathlib.Omega.{arith}
 use borrow.Author.Tests.{leb-true, not-true, not-false}
 use lib.IntN.{ℤ, natAbs}
 use lib.ListN.{length}
-use Rattle.units.specs.Units.{t-limit, in-limit}
+use Rattle.units.specs.Units.{t-limit, in-limit, block-count}
 use Rattle.units.specs.declared.Instant.{Instant}
 use Rattle.units.specs.declared.Coordinates.{Coordinates}
 use Rattle.units.specs.declared.Refusal.{Refusal}
 use Rattle.units.specs.declared.Refusal.the-variants.{PastLimit}
-use Rattle.packed.specs.declared.Term.{Term}
+use Rattle.limits.specs.declared.Term.{Term}
 use Rattle.packed.specs.declared.Checked.{Checked}
 use Rattle.packed.specs.declared.Checked.the-variants.{Terms, NoSeries}
-use Rattle.packed.specs.Limits.{block-count}
 use Rattle.packed.specs.Series.{Parsed, accepted, refused, parse, checked}
 use Rattle.packed.specs.machine.Tables.{Sized, Holds, table-blocks, unpacked}
 use Rattle.series.specs.declared.CoordinatesAnswer.the-variants.{At, NoCoordinates}

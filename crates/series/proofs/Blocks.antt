@@ -8,9 +8,8 @@ use lib.IntN.{ℤ, pos, natAbs, _+ℤ_, _*ℤ_, +ℤ-idr}
 use lib.ListN.{length, getD, take, drop, length-take, length-drop}
 use lib.Seq.{drop-cons, getD-take, getD-drop}
 use Rattle.integers.specs.Division.{rounded}
-use Rattle.units.specs.Units.{millennium, t-limit}
-use Rattle.packed.specs.declared.Term.{Term}
-use Rattle.packed.specs.Limits.{total-limit}
+use Rattle.units.specs.Units.{millennium, t-limit, total-limit}
+use Rattle.limits.specs.declared.Term.{Term}
 use Rattle.packed.proofs.Tabled.{block-start}
 use Rattle.pieces.specs.Sums.{block-sum}
 use Rattle.pieces.proofs.Sizes.{no-share}

@@ -22,8 +22,8 @@ pub close-zero : (U p q : ℤ) → Close U (pos 0) p q (pos 0) (wholeᶠ (pos 0)
 close-zero U p q = record {
   lower = record { lt = tt };
   bound = record {
-    low = cert! (U ∷ p ∷ q ∷ []) 0 (nonneg 0) (search polys depth 60 fits 100000) (search polys depth 60 fits 100000) (search polys depth 60 fits 100000) tt;
-    high = cert! (U ∷ p ∷ q ∷ []) 0 (nonneg 0) (search polys depth 60 fits 100000) (search polys depth 60 fits 100000) (search polys depth 60 fits 100000) tt;
+    low = cert! (U ∷ p ∷ q ∷ []) 0 (nonneg 0) (search polys depth 60 fits 100000) tt;
+    high = cert! (U ∷ p ∷ q ∷ []) 0 (nonneg 0) (search polys depth 60 fits 100000) tt;
   };
 }
 
@@ -36,15 +36,15 @@ close-+ U m n p q x y f g h k =
       lower = product-pos (f .lower) (g .lower) (h .lower) (k .lower);
       bound =
           bd-as _ _ _ _
-          (ring! (m ∷ n ∷ q ∷ f .lower ∷ g .lower ∷ []) (search polys depth 60 fits 100000) (search polys depth 60 fits 100000) tt)
-          (ring! (U ∷ p ∷ q ∷ x ∷ y ∷ f .upper ∷ f .lower ∷ g .upper ∷ g .lower ∷ []) (search polys depth 60 fits 100000) (search polys depth 60 fits 100000) tt)
+          (ring! (m ∷ n ∷ q ∷ f .lower ∷ g .lower ∷ []) (search polys depth 60 fits 100000) tt)
+          (ring! (U ∷ p ∷ q ∷ x ∷ y ∷ f .upper ∷ f .lower ∷ g .upper ∷ g .lower ∷ []) (search polys depth 60 fits 100000) tt)
           (bd-+ _ _ _ _ a b);
     }
 
 pub close-le : (U m n p q x : ℤ) (f : Fraction) → pos 0 ≺ q → m ≼ n → Close U m p q x f → Close U n p q x f
 close-le U m n p q x f hq l h = record {
   lower = h .lower;
-  bound = bd-le _ _ _ (cert! (m ∷ n ∷ q ∷ f .lower ∷ []) 0 (gap l ⊛ (≺-≼ hq ⊛ ≺-≼ (h .lower))) (search polys depth 60 fits 100000) (search polys depth 60 fits 100000) (search polys depth 60 fits 100000) tt) (h .bound);
+  bound = bd-le _ _ _ (cert! (m ∷ n ∷ q ∷ f .lower ∷ []) 0 (gap l ⊛ (≺-≼ hq ⊛ ≺-≼ (h .lower))) (search polys depth 60 fits 100000) tt) (h .bound);
 }
 
 -- A term: x is a·c/U rounded, c/U within N/U of z, |a| at most A, |p/q| at most w
@@ -59,8 +59,8 @@ close-term U N A w p q a c x z hq hz hN hp ha hx hc =
       lower = product-pos (pos 1 *ℤ q) (z .lower) (product-pos (pos 1) q (record { lt = tt }) hq) hz;
       bound =
           bd-as _ _ _ _
-          (ring! (U ∷ N ∷ A ∷ w ∷ q ∷ z .lower ∷ []) (search polys depth 60 fits 100000) (search polys depth 60 fits 100000) tt)
-          (ring! (U ∷ p ∷ q ∷ a ∷ c ∷ x ∷ z .upper ∷ z .lower ∷ []) (search polys depth 60 fits 100000) (search polys depth 60 fits 100000) tt)
+          (ring! (U ∷ N ∷ A ∷ w ∷ q ∷ z .lower ∷ []) (search polys depth 60 fits 100000) tt)
+          (ring! (U ∷ p ∷ q ∷ a ∷ c ∷ x ∷ z .upper ∷ z .lower ∷ []) (search polys depth 60 fits 100000) tt)
           g;
     }
 
@@ -72,8 +72,8 @@ close-constant U p q a z hq hz e = record {
   bound =
       subst (λ (u : ℤ). Bd (pos 0 *ℤ (q *ℤ (pos 1 *ℤ q *ℤ z .lower))) (pos 2 *ℤ U *ℤ (a *ℤ p *ℤ (pos 1 *ℤ q *ℤ z .lower) -ℤ a *ℤ p *ℤ u *ℤ q))) (sym e)
       (record {
-        low = cert! (U ∷ p ∷ q ∷ a ∷ z .lower ∷ []) 0 (nonneg 0) (search polys depth 60 fits 100000) (search polys depth 60 fits 100000) (search polys depth 60 fits 100000) tt;
-        high = cert! (U ∷ p ∷ q ∷ a ∷ z .lower ∷ []) 0 (nonneg 0) (search polys depth 60 fits 100000) (search polys depth 60 fits 100000) (search polys depth 60 fits 100000) tt;
+        low = cert! (U ∷ p ∷ q ∷ a ∷ z .lower ∷ []) 0 (nonneg 0) (search polys depth 60 fits 100000) tt;
+        high = cert! (U ∷ p ∷ q ∷ a ∷ z .lower ∷ []) 0 (nonneg 0) (search polys depth 60 fits 100000) tt;
       });
 }
 
@@ -92,8 +92,8 @@ close-step U m n w p q t T s v r f g hU hq hT hp hr h k =
       bound =
           bd-cancel T _ _ hT
           (bd-as _ _ _ _
-          (ring! (U ∷ m ∷ n ∷ w ∷ q ∷ T ∷ F ∷ G ∷ []) (search polys depth 60 fits 100000) (search polys depth 60 fits 100000) tt)
-          (ring! (U ∷ p ∷ q ∷ t ∷ T ∷ s ∷ v ∷ r ∷ f .upper ∷ F ∷ g .upper ∷ G ∷ []) (search polys depth 60 fits 100000) (search polys depth 60 fits 100000) tt)
+          (ring! (U ∷ m ∷ n ∷ w ∷ q ∷ T ∷ F ∷ G ∷ []) (search polys depth 60 fits 100000) tt)
+          (ring! (U ∷ p ∷ q ∷ t ∷ T ∷ s ∷ v ∷ r ∷ f .upper ∷ F ∷ g .upper ∷ G ∷ []) (search polys depth 60 fits 100000) tt)
           (bd-+ _ _ _ _ (bd-+ _ _ _ _ a b) c));
     }
 
@@ -109,7 +109,7 @@ unfolding powerᶠ _*ᶠ_
 power-bound K t T zero h = subst (λ (n : ℕ). Bd (pos n *ℤ pos 1) (pos 1)) (sym (pow-zero K)) (record { low = record { le = tt }; high = record { le = tt } })
 power-bound K t T (suc i) h =
     bd-as _ _ _ _
-    (ring! (pos K ∷ pos T ∷ pos (K ^ i) ∷ powerᶠ (overᶠ t T) i .lower ∷ []) {y = pos (K * K ^ i) *ℤ (pos T *ℤ powerᶠ (overᶠ t T) i .lower)} (search polys depth 60 fits 100000) (search polys depth 60 fits 100000) tt
+    (ring! (pos K ∷ pos T ∷ pos (K ^ i) ∷ powerᶠ (overᶠ t T) i .lower ∷ []) {y = pos (K * K ^ i) *ℤ (pos T *ℤ powerᶠ (overᶠ t T) i .lower)} (search polys depth 60 fits 100000) tt
     ∙ ap (λ (n : ℕ). pos n *ℤ (pos T *ℤ powerᶠ (overᶠ t T) i .lower)) (order K i))
     refl
     (bd-* _ _ _ _ h (power-bound K t T i h))

@@ -9,10 +9,9 @@ use Rattle.integers.specs.Order.{_≼_}
 use Rattle.integers.specs.Fractions.{Fraction, _+ᶠ_, negᶠ, wholeᶠ, powerᶠ, Apart}
 use Rattle.integers.proofs.Auto.{polys, cert!, gap, _⊞_, _⊛_}
 use Rattle.integers.proofs.Order.{≺-≼}
-use Rattle.units.specs.Units.{U, t-limit}
-use Rattle.packed.specs.declared.Term.{Term}
-use Rattle.packed.specs.Limits.{coarse-base, coarse-limit}
-use Rattle.packed.specs.Allowed.{coarseness}
+use Rattle.units.specs.Units.{U, t-limit, coarse-base, coarse-limit}
+use Rattle.limits.specs.declared.Term.{Term}
+use Rattle.limits.specs.Allowed.{coarseness}
 use Rattle.series.specs.Sums.{running-sum}
 use Rattle.series.specs.Exact.{exact-sum}
 use Rattle.series.proofs.Close.{Close}
@@ -39,8 +38,8 @@ within m x f h c =
       lower-e = record { lt = tt };
       lower-f = record { lt = tt };
       lower-g = c .lower;
-      most = cert! (pos m ∷ x ∷ f .upper ∷ f .lower ∷ []) 1999999999 (gap (c .bound .high) ⊞ gap l ⊛ ≺-≼ (c .lower)) (search polys depth 60 fits 100000) (search polys depth 60 fits 100000) (search polys depth 60 fits 100000) tt;
-      least = cert! (pos m ∷ x ∷ f .upper ∷ f .lower ∷ []) 1999999999 (gap (c .bound .low) ⊞ gap l ⊛ ≺-≼ (c .lower)) (search polys depth 60 fits 100000) (search polys depth 60 fits 100000) (search polys depth 60 fits 100000) tt;
+      most = cert! (pos m ∷ x ∷ f .upper ∷ f .lower ∷ []) 1999999999 (gap (c .bound .high) ⊞ gap l ⊛ ≺-≼ (c .lower)) (search polys depth 60 fits 100000) tt;
+      least = cert! (pos m ∷ x ∷ f .upper ∷ f .lower ∷ []) 1999999999 (gap (c .bound .low) ⊞ gap l ⊛ ≺-≼ (c .lower)) (search polys depth 60 fits 100000) tt;
     }
 
 pub distance : (t : ℤ) → natAbs t ≤ t-limit → (bs : List (List Term)) → Blocks-in bs → coarseness 0 (take 6 bs) + coarse-base ≤ coarse-limit

@@ -4,9 +4,9 @@ use mathlib.Core.List.{List}
 use Prim.Native.Nat.{ℕ}
 use lib.IntN.{ℤ}
 use lib.ListN.{length}
-use Rattle.packed.specs.declared.Term.{Term}
-use Rattle.packed.specs.Limits.{block-count}
-use Rattle.packed.specs.Allowed.{Allowed}
+use Rattle.limits.specs.declared.Term.{Term}
+use Rattle.units.specs.Units.{block-count}
+use Rattle.limits.specs.Allowed.{Allowed}
 use Rattle.packed.specs.machine.Tables.{Sized, Holds}
 use Rattle.series.specs.machine.Tables.{Table}
 use Rattle.series.proofs.Accepted.{Accepted}

@@ -9,7 +9,7 @@ use Rattle.integers.proofs.Order.{product-pos}
 use Rattle.units.specs.Units.{parts, millennium}
 use Rattle.cosine.specs.Terms.{term-reference}
 use Rattle.cosine.proofs.Ranges.{cosine-unit}
-use Rattle.packed.specs.declared.Term.{Term}
+use Rattle.limits.specs.declared.Term.{Term}
 use Rattle.series.specs.Sums.{longitude-blocks, latitude-blocks, radius-blocks}
 use Rattle.series.specs.Exact.{tau, exact-term, exact-block, exact-sum, exact-longitude, exact-latitude, exact-radius}
 use Rattle.series.proofs.Close.{power-lower}

@@ -9,7 +9,7 @@ use Rattle.integers.specs.Fractions.{Fraction, Apart, wholeᶠ}
 use Rattle.units.specs.Units.{t-limit}
 use Rattle.units.specs.declared.Instant.{Instant}
 use Rattle.units.specs.declared.Coordinates.{Coordinates}
-use Rattle.packed.specs.declared.Term.{Term}
+use Rattle.limits.specs.declared.Term.{Term}
 use Rattle.packed.specs.Series.{parse, accepted}
 use Rattle.series.specs.declared.CoordinatesAnswer.the-variants.{At}
 use Rattle.series.specs.Sums.{coordinates-answer, coordinates, longitude-blocks, latitude-blocks, radius-blocks}

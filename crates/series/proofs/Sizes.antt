@@ -8,10 +8,9 @@ use lib.ListN.{length}
 use Rattle.integers.specs.Division.{rounded}
 use Rattle.integers.proofs.Order.{natAbs-*, natAbs-+}
 use Rattle.arith.proofs.Ranges.{rounded-within}
-use Rattle.units.specs.Units.{millennium, t-limit, tau-limit}
-use Rattle.packed.specs.declared.Term.{Term}
-use Rattle.packed.specs.Limits.{total-limit}
-use Rattle.packed.specs.Allowed.{total-of}
+use Rattle.units.specs.Units.{millennium, t-limit, tau-limit, total-limit}
+use Rattle.limits.specs.declared.Term.{Term}
+use Rattle.limits.specs.Allowed.{total-of}
 use Rattle.pieces.specs.Sums.{block-sum}
 use Rattle.pieces.proofs.Sizes.{block-size}
 use Rattle.series.specs.Sums.{running-sum}

@@ -11,10 +11,9 @@ use mir.Syntax.{w64}
 use mir.Val.{SFits}
 use Rattle.integers.specs.Division.{rounded}
 use Rattle.arith.proofs.Cells.{Cell, cell, held-le}
-use Rattle.units.specs.Units.{millennium, t-limit}
-use Rattle.packed.specs.declared.Term.{Term}
-use Rattle.packed.specs.Limits.{total-limit, series-limit, block-count}
-use Rattle.packed.specs.Allowed.{BlockFits}
+use Rattle.units.specs.Units.{millennium, t-limit, total-limit, series-limit, block-count}
+use Rattle.limits.specs.declared.Term.{Term}
+use Rattle.limits.specs.Allowed.{BlockFits}
 use Rattle.packed.specs.machine.Tables.{terms-at, table-blocks}
 use Rattle.packed.proofs.Tabled.{block-start, rising, within-table, block-there}
 use Rattle.pieces.specs.Sums.{block-sum}

@@ -5,7 +5,7 @@ use lib.IntN.{ℤ, pos}
 use Rattle.integers.specs.Fractions.{Fraction, _*ᶠ_, _+ᶠ_, wholeᶠ, overᶠ, powerᶠ}
 use Rattle.units.specs.Units.{millennium}
 use Rattle.cosine.specs.Terms.{term-reference}
-use Rattle.packed.specs.declared.Term.{Term}
+use Rattle.limits.specs.declared.Term.{Term}
 use Rattle.series.specs.Sums.{longitude-blocks, latitude-blocks, radius-blocks}
 
 -- tau = t/T

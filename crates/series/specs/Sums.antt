@@ -5,12 +5,11 @@ use Prim.Native.Nat.{ℕ, _*_}
 use lib.IntN.{ℤ, pos, _+ℤ_, _*ℤ_}
 use lib.ListN.{take, drop}
 use Rattle.integers.specs.Division.{rounded}
-use Rattle.units.specs.Units.{millennium, in-limit}
+use Rattle.units.specs.Units.{millennium, in-limit, powers}
 use Rattle.units.specs.declared.Instant.{Instant}
 use Rattle.units.specs.declared.Coordinates.{Coordinates}
 use Rattle.units.specs.declared.Refusal.the-variants.{PastLimit}
-use Rattle.packed.specs.declared.Term.{Term}
-use Rattle.packed.specs.Limits.{powers}
+use Rattle.limits.specs.declared.Term.{Term}
 use Rattle.packed.specs.Series.{Parsed, accepted, refused, parse}
 use Rattle.pieces.specs.Sums.{block-sum}
 use Rattle.series.specs.declared.CoordinatesAnswer.{CoordinatesAnswer}

@@ -15,7 +15,7 @@ use Rattle.calendar.proofs.Theorems.{figures as calendar-figures}
 use Rattle.cosine.specs.Cosine.{cosine}
 use Rattle.cosine.proofs.Figures.{figures as cosine-figures}
 use Rattle.packed_numbers.specs.Numbers.{number, groups-from, closed, next, unfolded}
-use Rattle.packed.specs.Limits.{count-fits, opened, added, factor, weight, constant, a-fits, b-fits, c-fits, total-fits, coarse-fits}
+use Rattle.limits.specs.Limits.{count-fits, opened, added, factor, weight, constant, a-fits, b-fits, c-fits, total-fits, coarse-fits}
 use Rattle.packed.specs.Series.{Parsed, accepted, refused, parse, judged, read-a, read-b, read-c, read-term, read-terms, read-block, summed, after-block, read-blocks, read-series, ended}
 use Rattle.packed.proofs.Theorems.{padded}
 use Rattle.series.specs.Sums.{of-parsed, coordinates-answer}

@@ -13,7 +13,7 @@ use Rattle.units.specs.Units.{in-limit}
 use Rattle.units.specs.declared.Instant.{Instant}
 use Rattle.units.specs.declared.Refusal.{Refusal}
 use Rattle.units.specs.declared.Refusal.the-variants.{PastLimit, NoRoom, NotUsable, BadWindow}
-use Rattle.packed.specs.declared.Term.{Term}
+use Rattle.limits.specs.declared.Term.{Term}
 use Rattle.packed.specs.Series.{Parsed, accepted, refused, parse}
 use Rattle.runs.specs.Runs.{run-numbers}
 use Rattle.sunlist.specs.declared.ListAnswer.the-variants.{Runs, NoList}

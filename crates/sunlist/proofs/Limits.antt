@@ -46,8 +46,8 @@ between t a b l h k m =
     let high = natAbs-high (t +ℤ pos b) l k in
     let o : pos a ≼ pos b = record { le = le→leb a b m } in
     natAbs-le (t +ℤ pos a) l
-    (cert! (t ∷ pos a ∷ pos l ∷ []) 0 (gap low ⊞ nonneg a) (search polys depth 30) (search polys depth 30) (search polys depth 30) tt)
-    (cert! (t ∷ pos a ∷ pos b ∷ pos l ∷ []) 0 (gap high ⊞ gap o) (search polys depth 30) (search polys depth 30) (search polys depth 30) tt)
+    (cert! (t ∷ pos a ∷ pos l ∷ []) 0 (gap low ⊞ nonneg a) (search polys depth 30) tt)
+    (cert! (t ∷ pos a ∷ pos b ∷ pos l ∷ []) 0 (gap high ⊞ gap o) (search polys depth 30) tt)
 
 pub minute-in : (t0 : Instant) (n j : ℕ) → in-limit (t0 .ms) ≡ true → in-limit (minute t0 (n - 1) .ms) ≡ true → j < n → natAbs (minute t0 j .ms) ≤ t-limit
 unfolding in-limit

@@ -9,11 +9,10 @@ use lib.IntN.{ℤ, pos, natAbs}
 use lib.ListN.{length, take, drop, length-drop}
 use lib.Seq.{length-take-le}
 use Rattle.integers.specs.Order.{_≼_}
-use Rattle.units.specs.Units.{t-limit, in-limit, tau-limit}
+use Rattle.units.specs.Units.{t-limit, in-limit, tau-limit, total-limit, powers}
 use Rattle.units.specs.declared.Instant.{Instant}
 use Rattle.units.specs.declared.Refusal.the-variants.{PastLimit}
-use Rattle.packed.specs.declared.Term.{Term}
-use Rattle.packed.specs.Limits.{total-limit, powers}
+use Rattle.limits.specs.declared.Term.{Term}
 use Rattle.packed.specs.Series.{parse, accepted}
 use Rattle.series.specs.declared.CoordinatesAnswer.the-variants.{At, NoCoordinates}
 use Rattle.series.specs.Sums.{running-sum, coordinates, longitude-blocks, latitude-blocks, of-parsed, coordinates-answer}

@@ -2,7 +2,7 @@
 use mathlib.Core.List.{List}
 use Prim.Native.Nat.{ℕ}
 use Rattle.units.specs.declared.Instant.{Instant}
-use Rattle.packed.specs.declared.Term.{Term}
+use Rattle.limits.specs.declared.Term.{Term}
 use Rattle.series.proofs.Positive.{longitude-lower, latitude-lower, radius-lower}
 use Rattle.separation.specs.Exact.{exact-sun, exact-geocentric}
 use Rattle.separation.proofs.Positive.{Positive-coordinates, Positive-test, positive-test}

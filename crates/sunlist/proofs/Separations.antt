@@ -75,7 +75,7 @@ unfolding figures placed place rectangular
 sun-far earth h =
     let r = radius-least (earth .radius) h in
     let s = sun-long (figures earth) r (one-far (pos angle-per-part *ℤ earth .latitude)) (one-far (pos angle-per-part *ℤ earth .longitude)) in
-    far _ (cert! (earth .radius ∷ pos (length (sun (place earth))) ∷ []) 99 (gap s ⊞ 47 · gap r) (search polys depth 60 fits 100000) (search polys depth 60 fits 100000) (search polys depth 60 fits 100000) tt)
+    far _ (cert! (earth .radius ∷ pos (length (sun (place earth))) ∷ []) 99 (gap s ⊞ 47 · gap r) (search polys depth 60 fits 100000) tt)
 
 pub record Usable (planet earth : Coordinates) : Type 0 where
   pub planet-radius : radius-usable (planet .radius) ≡ true
@@ -97,8 +97,8 @@ pub apart-size : (u v : Vector) → Unit³ u → Unit³ v → natAbs (squared-se
 unfolding squared-separation squared geocentric dot
 apart-size u v a b =
     natAbs-le (squared-separation u v) (4 * (U * U) + 16 * U)
-    (cert! ρ 0 (sqr (u .x -ℤ v .x) ⊞ sqr (u .y -ℤ v .y) ⊞ sqr (u .z -ℤ v .z)) (search polys depth 60 fits 100000) (search polys depth 60 fits 100000) (search polys depth 60 fits 100000) tt)
-    (cert! ρ 0 (2 · gap (a .most) ⊞ 2 · gap (b .most) ⊞ sqr (u .x +ℤ v .x) ⊞ sqr (u .y +ℤ v .y) ⊞ sqr (u .z +ℤ v .z)) (search polys depth 60 fits 100000) (search polys depth 60 fits 100000) (search polys depth 60 fits 100000) tt)
+    (cert! ρ 0 (sqr (u .x -ℤ v .x) ⊞ sqr (u .y -ℤ v .y) ⊞ sqr (u .z -ℤ v .z)) (search polys depth 60 fits 100000) tt)
+    (cert! ρ 0 (2 · gap (a .most) ⊞ 2 · gap (b .most) ⊞ sqr (u .x +ℤ v .x) ⊞ sqr (u .y +ℤ v .y) ⊞ sqr (u .z +ℤ v .z)) (search polys depth 60 fits 100000) tt)
   where
     ρ : List ℤ
     ρ = u .x ∷ u .y ∷ u .z ∷ v .x ∷ v .y ∷ v .z ∷ []

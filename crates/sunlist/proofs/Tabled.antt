@@ -5,7 +5,7 @@ use Prim.Native.Nat.{ℕ}
 use lib.ListN.{length}
 use Rattle.units.specs.declared.Instant.{Instant}
 use Rattle.units.specs.declared.Refusal.{Refusal}
-use Rattle.packed.specs.declared.Term.{Term}
+use Rattle.limits.specs.declared.Term.{Term}
 use Rattle.packed.specs.Series.{Parsed, accepted, refused}
 use Rattle.sunlist.specs.declared.ListAnswer.the-variants.{NoList}
 use Rattle.sunlist.specs.SunList.{decision-at, of-minutes, of-series, answered, written}

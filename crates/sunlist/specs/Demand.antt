@@ -6,7 +6,7 @@ use Prim.Native.Nat.{ℕ, suc, _+_, _*_, _≤_, _<_}
 use lib.IntN.{ℤ, pos}
 use lib.ListN.{length, getD}
 use Rattle.units.specs.declared.Instant.{Instant}
-use Rattle.packed.specs.declared.Term.{Term}
+use Rattle.limits.specs.declared.Term.{Term}
 use Rattle.packed.specs.Series.{parse, accepted}
 use Rattle.series.specs.Sums.{coordinates}
 use Rattle.series.specs.Exact.{exact-longitude, exact-latitude, exact-radius}

@@ -11,7 +11,7 @@ use Rattle.units.specs.Units.{in-limit}
 use Rattle.units.specs.declared.Instant.{Instant}
 use Rattle.units.specs.declared.Refusal.{Refusal}
 use Rattle.units.specs.declared.Refusal.the-variants.{PastLimit, NoRoom, NotUsable, BadWindow}
-use Rattle.packed.specs.declared.Term.{Term}
+use Rattle.limits.specs.declared.Term.{Term}
 use Rattle.packed.specs.Series.{Parsed, accepted, refused, parse}
 use Rattle.series.specs.Sums.{coordinates}
 use Rattle.runs.specs.Runs.{run-numbers}

@@ -9,8 +9,8 @@ use lib.Dec.{eqb}
 use lib.ListN.{length, length-append}
 use lib.Seq.{sets, length-sets}
 use Rattle.packed_numbers.specs.Numbers.{encode}
-use Rattle.packed.specs.declared.Tally.{Tally}
-use Rattle.packed.specs.Limits.{opened, added, factor}
+use Rattle.limits.specs.declared.Tally.{Tally}
+use Rattle.limits.specs.Limits.{opened, added, factor}
 use Rattle.packed.specs.Series.{summed, after-block, pack-term, pack-terms, pack-block, pack}
 use Rattle.text.specs.declared.Line.{Line}
 use Rattle.text.specs.declared.Reader.{Reader}

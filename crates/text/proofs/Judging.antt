@@ -8,8 +8,8 @@ use lib.Dec.{leb, ltb, eqb}
 use lib.IntN.{ℤ, pos, natAbs}
 use Rattle.integers.proofs.Tests.{false-true}
 use Rattle.integers.proofs.Order.{natAbs-sgn}
-use Rattle.packed.specs.declared.Tally.{Tally}
-use Rattle.packed.specs.Limits.{opened, added, factor, constant, weight, count-fits, a-fits, b-fits, c-fits, total-fits, coarse-fits}
+use Rattle.limits.specs.declared.Tally.{Tally}
+use Rattle.limits.specs.Limits.{opened, added, factor, constant, weight, count-fits, a-fits, b-fits, c-fits, total-fits, coarse-fits}
 use Rattle.text.specs.declared.Line.{Line}
 use Rattle.text.specs.Judge.{signed, term-on-line, count-refusal, numbers-fit, term-refusal}
 

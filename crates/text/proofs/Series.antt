@@ -9,10 +9,11 @@ use lib.Dec.{leb}
 use lib.ListN.{length, take, drop}
 use lib.Seq.{sets, sets-eq, take-append-seam}
 use Rattle.integers.proofs.Tests.{both}
-use Rattle.packed.specs.declared.Tally.{Tally}
-use Rattle.packed.specs.Limits.{block-limit, series-limit, factor, no-tally, opened, added, count-fits, a-fits, b-fits, c-fits, total-fits, coarse-fits}
+use Rattle.units.specs.Units.{block-limit, series-limit}
+use Rattle.limits.specs.declared.Tally.{Tally}
+use Rattle.limits.specs.Limits.{factor, no-tally, opened, added, count-fits, a-fits, b-fits, c-fits, total-fits, coarse-fits}
 use Rattle.packed.specs.Series.{accepted, parse, pack, after-block}
-use Rattle.packed.specs.Allowed.{Allowed}
+use Rattle.limits.specs.Allowed.{Allowed}
 use Rattle.packed.proofs.Accepting.{GoodTerm}
 use Rattle.packed.proofs.Limits as limits
 use Rattle.packed.proofs.Judged as judged

@@ -6,7 +6,7 @@ use native.Mathlib.Omega.{arith}
 use borrow.Author.Tests.{ne-eqb}
 use lib.ListN.{length}
 use lib.Seq.{sets}
-use Rattle.packed.specs.Limits.{no-tally}
+use Rattle.limits.specs.Limits.{no-tally}
 use Rattle.packed.specs.Series.{summed, pack-terms, pack}
 use Rattle.text.specs.declared.Reader.{Reader}
 use Rattle.text.specs.declared.Outcome.the-variants.{Accepted}

@@ -10,9 +10,9 @@ use lib.Dec.{ltb, eqb}
 use lib.ListN.{length}
 use Rattle.integers.specs.Signs.{sgn}
 use Rattle.packed_numbers.specs.Numbers.{encode}
-use Rattle.packed.specs.declared.Tally.{Tally}
-use Rattle.packed.specs.declared.Term.{Term}
-use Rattle.packed.specs.Limits.{opened, added, factor, count-fits, a-fits, b-fits, c-fits, total-fits, coarse-fits}
+use Rattle.limits.specs.declared.Tally.{Tally}
+use Rattle.limits.specs.declared.Term.{Term}
+use Rattle.limits.specs.Limits.{opened, added, factor, count-fits, a-fits, b-fits, c-fits, total-fits, coarse-fits}
 use Rattle.packed.specs.Series.{pack-term}
 use Rattle.text.specs.declared.Line.{Line}
 use Rattle.text.specs.declared.Reader.{Reader}

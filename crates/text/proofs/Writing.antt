@@ -12,7 +12,7 @@ use lib.Seq.{sets}
 use Rattle.integers.specs.Signs.{sgn}
 use Rattle.packed_numbers.specs.declared.Put.the-variants.{Next, NoRoom}
 use Rattle.packed_numbers.specs.Numbers.{folded, encode}
-use Rattle.packed.specs.declared.Term.{Term}
+use Rattle.limits.specs.declared.Term.{Term}
 use Rattle.packed.specs.Series.{pack-term}
 use Rattle.text.specs.Judge.{signed}
 use Rattle.text.specs.Reader.{fits, put-bytes}

@@ -1,10 +1,10 @@
 // The judgement of a line's numbers: refusals 4, 5 and 6.
 use crate::Line;
-use packed::Tally;
+use limits::Tally;
 ghost use mathlib.Core.Path.{_≡_};
 ghost use Prim.Native.Nat.{_-_, _≤_, _<_};
 ghost use lib.IntN.{pos};
-ghost use Rattle.packed.specs.Limits.{opened, added, factor, weight};
+ghost use Rattle.limits.specs.Limits.{opened, added, factor, weight};
 ghost use Rattle.text.specs.Judge.{term-on-line, count-refusal, numbers-fit, term-refusal};
 
 // The factor 2^i of the block whose count came last.

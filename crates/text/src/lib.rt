@@ -27,7 +27,7 @@ pub struct Line {
 }
 
 // What a reader has of the text so far: the line, the bytes read and written, the counts that have come, the terms that are left of the
-// block, the tally so far (packed::Tally), and the status with its place: 0 while it reads, 1 for a text that was accepted, else the
+// block, the tally so far (limits::Tally), and the status with its place: 0 while it reads, 1 for a text that was accepted, else the
 // refusal's number.
 #[repr(C)]
 pub struct Reader {

@@ -11,7 +11,7 @@ use crate::lexer::whole_term;
 use crate::writer::put_term;
 use packed_numbers::Put;
 use packed_numbers::put_number;
-use packed::Tally;
+use limits::Tally;
 use units::Refusal;
 ghost use mathlib.Core.Path.{_≡_};
 ghost use Prim.Native.Nat.{_+_, _-_, _<_};

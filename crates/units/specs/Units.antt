@@ -52,3 +52,31 @@ b-limit = 10 * parts
 
 abbrev pub c-limit : ℕ
 c-limit = 1000000 * parts
+
+-- The terms of a block, the terms of a series, the total |a| of a block: at most so many.
+abbrev pub block-limit : ℕ
+block-limit = 4096
+
+abbrev pub series-limit : ℕ
+series-limit = 8192
+
+abbrev pub total-limit : ℕ
+total-limit = 100000 * parts
+
+-- The blocks of a coordinate, one for each power, and of a series.
+abbrev pub powers : ℕ
+powers = 6
+
+abbrev pub block-count : ℕ
+block-count = 3 * powers
+
+-- "Not too coarse": a term that is not constant counts 14|a| + 10^9, times 2^i in power i; 32*10^9 is added once to a
+-- coordinate, and the sum is at most 2*10^14.
+abbrev pub coarse-share : ℕ
+coarse-share = 14
+
+abbrev pub coarse-base : ℕ
+coarse-base = 32 * U
+
+abbrev pub coarse-limit : ℕ
+coarse-limit = 200000000000000

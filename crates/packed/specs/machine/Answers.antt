@@ -6,8 +6,8 @@ use Prim.Native.Nat.{ℕ, _+_}
 use lib.IntN.{ℤ}
 use lib.ListN.{length, set, take}
 use Rattle.packed_numbers.specs.Numbers.{Read, got, bad, folded, unfolded}
-use Rattle.packed.specs.declared.Term.{Term}
-use Rattle.packed.specs.declared.Tally.{Tally}
+use Rattle.limits.specs.declared.Term.{Term}
+use Rattle.limits.specs.declared.Tally.{Tally}
 use Rattle.packed.specs.declared.terms.TermRead.{TermRead}
 use Rattle.packed.specs.declared.terms.TermRead.the-variants.{Found, Wrong}
 use Rattle.packed.specs.declared.table.Walk.{Walk}

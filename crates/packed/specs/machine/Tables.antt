@@ -5,8 +5,8 @@ use mathlib.Core.List.{List, [], _∷_}
 use Prim.Native.Nat.{ℕ, zero, suc, _+_, _-_}
 use lib.IntN.{ℤ, pos}
 use lib.ListN.{length, getD}
-use Rattle.packed.specs.declared.Term.{Term}
-use Rattle.packed.specs.Limits.{series-limit}
+use Rattle.limits.specs.declared.Term.{Term}
+use Rattle.units.specs.Units.{series-limit}
 use Rattle.packed.specs.Series.{Parsed, accepted, refused}
 
 -- The lists of a table have room for a series.

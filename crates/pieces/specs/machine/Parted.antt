@@ -7,7 +7,7 @@ use lib.ListN.{length, getD, set}
 use Rattle.units.specs.Units.{a-limit}
 use Rattle.cosine.specs.machine.Parity.{even-value, odd-value, InRange}
 use Rattle.cosine.specs.declared.term.Worked.{Worked}
-use Rattle.packed.specs.declared.Term.{Term}
+use Rattle.limits.specs.declared.Term.{Term}
 use Rattle.pieces.specs.declared.Counts.{Counts}
 use Rattle.pieces.specs.Sums.{block-sum}
 

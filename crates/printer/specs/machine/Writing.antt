@@ -5,8 +5,8 @@ use Prim.Native.Nat.{ℕ, _+_, _≤_}
 use lib.IntN.{ℤ}
 use lib.ListN.{length}
 use lib.Seq.{sets}
-use Rattle.packed.specs.declared.Term.{Term}
-use Rattle.packed.specs.Limits.{series-limit}
+use Rattle.limits.specs.declared.Term.{Term}
+use Rattle.units.specs.Units.{series-limit}
 use Rattle.text.specs.Grammar.{feed, digits, count-bytes, term-bytes, lines-bytes}
 use Rattle.printer.specs.Printer.{first-digit, rest-digits, plain-count, plain-term}
 

@@ -4,8 +4,8 @@ use mathlib.Core.List.{List}
 use Prim.Native.Nat.{ℕ}
 use lib.IntN.{ℤ}
 use lib.ListN.{length}
-use Rattle.packed.specs.Allowed.{Allowed}
-use Rattle.packed.specs.Limits.{block-count}
+use Rattle.limits.specs.Allowed.{Allowed}
+use Rattle.units.specs.Units.{block-count}
 use Rattle.packed.specs.machine.Tables.{Sized, Holds, table-blocks}
 
 pub record Table (la : List ℤ) (lb : List ℕ) (lc : List ℤ) (ends : List ℕ) : Type 0 where

@@ -8,7 +8,7 @@ use borrow.Author.Needs.{needs}
 use Rattle.packed_numbers.specs.Numbers.{Read, number}
 use Rattle.packed_numbers.specs.machine.Answers.{plain}
 use Rattle.packed_numbers.proofs.Reading.{Got, got-plain, was-bad, number-after}
-use Rattle.packed.specs.declared.Term.{Term}
+use Rattle.limits.specs.declared.Term.{Term}
 use Rattle.packed.specs.Series.{read-block, after-block}
 use Rattle.packed.specs.machine.Answers.{Filled}
 use Rattle.packed.proofs.Walking.{show-stopped, filled-bad}

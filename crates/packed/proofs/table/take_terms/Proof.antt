@@ -3,7 +3,7 @@ use mathlib.Core.Path.{sym, _∙_}
 use Prim.Native.Nat.{ℕ, _+_, _-_, _<_}
 use native.Mathlib.Omega.{arith}
 use borrow.Author.Needs.{needs}
-use Rattle.packed.specs.Limits.{added}
+use Rattle.limits.specs.Limits.{added}
 use Rattle.packed.specs.Series.{summed}
 use Rattle.packed.proofs.Judging.{term-after}
 use Rattle.packed.proofs.Walking.{Taken, taken-none, taken-more, taken-stop, taken-last, filled-last, filled-stop, walked-moved, walked-stopped, show-moved, show-stopped}

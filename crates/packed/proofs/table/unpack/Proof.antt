@@ -3,7 +3,7 @@ use mathlib.Core.Path.{sym, _∙_}
 use Prim.Native.Nat.{ℕ, _+_, _-_, _<_}
 use native.Mathlib.Omega.{arith}
 use borrow.Author.Needs.{needs}
-use Rattle.packed.specs.Limits.{block-count}
+use Rattle.units.specs.Units.{block-count}
 use Rattle.packed.specs.Series.{after-block}
 use Rattle.packed.proofs.Walking.{walked-moved, walked-stopped}
 use Rattle.packed.proofs.Blocks.{block-after}

@@ -2,7 +2,7 @@
 use native.Mathlib.Omega.{arith}
 use borrow.Author.Needs.{needs}
 use Rattle.packed_numbers.specs.Numbers.{unfolded}
-use Rattle.packed.specs.Limits.{added}
+use Rattle.limits.specs.Limits.{added}
 use Rattle.packed.proofs.Judging.{weight-small}
 use Rattle.packed.proofs.terms.add_term.Statement.{statement}
 use Rattle.packed.proofs.terms.add_term.Tie as tie

@@ -5,7 +5,7 @@ use Prim.Native.Nat.{ℕ, zero, suc, _%_, _^_, _≤_, _<_}
 use native.Mathlib.Omega.{arith}
 use lib.ListN.{getD}
 use borrow.Author.Needs.{needs}
-use Rattle.packed.specs.Limits.{factor}
+use Rattle.limits.specs.Limits.{factor}
 use Rattle.packed.proofs.terms.block_factor.Statement.{statement}
 use Rattle.packed.proofs.terms.block_factor.Tie as tie
 

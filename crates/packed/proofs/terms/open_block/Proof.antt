@@ -1,7 +1,7 @@
 -- `open_block` meets its contract. Assumes nothing.
 use borrow.Author.Needs.{needs}
 use borrow.Author.Tests.{eq-eqb, ne-eqb}
-use Rattle.packed.specs.Limits.{opened}
+use Rattle.limits.specs.Limits.{opened}
 use Rattle.packed.proofs.terms.open_block.Statement.{statement}
 use Rattle.packed.proofs.terms.open_block.Tie as tie
 

@@ -4,9 +4,9 @@ use native.Mathlib.Omega.{arith}
 use borrow.Author.Tests.{lt-ltb, le-ltb, lt-leb, le-leb}
 use borrow.Author.Needs.{needs}
 use lib.IntN.{natAbs}
-use Rattle.units.specs.Units.{a-limit, b-limit, c-limit}
+use Rattle.units.specs.Units.{a-limit, b-limit, c-limit, total-limit, coarse-limit}
 use Rattle.packed_numbers.specs.Numbers.{unfolded}
-use Rattle.packed.specs.Limits.{total-limit, coarse-limit, weight, a-fits, b-fits, c-fits, total-fits, coarse-fits, term-may-come}
+use Rattle.limits.specs.Limits.{weight, a-fits, b-fits, c-fits, total-fits, coarse-fits, term-may-come}
 use Rattle.packed.proofs.Judging.{weight-small}
 use Rattle.packed.proofs.terms.term_may_come.Statement.{statement}
 use Rattle.packed.proofs.terms.term_may_come.Tie as tie

@@ -5,7 +5,7 @@ use lib.IntN.{ℤ}
 use Rattle.arith.proofs.Signs.{back, ok}
 use Prim.Native.Nat.{_+_, _-_, _≤_}
 use native.Mathlib.Omega.{arith}
-use Rattle.packed.specs.declared.Term.{Term}
+use Rattle.limits.specs.declared.Term.{Term}
 use lib.ListN.{length}
 use mir.Syntax.{w64}
 use mir.Val.{toZ}

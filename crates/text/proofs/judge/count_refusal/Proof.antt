@@ -3,7 +3,7 @@ use Prim.Native.Nat.{_+_}
 use native.Mathlib.Omega.{arith}
 use borrow.Author.Needs.{needs}
 use borrow.Author.Tests.{lt-ltb, le-ltb, le-leb, lt-leb}
-use Rattle.packed.specs.Limits.{count-fits}
+use Rattle.limits.specs.Limits.{count-fits}
 use Rattle.text.specs.Judge.{count-refusal}
 use borrow.Author.Needs.{needs}
 use Rattle.text.proofs.judge.count_refusal.Statement.{statement}

@@ -5,10 +5,9 @@ use mathlib.Core.List.{List, [], _∷_}
 use Prim.Native.Nat.{ℕ, suc, _+_, _*_, _^_, _≤_, _<_}
 use lib.IntN.{natAbs}
 use lib.ListN.{length, getD, take, drop}
-use Rattle.units.specs.Units.{U, tau-limit, a-limit, b-limit, c-limit}
-use Rattle.packed.specs.declared.Term.{Term}
-use Rattle.packed.specs.Limits.{block-limit, series-limit, total-limit, powers, block-count, constant, coarse-share, coarse-base, coarse-limit}
-use Rattle.packed.specs.Series.{term-count}
+use Rattle.units.specs.Units.{U, tau-limit, a-limit, b-limit, c-limit, block-limit, series-limit, total-limit, powers, block-count, coarse-share, coarse-base, coarse-limit}
+use Rattle.limits.specs.declared.Term.{Term}
+use Rattle.limits.specs.Limits.{constant}
 
 -- The limits of a term.
 pub record TermFits (t : Term) : Type 0 where
@@ -47,6 +46,11 @@ coarseness i (ts ∷ blocks) = tau-limit ^ i * (coarse-share * moving-total ts +
 -- The six blocks of coordinate q: 0 longitude, 1 latitude, 2 radius.
 abbrev pub coordinate : ℕ → List (List Term) → List (List Term)
 coordinate q blocks = take powers (drop (powers * q) blocks)
+
+-- The number of terms of a series.
+unfoldable pub term-count : List (List Term) → ℕ
+term-count [] = 0
+term-count (ts ∷ blocks) = length ts + term-count blocks
 
 -- A series within the limits.
 pub record Allowed (blocks : List (List Term)) : Type 0 where

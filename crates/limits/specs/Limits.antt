@@ -4,37 +4,9 @@ use mathlib.Core.Bool.{Bool, cond, _&&_}
 use Prim.Native.Nat.{ℕ, _+_, _*_, _%_, _^_}
 use lib.Dec.{leb, ltb, eqb}
 use lib.IntN.{ℤ, natAbs}
-use Rattle.units.specs.Units.{U, parts, tau-limit, a-limit, b-limit, c-limit}
-use Rattle.packed.specs.declared.Term.{Term}
-use Rattle.packed.specs.declared.Tally.{Tally}
-
--- The terms of a block, the terms of a series, the total |a| of a block: at most so many.
-abbrev pub block-limit : ℕ
-block-limit = 4096
-
-abbrev pub series-limit : ℕ
-series-limit = 8192
-
-abbrev pub total-limit : ℕ
-total-limit = 100000 * parts
-
--- The blocks of a coordinate, one for each power, and of a series.
-abbrev pub powers : ℕ
-powers = 6
-
-abbrev pub block-count : ℕ
-block-count = 3 * powers
-
--- "Not too coarse": a term that is not constant counts 14|a| + 10^9, times 2^i in power i; 32*10^9 is added once to a
--- coordinate, and the sum is at most 2*10^14.
-abbrev pub coarse-share : ℕ
-coarse-share = 14
-
-abbrev pub coarse-base : ℕ
-coarse-base = 32 * U
-
-abbrev pub coarse-limit : ℕ
-coarse-limit = 200000000000000
+use Rattle.units.specs.Units.{U, tau-limit, a-limit, b-limit, c-limit, block-limit, series-limit, total-limit, powers, coarse-share, coarse-base, coarse-limit}
+use Rattle.limits.specs.declared.Term.{Term}
+use Rattle.limits.specs.declared.Tally.{Tally}
 
 -- The factor 2^i of block number k, counted from 0: its power is k mod 6.
 unfoldable pub factor : ℕ → ℕ

@@ -1,0 +1,3 @@
+-- Document 01, "Series, as text and packed": the limits of a series.
+pub mod Limits
+pub mod Allowed
