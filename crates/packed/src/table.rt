@@ -24,6 +24,9 @@ ghost use Rattle.packed.specs.Series.{read-a, read-b, read-c, read-term,
 ghost use Rattle.packed.specs.machine.Tables.{Sized, unpacked};
 ghost use Rattle.packed.specs.machine.Answers.{shown-term, term-of, walked, Stored, Filled};
 
+pub const TABLE_ROWS: usize = 8210;
+pub type Table = [[u64; 3]; TABLE_ROWS];
+
 // The offset past what was read and the tally with it; or a refusal.
 pub enum Walk {
     Moved(usize, Tally),
