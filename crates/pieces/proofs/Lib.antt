@@ -2,5 +2,6 @@
 pub mod Sizes
 pub mod Summing
 pub mod Adding
+mod Reading
 mod Filling
 mod Parting

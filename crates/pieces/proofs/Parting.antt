@@ -12,17 +12,18 @@ use Rattle.units.specs.Units.{U, a-limit, series-limit}
 use Rattle.cosine.specs.Cosine.{even-part, odd-part}
 use Rattle.cosine.specs.machine.Parity.{even-value, odd-value, half-value, InRange}
 use Rattle.cosine.specs.Terms.{term-value}
+use Rattle.cosine.specs.declared.term.Prepared.{Prepared}
 use Rattle.cosine.specs.declared.term.Worked.{Worked}
 use Rattle.limits.specs.declared.Term.{Term}
 use Rattle.limits.specs.Allowed.{BlockFits}
-use Rattle.packed.specs.machine.Tables.{terms-at}
+use Rattle.packed.specs.machine.Table.{term-at, terms-at}
 use Rattle.pieces.specs.declared.Counts.{Counts}
 use Rattle.pieces.specs.Sums.{block-sum}
-use Rattle.pieces.specs.machine.Parted.{piece-limit, room, half-sum, PutInBoth, Small, Half, Parted}
+use Rattle.pieces.specs.machine.Parted.{piece-limit, room, half-sum, WorkedFor, Piece, PutInBoth, Small, Half, Parted}
 use Rattle.pieces.proofs.Adding.{cells-fit, cells-are}
 use Rattle.pieces.proofs.Filling.{sum-same, half-none, half-less, half-same, sum-stored, half-more, half-closed, half-below}
 use Rattle.pieces.proofs.Sizes.{no-share}
-use Rattle.pieces.proofs.Summing.{Summed, summed-none, summed-all, summed-term, term-asks, same-value, value-below}
+use Rattle.pieces.proofs.Summing.{Summed, summed-none, summed-all, summed-term, term-fits, value-below}
 
 -- The tables hold values whose sum is x.
 pub record Holding (ea : List ℤ) (ev : List ℕ) (oa : List ℤ) (ov : List ℕ) (evens odds : ℕ) (x : ℤ) : Type 0 where
@@ -86,56 +87,60 @@ small-none f e = record { a-below = omega arith; v-within = record { low = omega
 -- ---- the loop over a piece's terms
 
 -- x, the sum of the terms before place i, is what the tables hold
-pub record Partly (t : ℤ) (la : List ℤ) (lb : List ℕ) (lc : List ℤ) (from to : ℕ) (ea : List ℤ) (ev : List ℕ) (oa : List ℤ) (ov : List ℕ) (n : Counts) (i : ℕ) : Type 0 where
+pub record Partly (t : ℤ) (rows : List (List ℕ)) (from to : ℕ) (ea : List ℤ) (ev : List ℕ) (oa : List ℤ) (ov : List ℕ) (n : Counts) (i : ℕ) : Type 0 where
   pub x : ℤ
   pub holding : Holding ea ev oa ov (n .evens) (n .odds) x
-  pub summed : Summed t la lb lc from to x i
+  pub summed : Summed t rows from to x i
   pub many : from + (n .evens + n .odds) ≡ i
   pub short : to ≤ from + piece-limit
 
-module _ {t : ℤ} {la : List ℤ} {lb : List ℕ} {lc : List ℤ} {from to : ℕ} {ea : List ℤ} {ev : List ℕ} {oa : List ℤ} {ov : List ℕ} where
-  pub partly-none : length ea ≡ room → length ev ≡ room → length oa ≡ room → length ov ≡ room
-      → from ≤ to → to ≤ series-limit → to ≤ from + piece-limit → BlockFits (terms-at la lb lc from (to - from)) → Partly t la lb lc from to ea ev oa ov (record { evens = 0; odds = 0 }) from
-  partly-none h k l m p q r b = record { x = pos 0; holding = holding-none ea ev oa ov h k l m; summed = summed-none p q b; many = omega arith; short = r }
+pub partly-none : {p : Prepared} {rows : List (List ℕ)} {from to : ℕ} {ea : List ℤ} {ev : List ℕ} {oa : List ℤ} {ov : List ℕ}
+    → Piece p rows from to → length ea ≡ room → length ev ≡ room → length oa ≡ room → length ov ≡ room
+    → Partly (p .t) rows from to ea ev oa ov (record { evens = 0; odds = 0 }) from
+partly-none {ea} {ev} {oa} {ov} q h k l m = record {
+  x = pos 0;
+  holding = holding-none ea ev oa ov h k l m;
+  summed = summed-none (q .order) (q .space) (q .limits);
+  many = omega arith;
+  short = q .short;
+}
 
-  module _ {n : Counts} {i : ℕ} (p : Partly t la lb lc from to ea ev oa ov n i) where
+module _ {t : ℤ} {rows : List (List ℕ)} {from to : ℕ} {ea : List ℤ} {ev : List ℕ} {oa : List ℤ} {ov : List ℕ} where
+  module _ {n : Counts} {i : ℕ} (p : Partly t rows from to ea ev oa ov n i) where
     pub evens-free : n .evens < room
     evens-free = let m = p .many in let s = p .short in let w = p .summed .within in omega arith
 
     pub odds-free : n .odds < room
     odds-free = let m = p .many in let s = p .short in let w = p .summed .within in omega arith
 
-    module _ (h : i < to) (w : Worked) (e : half-value (w .odd) (w .a) (w .v) ≡ term-value (Cell (getD la i (pos 0))) (getD lb i 0) (Cell (getD lc i (pos 0))) t) (ha : natAbs (w .a) ≡ natAbs (Cell (getD la i (pos 0)))) (ho : w .odd ≤ 1) (hv : InRange (w .v)) where
-      value : half-value (w .odd) (w .a) (w .v) ≡ term-value (getD la i (pos 0)) (getD lb i 0) (getD lc i (pos 0)) t
-      value = e ∙ same-value (p .summed) h
-
+    module _ (h : i < to) (w : Worked) (k : WorkedFor t (term-at rows i) w) where
       small : Small (half-value (w .odd)) (w .a) (w .v)
       small = record {
-        a-below = let l = term-asks (p .summed) h .0 in omega arith;
-        v-within = hv;
-        value-below = subst (λ (z : ℤ). natAbs z < a-limit) (sym value) (value-below (p .summed) h);
+        a-below = let l = term-fits (p .summed) h .a-below in let e = k .size in omega arith;
+        v-within = k .offset;
+        value-below = subst (λ (z : ℤ). natAbs z < a-limit) (sym (k .value)) (value-below (p .summed) h);
       }
 
-      moved : Partly t la lb lc from to (set ea (n .evens) (w .a)) (set ev (n .evens) (w .v)) (set oa (n .odds) (w .a)) (set ov (n .odds) (w .v)) (record { evens = n .evens + (1 - w .odd); odds = n .odds + w .odd }) (i + 1)
+      moved : Partly t rows from to (set ea (n .evens) (w .a)) (set ev (n .evens) (w .v)) (set oa (n .odds) (w .a)) (set ov (n .odds) (w .v)) (record { evens = n .evens + (1 - w .odd); odds = n .odds + w .odd }) (i + 1)
       moved = record {
         x = p .x +ℤ half-value (w .odd) (w .a) (w .v);
-        holding = put (p .holding) evens-free odds-free (w .a) (w .v) (w .odd) ho small;
-        summed = subst (λ (z : ℤ). Summed t la lb lc from to (p .x +ℤ z) (i + 1)) (sym value) (summed-term (p .summed) h);
+        holding = put (p .holding) evens-free odds-free (w .a) (w .v) (w .odd) (k .parity) small;
+        summed = subst (λ (z : ℤ). Summed t rows from to (p .x +ℤ z) (i + 1)) (sym (k .value)) (summed-term (p .summed) h);
         many = let m = p .many in omega arith;
         short = p .short;
       }
 
-      pub partly-more : {ea′ : List ℤ} {ev′ : List ℕ} {oa′ : List ℤ} {ov′ : List ℕ} {r : Counts} → PutInBoth w n ea ev oa ov ea′ ev′ oa′ ov′ r → Partly t la lb lc from to ea′ ev′ oa′ ov′ r (i + 1)
+      pub partly-more : {ea′ : List ℤ} {ev′ : List ℕ} {oa′ : List ℤ} {ov′ : List ℕ} {r : Counts} → PutInBoth w n ea ev oa ov ea′ ev′ oa′ ov′ r → Partly t rows from to ea′ ev′ oa′ ov′ r (i + 1)
       partly-more q = rw (q .evens-a, q .evens-v, q .odds-a, q .odds-v, q .count) moved
 
-    ended : to ≤ i → Parted t (terms-at la lb lc from (to - from)) (set ea (n .evens) (pos 0)) (set ev (n .evens) U) (set oa (n .odds) (pos 0)) (set ov (n .odds) U) n
+    ended : to ≤ i → Parted t (terms-at rows from (to - from)) (set ea (n .evens) (pos 0)) (set ev (n .evens) U) (set oa (n .odds) (pos 0)) (set ov (n .odds) U) n
     ended h = record {
       evens-closed = half-closed even-value ea ev (n .evens) (p .holding .evens-half) (pos 0) U evens-free (small-none even-value (even-none U)) (even-none U);
       odds-closed = half-closed odd-value oa ov (n .odds) (p .holding .odds-half) (pos 0) U odds-free (small-none odd-value (odd-none U)) (odd-none U);
       sum = ap₂ _+ℤ_ (same-evens (p .holding) evens-free odds-free (pos 0) U) (same-odds (p .holding) evens-free odds-free (pos 0) U) ∙ p .holding .sum ∙ summed-all (p .summed) h;
     }
 
-    pub partly-all : to ≤ i → {ea′ : List ℤ} {ev′ : List ℕ} {oa′ : List ℤ} {ov′ : List ℕ} {r : Counts} → PutInBoth (record { a = pos 0; v = U; odd = 0 }) n ea ev oa ov ea′ ev′ oa′ ov′ r → Parted t (terms-at la lb lc from (to - from)) ea′ ev′ oa′ ov′ n
+    pub partly-all : to ≤ i → {ea′ : List ℤ} {ev′ : List ℕ} {oa′ : List ℤ} {ov′ : List ℕ} {r : Counts} → PutInBoth (record { a = pos 0; v = U; odd = 0 }) n ea ev oa ov ea′ ev′ oa′ ov′ r → Parted t (terms-at rows from (to - from)) ea′ ev′ oa′ ov′ n
     partly-all h q = rw (q .evens-a, q .evens-v, q .odds-a, q .odds-v) (ended h)
 
 -- ---- the sum of both tables

@@ -11,7 +11,7 @@ use Rattle.units.specs.Units.{a-limit, b-limit, c-limit, total-limit, series-li
 use Rattle.cosine.specs.Terms.{term-value}
 use Rattle.limits.specs.declared.Term.{Term}
 use Rattle.limits.specs.Allowed.{TermFits, AllFit, none, more, BlockFits, total-of}
-use Rattle.packed.specs.machine.Tables.{term-at, terms-at}
+use Rattle.packed.specs.machine.Table.{term-at, terms-at}
 use Rattle.pieces.specs.Sums.{block-sum}
 use Rattle.pieces.specs.machine.Parted.{piece-limit}
 use Rattle.pieces.proofs.Sizes.{value-size, block-size}
@@ -38,60 +38,60 @@ rest-fit : (xs ys : List Term) → AllFit (xs ++ ys) → AllFit ys
 rest-fit [] ys h = h
 rest-fit (x ∷ xs) ys (more h k) = rest-fit xs ys k
 
-module _ (la : List ℤ) (lb : List ℕ) (lc : List ℤ) where
-  terms-append : (m n i : ℕ) → terms-at la lb lc i (m + n) ≡ terms-at la lb lc i m ++ terms-at la lb lc (i + m) n
+module _ (rows : List (List ℕ)) where
+  terms-append : (m n i : ℕ) → terms-at rows i (m + n) ≡ terms-at rows i m ++ terms-at rows (i + m) n
   unfolding terms-at
   terms-append zero n i = let e : 0 + n ≡ n = omega arith in let f : i + 0 ≡ i = omega arith in rw (e, f)
   terms-append (suc m) n i =
       let e : suc m + n ≡ suc (m + n) = omega arith in
       let f : i + suc m ≡ i + 1 + m = omega arith in
-      rw (e, f) (ap (λ (xs : List Term). term-at la lb lc i ∷ xs) (terms-append m n (i + 1)))
+      rw (e, f) (ap (λ (xs : List Term). term-at rows i ∷ xs) (terms-append m n (i + 1)))
 
-  terms-length : (n i : ℕ) → length (terms-at la lb lc i n) ≡ n
+  terms-length : (n i : ℕ) → length (terms-at rows i n) ≡ n
   unfolding terms-at
   terms-length zero i = refl
   terms-length (suc n) i = ap suc (terms-length n (i + 1))
 
-  one-term : (i : ℕ) → terms-at la lb lc i (i + 1 - i) ≡ term-at la lb lc i ∷ []
+  one-term : (i : ℕ) → terms-at rows i (i + 1 - i) ≡ term-at rows i ∷ []
   unfolding terms-at
   one-term i = let e : i + 1 - i ≡ 1 = omega arith in rw e
 
 -- ---- the pieces
 
 -- sum is the sum of the terms before place i
-pub record Summed (t : ℤ) (la : List ℤ) (lb : List ℕ) (lc : List ℤ) (from to : ℕ) (sum : ℤ) (i : ℕ) : Type 0 where
+pub record Summed (t : ℤ) (rows : List (List ℕ)) (from to : ℕ) (sum : ℤ) (i : ℕ) : Type 0 where
   pub within : i ≤ to
   pub space : to ≤ series-limit
-  pub limits : AllFit (terms-at la lb lc i (to - i))
-  pub small : natAbs sum + total-of (terms-at la lb lc i (to - i)) ≤ total-limit
-  pub left : sum +ℤ block-sum t (terms-at la lb lc i (to - i)) ≡ block-sum t (terms-at la lb lc from (to - from))
+  pub limits : AllFit (terms-at rows i (to - i))
+  pub small : natAbs sum + total-of (terms-at rows i (to - i)) ≤ total-limit
+  pub left : sum +ℤ block-sum t (terms-at rows i (to - i)) ≡ block-sum t (terms-at rows from (to - from))
 
-module _ {t : ℤ} {la : List ℤ} {lb : List ℕ} {lc : List ℤ} {from to : ℕ} where
-  pub summed-none : from ≤ to → to ≤ series-limit → BlockFits (terms-at la lb lc from (to - from)) → Summed t la lb lc from to (pos 0) from
-  summed-none h k b = record { within = h; space = k; limits = b .terms; small = let s = b .total in omega arith; left = zero-plus (block-sum t (terms-at la lb lc from (to - from))) }
+module _ {t : ℤ} {rows : List (List ℕ)} {from to : ℕ} where
+  pub summed-none : from ≤ to → to ≤ series-limit → BlockFits (terms-at rows from (to - from)) → Summed t rows from to (pos 0) from
+  summed-none h k b = record { within = h; space = k; limits = b .terms; small = let s = b .total in omega arith; left = zero-plus (block-sum t (terms-at rows from (to - from))) }
     where
       zero-plus : (x : ℤ) → pos 0 +ℤ x ≡ x
       zero-plus x = +ℤ-idl x
 
-  module _ {sum : ℤ} {i : ℕ} (s : Summed t la lb lc from to sum i) (j : ℕ) (h : i ≤ j) (k : j ≤ to) where
+  module _ {sum : ℤ} {i : ℕ} (s : Summed t rows from to sum i) (j : ℕ) (h : i ≤ j) (k : j ≤ to) where
     abbrev piece : List Term
-    piece = terms-at la lb lc i (j - i)
+    piece = terms-at rows i (j - i)
 
     abbrev rest : List Term
-    rest = terms-at la lb lc j (to - j)
+    rest = terms-at rows j (to - j)
 
-    cut : terms-at la lb lc i (to - i) ≡ piece ++ rest
+    cut : terms-at rows i (to - i) ≡ piece ++ rest
     cut = joined (to - i) (j - i) (to - j) j (omega arith) (omega arith)
       where
-        joined : (m n r j : ℕ) → m ≡ n + r → j ≡ i + n → terms-at la lb lc i m ≡ terms-at la lb lc i n ++ terms-at la lb lc j r
-        joined m n r j e f = rw (e, f) (terms-append la lb lc n r i)
+        joined : (m n r j : ℕ) → m ≡ n + r → j ≡ i + n → terms-at rows i m ≡ terms-at rows i n ++ terms-at rows j r
+        joined m n r j e f = rw (e, f) (terms-append rows n r i)
 
     sizes : natAbs sum + (total-of piece + total-of rest) ≤ total-limit
     sizes = let l = subst (λ (xs : List Term). natAbs sum + total-of xs ≤ total-limit) cut (s .small) in let e = total-append piece rest in omega arith
 
     pub piece-fits : j ≤ i + piece-limit → BlockFits piece
     piece-fits l = record {
-      few = let e = terms-length la lb lc (j - i) i in omega arith;
+      few = let e = terms-length rows (j - i) i in omega arith;
       terms = first-fit piece rest (subst AllFit cut (s .limits));
       total = let z = sizes in omega arith;
     }
@@ -103,7 +103,7 @@ module _ {t : ℤ} {la : List ℤ} {lb : List ℕ} {lc : List ℤ} {from to : �
       pub sum-small : natAbs sum + natAbs v < 2 ^ 63
       sum-small = let l = size in omega arith
 
-      pub summed-piece : Summed t la lb lc from to (sum +ℤ v) j
+      pub summed-piece : Summed t rows from to (sum +ℤ v) j
       summed-piece = record {
         within = k;
         space = s .space;
@@ -116,53 +116,36 @@ module _ {t : ℤ} {la : List ℤ} {lb : List ℕ} {lc : List ℤ} {from to : �
       }
 
   -- a piece of one term
-  module _ {sum : ℤ} {i : ℕ} (s : Summed t la lb lc from to sum i) (h : i < to) where
-    abbrev a : ℤ
-    a = getD la i (pos 0)
+  module _ {sum : ℤ} {i : ℕ} (s : Summed t rows from to sum i) (h : i < to) where
+    abbrev x : Term
+    x = term-at rows i
 
-    abbrev b : ℕ
-    b = getD lb i 0
-
-    abbrev c : ℤ
-    c = getD lc i (pos 0)
-
-    term-allowed : (natAbs a < a-limit) × (b < b-limit) × (natAbs c < c-limit)
-    unfolding term-at
-    term-allowed = let l = only (subst AllFit (one-term la lb lc i) (piece-fits s (i + 1) (omega arith) (omega arith) (omega arith) .terms)) in (l .a-below, l .b-below, l .c-below)
+    pub term-fits : TermFits x
+    term-fits = only (subst AllFit (one-term rows i) (piece-fits s (i + 1) (omega arith) (omega arith) (omega arith) .terms))
       where
         only : {x : Term} → AllFit (x ∷ []) → TermFits x
         only (more h k) = h
 
-    a-cell : Cell a ≡ a
-    a-cell = cell a (let l = term-allowed .0 in omega arith)
+    pub value-below : natAbs (term-value (x .a) (x .b) (x .c) t) < a-limit
+    value-below = let l = term-fits .a-below in let m = value-size (x .a) (x .b) (x .c) t in omega arith
 
-    c-cell : Cell c ≡ c
-    c-cell = cell c (let l = term-allowed .2 in omega arith)
-
-    pub term-asks : (natAbs (Cell a) < a-limit) × (b < b-limit) × (natAbs (Cell c) < c-limit)
-    term-asks = let l = term-allowed in rw (a-cell, c-cell) l
-
-    pub same-value : term-value (Cell a) b (Cell c) t ≡ term-value a b c t
-    same-value = rw (a-cell, c-cell)
-
-    pub value-below : natAbs (term-value a b c t) < a-limit
-    value-below = let l = term-allowed .0 in let m = value-size a b c t in omega arith
-
-    pub summed-term : Summed t la lb lc from to (sum +ℤ term-value a b c t) (i + 1)
-    unfolding block-sum term-at
-    summed-term = summed-piece s (i + 1) (omega arith) (omega arith) (term-value a b c t) (sym (ap (block-sum t) (one-term la lb lc i) ∙ one (term-value a b c t)))
+    pub summed-term : Summed t rows from to (sum +ℤ term-value (x .a) (x .b) (x .c) t) (i + 1)
+    unfolding block-sum
+    summed-term =
+        summed-piece s (i + 1) (omega arith) (omega arith) (term-value (x .a) (x .b) (x .c) t)
+        (sym (ap (block-sum t) (one-term rows i) ∙ one (term-value (x .a) (x .b) (x .c) t)))
       where
         one : (x : ℤ) → x +ℤ pos 0 ≡ x
         one x = +ℤ-idr x
 
-  pub summed-all : {sum : ℤ} {i : ℕ} → Summed t la lb lc from to sum i → to ≤ i → sum ≡ block-sum t (terms-at la lb lc from (to - from))
+  pub summed-all : {sum : ℤ} {i : ℕ} → Summed t rows from to sum i → to ≤ i → sum ≡ block-sum t (terms-at rows from (to - from))
   summed-all {sum} {i} s h = sym (no-more sum) ∙ s .left
     where
-      none-left : terms-at la lb lc i (to - i) ≡ []
-      none-left = ap (λ (n : ℕ). terms-at la lb lc i n) (zero-left to i h) ∙ unfold terms-at in refl
+      none-left : terms-at rows i (to - i) ≡ []
+      none-left = ap (λ (n : ℕ). terms-at rows i n) (zero-left to i h) ∙ unfold terms-at in refl
         where
           zero-left : (to i : ℕ) → to ≤ i → to - i ≡ 0
           zero-left to i h = omega arith
 
-      no-more : (x : ℤ) → x +ℤ block-sum t (terms-at la lb lc i (to - i)) ≡ x
+      no-more : (x : ℤ) → x +ℤ block-sum t (terms-at rows i (to - i)) ≡ x
       no-more x = ap (λ (xs : List Term). x +ℤ block-sum t xs) none-left ∙ unfold block-sum in +ℤ-idr x

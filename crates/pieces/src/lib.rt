@@ -1,4 +1,4 @@
-// The sum of up to 256 terms. Their angles are worked out first, and each term is put into one of two tables by the parity of
+// The sum of up to 256 terms of a term table. Their angles are worked out first, and each term is put into one of two tables by the parity of
 // its quarter; then each table is summed. So no jump hangs on a quarter, which is as good as random from term to term.
 // A table has one place more than a piece has terms: a term of amplitude 0 stands past the last one, for a last pair to end
 // with. Of a term, ea and ev (at an even quarter) or oa and ov (at an odd one) hold the a and the v of cosine/specs/Halves.antt.
@@ -9,17 +9,25 @@ ghost use lib.ListN.{length};
 ghost use Rattle.cosine.specs.machine.Parity.{even-value, odd-value};
 ghost use Rattle.cosine.specs.machine.Prepared.{Ready};
 ghost use Rattle.units.specs.Units.{series-limit};
-ghost use Rattle.packed.specs.machine.Tables.{Sized, terms-at};
-ghost use Rattle.limits.specs.Allowed.{BlockFits};
+ghost use Rattle.packed.specs.machine.Table.{Sized, term-at, terms-at};
+ghost use Rattle.limits.specs.Allowed.{TermFits};
 ghost use Rattle.pieces.specs.Sums.{block-sum};
-ghost use Rattle.pieces.specs.machine.Parted.{piece-limit, room, half-sum, PutInBoth, Half, Closed, Parted};
+ghost use Rattle.pieces.specs.machine.Parted.{room, half-sum, WorkedFor, Piece, PutInBoth, Half, Closed, Parted};
 use arith::signed::add;
 use cosine::term::Prepared;
 use cosine::term::Worked;
 use cosine::term::worked_term;
+use packed::table::Table;
+use packed_numbers::unfold_number;
 use pairs::Pair;
 use pairs::even_values;
 use pairs::odd_values;
+use units::U;
+
+// The terms of a piece are at most so many; a table has one place more.
+pub const PIECE_LIMIT: usize = 256;
+
+const ROOM: usize = PIECE_LIMIT + 1;
 
 // How many terms each table has.
 pub struct Counts {
@@ -31,10 +39,10 @@ pub struct Counts {
 fn put_term(
     w: Worked,
     n: Counts,
-    ea: &mut [i64; 257],
-    ev: &mut [u64; 257],
-    oa: &mut [i64; 257],
-    ov: &mut [u64; 257],
+    ea: &mut [i64; ROOM],
+    ev: &mut [u64; ROOM],
+    oa: &mut [i64; ROOM],
+    ov: &mut [u64; ROOM],
 ) -> Counts
     requires { ⌜ (w .odd ≤ 1) × (n .evens < room) × (n .odds < room) ⌝ }
     ensures { λ r. ⌜ PutInBoth w n (now (ea .entry)) (now (ev .entry)) (now (oa .entry)) (now (ov .entry)) (now (ea .exit)) (now (ev .exit)) (now (oa .exit)) (now (ov .exit)) r ⌝ }
@@ -53,39 +61,42 @@ fn put_term(
     }
 }
 
+// The term at place i of the table, with its angle worked out.
+fn worked_at(p: Prepared, table: &Table, i: usize) -> Worked
+    requires { ⌜ Ready p × Sized (now table) × (i < series-limit) × TermFits (term-at (now table) i) ⌝ }
+    ensures { λ r. ⌜ WorkedFor (p .t) (term-at (now (table .entry)) i) r ⌝ }
+{
+    let row = table[i];
+    worked_term(p, unfold_number(row[0]), row[1], unfold_number(row[2]))
+}
+
 // Parts the terms from place from up to place to.
 fn part_terms(
     p: Prepared,
-    a: &[i64; 8192],
-    b: &[u64; 8192],
-    c: &[i64; 8192],
+    table: &Table,
     from: usize,
     to: usize,
-    ea: &mut [i64; 257],
-    ev: &mut [u64; 257],
-    oa: &mut [i64; 257],
-    ov: &mut [u64; 257],
+    ea: &mut [i64; ROOM],
+    ev: &mut [u64; ROOM],
+    oa: &mut [i64; ROOM],
+    ov: &mut [u64; ROOM],
 ) -> Counts
-    requires { ⌜ Ready p × Sized (now a) (now b) (now c) × (from ≤ to) × (to ≤ series-limit) × (to ≤ from + piece-limit) × BlockFits (terms-at (now a) (now b) (now c) from (to - from)) × (length (now ea) ≡ room) × (length (now ev) ≡ room) × (length (now oa) ≡ room) × (length (now ov) ≡ room) ⌝ }
-    ensures { λ r. ⌜ Parted (p .t) (terms-at (now (a .entry)) (now (b .entry)) (now (c .entry)) from (to - from)) (now (ea .exit)) (now (ev .exit)) (now (oa .exit)) (now (ov .exit)) r ⌝ }
+    requires { ⌜ Piece p (now table) from to × (length (now ea) ≡ room) × (length (now ev) ≡ room) × (length (now oa) ≡ room) × (length (now ov) ≡ room) ⌝ }
+    ensures { λ r. ⌜ Parted (p .t) (terms-at (now (table .entry)) from (to - from)) (now (ea .exit)) (now (ev .exit)) (now (oa .exit)) (now (ov .exit)) r ⌝ }
 {
     let mut n = Counts { evens: 0, odds: 0 };
     let mut i = from;
     while i < to {
-        n = put_term(worked_term(p, a[i], b[i], c[i]), n, ea, ev, oa, ov);
+        n = put_term(worked_at(p, table, i), n, ea, ev, oa, ov);
         i = i + 1;
     }
-    let none = Worked {
-        a: 0,
-        v: 1000000000,
-        odd: 0,
-    };
+    let none = Worked { a: 0, v: U, odd: 0 };
     put_term(none, n, ea, ev, oa, ov);
     n
 }
 
 // The sum of the even table with the two terms from place i.
-fn even_two(ea: &[i64; 257], ev: &[u64; 257], i: usize, sum: i64) -> i64
+fn even_two(ea: &[i64; ROOM], ev: &[u64; ROOM], i: usize, sum: i64) -> i64
     requires { ⌜ Half even-value (now ea) (now ev) (i + 2) × (sum ≡ half-sum even-value (now ea) (now ev) i) ⌝ }
     ensures { λ r. ⌜ r ≡ half-sum even-value (now (ea .entry)) (now (ev .entry)) (i + 2) ⌝ }
 {
@@ -97,7 +108,7 @@ fn even_two(ea: &[i64; 257], ev: &[u64; 257], i: usize, sum: i64) -> i64
 }
 
 // The sum of the even table.
-fn sum_evens(ea: &[i64; 257], ev: &[u64; 257], n: usize) -> i64
+fn sum_evens(ea: &[i64; ROOM], ev: &[u64; ROOM], n: usize) -> i64
     requires { ⌜ Closed even-value (now ea) (now ev) n ⌝ }
     ensures { λ r. ⌜ r ≡ half-sum even-value (now (ea .entry)) (now (ev .entry)) n ⌝ }
 {
@@ -111,7 +122,7 @@ fn sum_evens(ea: &[i64; 257], ev: &[u64; 257], n: usize) -> i64
 }
 
 // The sum of the odd table with the two terms from place i.
-fn odd_two(oa: &[i64; 257], ov: &[u64; 257], i: usize, sum: i64) -> i64
+fn odd_two(oa: &[i64; ROOM], ov: &[u64; ROOM], i: usize, sum: i64) -> i64
     requires { ⌜ Half odd-value (now oa) (now ov) (i + 2) × (sum ≡ half-sum odd-value (now oa) (now ov) i) ⌝ }
     ensures { λ r. ⌜ r ≡ half-sum odd-value (now (oa .entry)) (now (ov .entry)) (i + 2) ⌝ }
 {
@@ -123,7 +134,7 @@ fn odd_two(oa: &[i64; 257], ov: &[u64; 257], i: usize, sum: i64) -> i64
 }
 
 // The sum of the odd table.
-fn sum_odds(oa: &[i64; 257], ov: &[u64; 257], n: usize) -> i64
+fn sum_odds(oa: &[i64; ROOM], ov: &[u64; ROOM], n: usize) -> i64
     requires { ⌜ Closed odd-value (now oa) (now ov) n ⌝ }
     ensures { λ r. ⌜ r ≡ half-sum odd-value (now (oa .entry)) (now (ov .entry)) n ⌝ }
 {
@@ -137,22 +148,15 @@ fn sum_odds(oa: &[i64; 257], ov: &[u64; 257], n: usize) -> i64
 }
 
 // The sum of the terms from place from up to place to.
-pub fn sum_piece(
-    p: Prepared,
-    a: &[i64; 8192],
-    b: &[u64; 8192],
-    c: &[i64; 8192],
-    from: usize,
-    to: usize,
-) -> i64
-    requires { ⌜ Ready p × Sized (now a) (now b) (now c) × (from ≤ to) × (to ≤ series-limit) × (to ≤ from + piece-limit) × BlockFits (terms-at (now a) (now b) (now c) from (to - from)) ⌝ }
-    ensures { λ r. ⌜ r ≡ block-sum (p .t) (terms-at (now (a .entry)) (now (b .entry)) (now (c .entry)) from (to - from)) ⌝ }
+pub fn sum_piece(p: Prepared, table: &Table, from: usize, to: usize) -> i64
+    requires { ⌜ Piece p (now table) from to ⌝ }
+    ensures { λ r. ⌜ r ≡ block-sum (p .t) (terms-at (now (table .entry)) from (to - from)) ⌝ }
 {
-    let mut ea = [0i64; 257];
-    let mut ev = [0u64; 257];
-    let mut oa = [0i64; 257];
-    let mut ov = [0u64; 257];
-    let n = part_terms(p, a, b, c, from, to, &mut ea, &mut ev, &mut oa, &mut ov);
+    let mut ea = [0i64; ROOM];
+    let mut ev = [0u64; ROOM];
+    let mut oa = [0i64; ROOM];
+    let mut ov = [0u64; ROOM];
+    let n = part_terms(p, table, from, to, &mut ea, &mut ev, &mut oa, &mut ov);
     let even = sum_evens(&ea, &ev, n.evens);
     let odd = sum_odds(&oa, &ov, n.odds);
     add(even, odd)

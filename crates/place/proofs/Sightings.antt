@@ -4,7 +4,7 @@ use mathlib.Core.Bool.{Bool, true, false, not}
 use mathlib.Core.List.{List}
 use Prim.Native.Nat.{ℕ, _≤_}
 use borrow.Author.Tests.{not-true, not-false, leb-true}
-use lib.IntN.{ℤ, natAbs}
+use lib.IntN.{natAbs}
 use Rattle.units.specs.Units.{t-limit, in-limit}
 use Rattle.units.specs.declared.Instant.{Instant}
 use Rattle.units.specs.declared.Coordinates.{Coordinates}
@@ -23,10 +23,11 @@ use Rattle.place.specs.Place.{sight-at, taken-again, taken, of-series, s
 use Rattle.place.specs.machine.Sizes.{Clear}
 use Rattle.place.proofs.Sights.{sight-clear}
 
--- Both bodies, worked from one prepared instant.
-pub both-is : (t : Instant) (P E : List (List Term)) (s : ℤ) (p e : Coordinates) (r : Sight) → s ≡ t .ms → p ≡ coordinates s P → e ≡ coordinates s E → r ≡ sight p e → r ≡ sight-at P E t
+-- Both bodies at one instant.
+pub both-is : (t : Instant) (P E : List (List Term)) (p e : Coordinates) (r : Sight) → p ≡ coordinates (t .ms) P → e ≡ coordinates (t .ms) E → r ≡ sight p e
+    → r ≡ sight-at P E t
 unfolding sight-at
-both-is t P E s p e r h k l m = m ∙ ap₂ sight (k ∙ ap (λ (z : ℤ). coordinates z P) h) (l ∙ ap (λ (z : ℤ). coordinates z E) h)
+both-is t P E p e r k l m = m ∙ ap₂ sight k l
 
 -- The second sight.
 pub again-usable : (d : ℕ) (s : Sight) (g : Geocentric) → s ≡ Usable g → Seen (record { vector = g .vector; distance = d }) ≡ taken-again d s

@@ -4,41 +4,31 @@ ghost use Prim.Native.Nat.{_≤_};
 ghost use lib.IntN.{natAbs};
 ghost use Rattle.units.specs.Units.{t-limit};
 ghost use Rattle.packed.specs.Series.{accepted, parse};
-ghost use Rattle.packed.specs.machine.Tables.{table-blocks};
-ghost use Rattle.series.specs.machine.Tables.{Table};
+ghost use Rattle.packed.specs.machine.Table.{table-blocks};
+ghost use Rattle.series.specs.machine.Table.{Table};
 ghost use Rattle.place.specs.Place.{sight-at, taken-again, taken as taken-at, of-series, sighting as sighting-of};
 use crate::Geocentric;
 use crate::Sight;
 use crate::Sighting;
 use crate::steps::earlier;
 use crate::steps::sight;
-use cosine::term::prepare;
 use packed::Checked;
-use packed::table::unpack;
-use series::sums::coordinates;
 use series::sums::in_limit;
+use series::table::TABLE_ROWS;
+use series::table::Table;
+use series::table::coordinates;
+use series::table::fill;
 use units::Instant;
 use units::Refusal;
 
 // Planet and Earth at an instant, from their term tables.
-fn both_at(
-    pa: &[i64; 8192],
-    pb: &[u64; 8192],
-    pc: &[i64; 8192],
-    pends: &[u64; 18],
-    ea: &[i64; 8192],
-    eb: &[u64; 8192],
-    ec: &[i64; 8192],
-    eends: &[u64; 18],
-    t: Instant,
-) -> Sight
-    requires { ⌜ (natAbs (t .ms) ≤ t-limit) × Table (now pa) (now pb) (now pc) (now pends) × Table (now ea) (now eb) (now ec) (now eends) ⌝ }
-    ensures { λ r. ⌜ r ≡ sight-at (table-blocks (now (pa .entry)) (now (pb .entry)) (now (pc .entry)) (now (pends .entry))) (table-blocks (now (ea .entry)) (now (eb .entry)) (now (ec .entry)) (now (eends .entry))) t ⌝ }
+fn both_at(planet: &Table, earth: &Table, t: Instant) -> Sight
+    requires { ⌜ (natAbs (t .ms) ≤ t-limit) × Table (now planet) × Table (now earth) ⌝ }
+    ensures { λ r. ⌜ r ≡ sight-at (table-blocks (now (planet .entry))) (table-blocks (now (earth .entry))) t ⌝ }
 {
-    let p = prepare(t);
-    let planet = coordinates(p, pa, pb, pc, pends);
-    let earth = coordinates(p, ea, eb, ec, eends);
-    sight(planet, earth)
+    let p = coordinates(planet, t);
+    let e = coordinates(earth, t);
+    sight(p, e)
 }
 
 // The sight at the earlier instant, with D at t.
@@ -55,21 +45,12 @@ fn again(distance: u64, s: Sight) -> Sighting
 }
 
 // At t, and again at t less the light time.
-fn taken(
-    pa: &[i64; 8192],
-    pb: &[u64; 8192],
-    pc: &[i64; 8192],
-    pends: &[u64; 18],
-    ea: &[i64; 8192],
-    eb: &[u64; 8192],
-    ec: &[i64; 8192],
-    eends: &[u64; 18],
-    t: Instant,
-) -> Sighting
-    requires { ⌜ (natAbs (t .ms) ≤ t-limit) × Table (now pa) (now pb) (now pc) (now pends) × Table (now ea) (now eb) (now ec) (now eends) ⌝ }
-    ensures { λ r. ⌜ r ≡ taken-at (sight-at (table-blocks (now (pa .entry)) (now (pb .entry)) (now (pc .entry)) (now (pends .entry))) (table-blocks (now (ea .entry)) (now (eb .entry)) (now (ec .entry)) (now (eends .entry)))) t (sight-at (table-blocks (now (pa .entry)) (now (pb .entry)) (now (pc .entry)) (now (pends .entry))) (table-blocks (now (ea .entry)) (now (eb .entry)) (now (ec .entry)) (now (eends .entry))) t) ⌝ }
+fn taken(planet: &Table, earth: &Table, t: Instant) -> Sighting
+    requires { ⌜ (natAbs (t .ms) ≤ t-limit) × Table (now planet) × Table (now earth) ⌝ }
+    ensures { λ r. ⌜ r ≡ taken-at (sight-at (table-blocks (now (planet .entry))) (table-blocks (now (earth .entry)))) t
+        (sight-at (table-blocks (now (planet .entry))) (table-blocks (now (earth .entry))) t) ⌝ }
 {
-    let first = both_at(pa, pb, pc, pends, ea, eb, ec, eends, t);
+    let first = both_at(planet, earth, t);
     match first {
         Sight::Unusable => Sighting::NoSight(Refusal::NotUsable(0)),
         Sight::Usable(g) => {
@@ -78,7 +59,7 @@ fn taken(
             if !in_limit(before) {
                 return Sighting::NoSight(Refusal::PastLimit(before));
             }
-            let second = both_at(pa, pb, pc, pends, ea, eb, ec, eends, before);
+            let second = both_at(planet, earth, before);
             again(distance, second)
         }
     }
@@ -91,34 +72,21 @@ pub fn sighting(planet: &[u8], earth: &[u8], t: Instant) -> Sighting
     if !in_limit(t) {
         return Sighting::NoSight(Refusal::PastLimit(t));
     }
-    let mut pa = [0i64; 8192];
-    let mut pb = [0u64; 8192];
-    let mut pc = [0i64; 8192];
-    let mut pends = [0u64; 18];
-    match unpack(planet, &mut pa, &mut pb, &mut pc, &mut pends) {
+    let mut table: Table = [[0; 3]; TABLE_ROWS];
+    match fill(planet, &mut table) {
         Checked::NoSeries(r) => Sighting::NoSight(r),
-        Checked::Terms(_) => with_earth(&pa, &pb, &pc, &pends, earth, t),
+        Checked::Terms(_) => with_earth(&table, earth, t),
     }
 }
 
 // With the planet's term table.
-fn with_earth(
-    pa: &[i64; 8192],
-    pb: &[u64; 8192],
-    pc: &[i64; 8192],
-    pends: &[u64; 18],
-    earth: &[u8],
-    t: Instant,
-) -> Sighting
-    requires { ⌜ (natAbs (t .ms) ≤ t-limit) × Table (now pa) (now pb) (now pc) (now pends) ⌝ }
-    ensures { λ r. ⌜ r ≡ of-series (accepted (table-blocks (now (pa .entry)) (now (pb .entry)) (now (pc .entry)) (now (pends .entry)))) (parse (now (earth .entry))) t ⌝ }
+fn with_earth(planet: &Table, earth: &[u8], t: Instant) -> Sighting
+    requires { ⌜ (natAbs (t .ms) ≤ t-limit) × Table (now planet) ⌝ }
+    ensures { λ r. ⌜ r ≡ of-series (accepted (table-blocks (now (planet .entry)))) (parse (now (earth .entry))) t ⌝ }
 {
-    let mut ea = [0i64; 8192];
-    let mut eb = [0u64; 8192];
-    let mut ec = [0i64; 8192];
-    let mut eends = [0u64; 18];
-    match unpack(earth, &mut ea, &mut eb, &mut ec, &mut eends) {
+    let mut table: Table = [[0; 3]; TABLE_ROWS];
+    match fill(earth, &mut table) {
         Checked::NoSeries(r) => Sighting::NoSight(r),
-        Checked::Terms(_) => taken(pa, pb, pc, pends, &ea, &eb, &ec, &eends, t),
+        Checked::Terms(_) => taken(planet, &table, t),
     }
 }

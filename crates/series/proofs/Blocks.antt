@@ -10,7 +10,6 @@ use lib.Seq.{drop-cons, getD-take, getD-drop}
 use Rattle.integers.specs.Division.{rounded}
 use Rattle.units.specs.Units.{millennium, t-limit, total-limit}
 use Rattle.limits.specs.declared.Term.{Term}
-use Rattle.packed.proofs.Tabled.{block-start}
 use Rattle.pieces.specs.Sums.{block-sum}
 use Rattle.pieces.proofs.Sizes.{no-share}
 use Rattle.series.specs.Sums.{running-sum}
@@ -19,7 +18,7 @@ use Rattle.series.proofs.Accepted.{Blocks-in, in-take, in-drop}
 use Rattle.series.proofs.Sizes.{running-size}
 
 -- past block 0, a block starts where the one before ends
-pub start-later : (ends : List ℕ) (j : ℕ) → (j ≡ 0 → ⊥) → getD ends (j - 1) 0 ≡ block-start ends j
+pub start-later : (ends : List ℕ) (j : ℕ) → (j ≡ 0 → ⊥) → getD ends (j - 1) 0 ≡ getD (0 ∷ ends) j 0
 start-later ends zero h = absurd (h refl)
 start-later ends (suc j) h = ap (λ (k : ℕ). getD ends k 0) (before j)
   where

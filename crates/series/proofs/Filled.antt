@@ -1,20 +1,59 @@
--- The table of an accepted series is one that the sums can be worked from. Assumes nothing.
-use mathlib.Core.Path.{_≡_, sym, subst}
+-- The table of an accepted series is one that the sums can be worked from, and what a caller learns from the answer. Assumes nothing.
+use mathlib.Core.Path.{_≡_, refl, sym, ap, _∙_, subst}
 use mathlib.Core.List.{List}
 use Prim.Native.Nat.{ℕ}
-use lib.IntN.{ℤ}
-use lib.ListN.{length}
+use native.Mathlib.Omega.{arith}
+use Rattle.units.specs.declared.Refusal.{Refusal}
 use Rattle.limits.specs.declared.Term.{Term}
-use Rattle.units.specs.Units.{block-count}
 use Rattle.limits.specs.Allowed.{Allowed}
-use Rattle.packed.specs.machine.Tables.{Sized, Holds}
-use Rattle.series.specs.machine.Tables.{Table}
-use Rattle.series.proofs.Accepted.{Accepted}
+use Rattle.packed.specs.declared.Checked.{Checked}
+use Rattle.packed.specs.declared.Checked.the-variants.{Terms, NoSeries}
+use Rattle.packed.specs.Series.{Parsed, accepted, refused, parse, checked}
+use Rattle.packed.specs.machine.Table.{Sized, Holds, table-blocks, unpacked}
+use Rattle.packed.proofs.Theorems.{accepted-allowed}
+use Rattle.series.specs.machine.Table.{Table, TableOf, filled}
 
-pub filled : (la : List ℤ) (lb : List ℕ) (lc : List ℤ) (ends : List ℕ) (bs : List (List Term)) → Sized la lb lc → length ends ≡ block-count → Holds la lb lc ends bs → Accepted bs → Table la lb lc ends
-filled la lb lc ends bs s n h a = record {
-  sized = s;
-  many = n;
-  holds = subst (λ (b : List (List Term)). Holds la lb lc ends b) (sym (h .table)) h;
-  allowed = subst Allowed (sym (h .table)) (a .allowed);
+-- ---- the table
+
+table-of : (rows : List (List ℕ)) (bs : List (List Term)) → Sized rows → Holds rows bs → Allowed bs → TableOf rows bs
+table-of rows bs s h a = record {
+  table = record {
+    sized = s;
+    holds = subst (λ (b : List (List Term)). Holds rows b) (sym (h .table)) h;
+    allowed = subst Allowed (sym (h .table)) a;
+  };
+  same = h .table;
 }
+
+pub fills : (bytes : List ℕ) (rows : List (List ℕ)) → unpacked (parse bytes) rows → Sized rows → filled (parse bytes) rows
+unfolding unpacked filled
+fills bytes rows u s = by-parse (parse bytes) refl u
+  where
+    by-parse : (p : Parsed) → parse bytes ≡ p → unpacked p rows → filled p rows
+    by-parse (accepted bs) e h = table-of rows bs s h (accepted-allowed bytes bs e)
+    by-parse (refused r) e h = tt
+
+-- ---- what the answer k says of the bytes and the table
+
+pub record Series-in (bytes : List ℕ) (rows : List (List ℕ)) : Type 0 where
+  pub parsed : parse bytes ≡ accepted (table-blocks rows)
+  pub table : Table rows
+
+accepted-of : (p : Parsed) (n : ℕ) → checked p ≡ Terms n → (bs : List (List Term)) × (p ≡ accepted bs)
+unfolding checked
+accepted-of (accepted bs) n e = (bs, refl)
+accepted-of (refused r) n e = let z : _≡_ {A = ℕ} 0 1 = cc in absurd (omega arith)
+
+pub series-in : (bytes : List ℕ) (rows : List (List ℕ)) (k : Checked) (n : ℕ) → k ≡ Terms n → k ≡ checked (parse bytes) → filled (parse bytes) rows → Series-in bytes rows
+series-in bytes rows k n e f u =
+    let p = accepted-of (parse bytes) n (sym f ∙ e) in
+    let h : TableOf rows (p .0) = held (parse bytes) (p .0) (p .1) u in
+    record { parsed = p .1 ∙ ap accepted (sym (h .same)); table = h .table }
+  where
+    held : (q : Parsed) (bs : List (List Term)) → q ≡ accepted bs → filled q rows → TableOf rows bs
+    held q bs e u = unfold filled in (subst (λ (x : Parsed). filled x rows) e u)
+
+pub refused-of : (p : Parsed) (k : Checked) (r : Refusal) → k ≡ NoSeries r → k ≡ checked p → p ≡ refused r
+unfolding checked
+refused-of (accepted bs) k r e f = let z : _≡_ {A = ℕ} 0 1 = cc in absurd (omega arith)
+refused-of (refused q) k r e f = let v : q ≡ r = cc in ap refused v

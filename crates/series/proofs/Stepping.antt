@@ -14,31 +14,33 @@ use Rattle.arith.proofs.Cells.{Cell, cell, held-le}
 use Rattle.units.specs.Units.{millennium, t-limit, total-limit, series-limit, block-count}
 use Rattle.limits.specs.declared.Term.{Term}
 use Rattle.limits.specs.Allowed.{BlockFits}
-use Rattle.packed.specs.machine.Tables.{terms-at, table-blocks}
-use Rattle.packed.proofs.Tabled.{block-start, rising, within-table, block-there}
+use Rattle.packed.specs.machine.Table.{terms-at, table-blocks}
+use Rattle.packed.proofs.Tabled.{block-start, block-end, rising, within-table, block-there}
 use Rattle.pieces.specs.Sums.{block-sum}
 use Rattle.pieces.proofs.Adding.{cells-fit, cells-are}
 use Rattle.pieces.proofs.Sizes.{block-size}
-use Rattle.series.specs.machine.Tables.{Table}
+use Rattle.series.specs.machine.Table.{Table}
 use Rattle.series.proofs.Sizes.{carried-size}
 
-module _ (la : List ℤ) (lb : List ℕ) (lc : List ℤ) (ends : List ℕ) (h : Table la lb lc ends) (j : ℕ) (hj : j < block-count) where
+module _ (rows : List (List ℕ)) (h : Table rows) (j : ℕ) (hj : j < block-count) where
   abbrev block : List Term
-  block = getD (table-blocks la lb lc ends) j []
+  block = getD (table-blocks rows) j []
 
   pub inside : BlockFits block
   inside = h .allowed .fits j hj
 
-  block-is : block ≡ terms-at la lb lc (block-start ends j) (getD ends j 0 - block-start ends j)
-  block-is = block-there la lb lc ends (table-blocks la lb lc ends) (h .holds) (h .allowed) j hj
+  block-is : block ≡ terms-at rows (block-start rows j) (block-end rows j - block-start rows j)
+  block-is = block-there rows (table-blocks rows) (h .holds) (h .allowed) j hj
 
-  pub sum-asks : (from to : ℕ) → from ≡ block-start ends j → to ≡ getD ends j 0 → (from ≤ to) × (to ≤ series-limit) × BlockFits (terms-at la lb lc from (to - from))
-  sum-asks from to e f =
-      let bs = table-blocks la lb lc ends in
-      rw (e, f) (rising la lb lc ends bs (h .holds) (h .allowed) j hj, within-table la lb lc ends bs (h .holds) (h .allowed) j hj, subst BlockFits block-is inside)
+  module _ (from to : ℕ) (e : from ≡ block-start rows j) (f : to ≡ block-end rows j) where
+    pub sum-asks : (from ≤ to) × (to ≤ series-limit) × BlockFits (terms-at rows from (to - from))
+    sum-asks =
+        let bs = table-blocks rows in
+        rw (e, f)
+        (rising rows bs (h .holds) (h .allowed) j hj, within-table rows bs (h .holds) (h .allowed) j hj, subst BlockFits block-is inside)
 
-  pub sum-is : (t s : ℤ) (from to : ℕ) → from ≡ block-start ends j → to ≡ getD ends j 0 → s ≡ block-sum t (terms-at la lb lc from (to - from)) → s ≡ block-sum t block
-  sum-is t s from to e f g = g ∙ ap₂ (λ (x y : ℕ). block-sum t (terms-at la lb lc x (y - x))) e f ∙ ap (block-sum t) (sym block-is)
+    pub sum-is : (t s : ℤ) → s ≡ block-sum t (terms-at rows from (to - from)) → s ≡ block-sum t block
+    sum-is t s g = g ∙ ap₂ (λ (x y : ℕ). block-sum t (terms-at rows x (y - x))) e f ∙ ap (block-sum t) (sym block-is)
 
 module _ (t v : ℤ) (ht : natAbs t ≤ t-limit) (hv : natAbs v ≤ 31 * total-limit) where
   t-cell : Cell t ≡ t
@@ -47,10 +49,17 @@ module _ (t v : ℤ) (ht : natAbs t ≤ t-limit) (hv : natAbs v ≤ 31 * total-l
   v-cell : Cell v ≡ v
   v-cell = cell v (omega arith)
 
-  pub carried-asks : (0 < millennium) × (millennium ≤ 2 ^ 47) × (natAbs (Cell t) ≤ 2 ^ 47) × (natAbs (Cell v) * natAbs (Cell t) < millennium * (2 ^ 63 - 1))
-  carried-asks = (omega arith, omega arith, held-le t (2 ^ 47) (omega arith) (omega arith), rw (t-cell, v-cell) (lt-of-le-of-lt (mul-le-mul hv ht) (lit< tt)))
+  pub carried-asks : (0 < millennium) × (millennium ≤ 2 ^ 47) × (natAbs (Cell t) ≤ 2 ^ 47)
+      × (natAbs (Cell v) * natAbs (Cell t) < millennium * (2 ^ 63 - 1))
+  carried-asks = (
+    omega arith,
+    omega arith,
+    held-le t (2 ^ 47) (omega arith) (omega arith),
+    rw (t-cell, v-cell) (lt-of-le-of-lt (mul-le-mul hv ht) (lit< tt)),
+  )
 
-  module _ (b : List Term) (hb : BlockFits b) (s r : ℤ) (es : s ≡ block-sum t b) (er : r ≡ rounded (Cell v *ℤ Cell t) millennium) where
+  module _ (b : List Term) (hb : BlockFits b) (s r : ℤ)
+      (es : s ≡ block-sum t b) (er : r ≡ rounded (Cell v *ℤ Cell t) millennium) where
     s-size : natAbs s ≤ total-limit
     s-size = subst (λ (z : ℤ). natAbs z ≤ total-limit) (sym es) (let m = block-size t b in let n = hb .total in omega arith)
 

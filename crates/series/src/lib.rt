@@ -1,14 +1,16 @@
-// L, B and R of a packed series at an instant: document 01, "Working cosine and sums".
+// L, B and R of a packed series at an instant: RULES, "Working cosine and sums".
 ghost use mathlib.Core.Path.{_≡_};
 ghost use Rattle.series.specs.Sums.{coordinates-answer};
 
 pub mod sums;
+pub mod table;
 
-use crate::sums::coordinates;
 use crate::sums::in_limit;
-use cosine::term::prepare;
+use crate::table::TABLE_ROWS;
+use crate::table::Table;
+use crate::table::coordinates;
+use crate::table::fill;
 use packed::Checked;
-use packed::table::unpack;
 use units::Coordinates;
 use units::Instant;
 use units::Refusal;
@@ -26,15 +28,9 @@ pub fn coordinates_at(packed: &[u8], t: Instant) -> CoordinatesAnswer
     if !in_limit(t) {
         return CoordinatesAnswer::NoCoordinates(Refusal::PastLimit(t));
     }
-    let mut a = [0i64; 8192];
-    let mut b = [0u64; 8192];
-    let mut c = [0i64; 8192];
-    let mut ends = [0u64; 18];
-    match unpack(packed, &mut a, &mut b, &mut c, &mut ends) {
+    let mut table: Table = [[0; 3]; TABLE_ROWS];
+    match fill(packed, &mut table) {
         Checked::NoSeries(r) => CoordinatesAnswer::NoCoordinates(r),
-        Checked::Terms(count) => {
-            let p = prepare(t);
-            CoordinatesAnswer::At(coordinates(p, &a, &b, &c, &ends))
-        }
+        Checked::Terms(_) => CoordinatesAnswer::At(coordinates(&table, t)),
     }
 }

@@ -49,10 +49,11 @@ window-less t0 n k j w h = record { few = (let f = w .few in omega arith); angle
 pub minute-asks : (t0 : Instant) (k j : ℕ) (t : Instant) → Window t0 (suc j) k → t ≡ minute t0 j → natAbs (t .ms) ≤ t-limit
 minute-asks t0 k j t w e = subst (λ (s : Instant). natAbs (s .ms) ≤ t-limit) (sym e) (w .within j (omega arith))
 
-pub decided : (t0 : Instant) (k j : ℕ) (t : Instant) (ms : ℤ) (planet earth : List (List Term)) (p e : Coordinates) (d : Decision) → t ≡ minute t0 j → ms ≡ t .ms → p ≡ coordinates ms planet → e ≡ coordinates ms earth → d ≡ decide k p e → d ≡ decision-at planet earth t0 k j
+pub decided : (t0 : Instant) (k j : ℕ) (t : Instant) (planet earth : List (List Term)) (p e : Coordinates) (d : Decision) → t ≡ minute t0 j
+    → p ≡ coordinates (t .ms) planet → e ≡ coordinates (t .ms) earth → d ≡ decide k p e → d ≡ decision-at planet earth t0 k j
 unfolding decision-at
-decided t0 k j t ms planet earth p e d h g hp he hd =
-    let m : ms ≡ minute t0 j .ms = g ∙ ap (λ (s : Instant). s .ms) h in
+decided t0 k j t planet earth p e d h hp he hd =
+    let m : t .ms ≡ minute t0 j .ms = ap (λ (s : Instant). s .ms) h in
     hd ∙ ap₂ (decide k) (hp ∙ ap (λ (z : ℤ). coordinates z planet) m) (he ∙ ap (λ (z : ℤ). coordinates z earth) m)
 
 -- ---- list_of

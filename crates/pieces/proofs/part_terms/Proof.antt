@@ -2,50 +2,32 @@
 use Prim.Native.Nat.{_-_}
 use native.Mathlib.Omega.{arith}
 use borrow.Author.Needs.{needs}
-use Rattle.pieces.proofs.Summing.{term-asks}
+use Rattle.pieces.proofs.Summing.{term-fits}
 use Rattle.pieces.proofs.Parting.{Partly, partly-none, evens-free, odds-free, partly-more, partly-all}
 use Rattle.pieces.proofs.part_terms.Statement.{statement}
 use Rattle.pieces.proofs.part_terms.Tie as tie
 
 abbrev Inv-loop : tie.InvT-loop
-Inv-loop p a b c from to ea₀ ev₀ oa₀ ov₀ n₀ i₀ ea ev oa ov n i = Partly (p .t) a b c from to ea ev oa ov n i
+Inv-loop p table from to ea₀ ev₀ oa₀ ov₀ n₀ i₀ ea ev oa ov n i = Partly (p .t) table from to ea ev oa ov n i
 
 abbrev μ-loop : tie.MeasureT-loop
-μ-loop p a b c from to ea₀ ev₀ oa₀ ov₀ n₀ i₀ ea ev oa ov n i = to - i
+μ-loop p table from to ea₀ ev₀ oa₀ ov₀ n₀ i₀ ea ev oa ov n i = to - i
 
 loop-holds : tie.Need-loop-holds Inv-loop μ-loop
-loop-holds c = partly-none (c .pre .6) (c .pre .7) (c .pre .8) (c .pre .9) (c .pre .2) (c .pre .3) (c .pre .4) (c .pre .5)
+loop-holds c = partly-none (c .pre .0) (c .pre .1) (c .pre .2) (c .pre .3) (c .pre .4)
 
-mul-worked-term : tie.Need-mul-worked-term Inv-loop μ-loop
-mul-worked-term c = search needs
-
-element-copy-out-worked-term : tie.Need-element-copy-out-worked-term Inv-loop μ-loop
-element-copy-out-worked-term c = search needs
-
-mul-worked-term-2 : tie.Need-mul-worked-term-2 Inv-loop μ-loop
-mul-worked-term-2 c = search needs
-
-element-copy-out-worked-term-2 : tie.Need-element-copy-out-worked-term-2 Inv-loop μ-loop
-element-copy-out-worked-term-2 c = search needs
-
-mul-worked-term-3 : tie.Need-mul-worked-term-3 Inv-loop μ-loop
-mul-worked-term-3 c = search needs
-
-element-copy-out-worked-term-3 : tie.Need-element-copy-out-worked-term-3 Inv-loop μ-loop
-element-copy-out-worked-term-3 c = search needs
-
-worked-term-requires : tie.Need-worked-term-requires Inv-loop μ-loop
-worked-term-requires c κs =
-    let l = c .before .before .before .before in
+worked-at-requires : tie.Need-worked-at-requires Inv-loop μ-loop
+worked-at-requires c κs =
+    let l = c .before in
     let s = l .before in
-    let asks = term-asks (l .loop .inv .summed) (c .before .before .before .loop-test .taken) in
-    (s .pre .0, asks .0, asks .1, asks .2)
+    let q = s .pre .0 in
+    (q .ready, q .sized, (let n = q .space in omega arith), term-fits (l .loop .inv .summed) (c .loop-test .taken))
 
 put-term-requires : tie.Need-put-term-requires Inv-loop μ-loop
 put-term-requires c κs =
     let w = c .before .before .before .before in
-    let l = w .before .before .before .before .before in
-    (w .worked-term .ensures .2, evens-free (l .loop .inv), odds-free (l .loop .inv))
+    let l = w .before .before in
+    (w .worked-at .ensures .parity, evens-free (l .loop .inv), odds-free (l .loop .inv))
 
 add-i : tie.Need-add-i Inv-loop μ-loop
 add-i c = omega arith
@@ -56,9 +38,8 @@ loop-less c = omega arith
 loop-again : tie.Need-loop-again Inv-loop μ-loop
 loop-again c =
     let w = c .before .before .before .before .before in
-    let l = w .before .before .before .before .before in
-    let e = w .worked-term .ensures in
-    partly-more (l .loop .inv) (w .before .before .before .before .loop-test .taken) (w .worked-term .result) (e .0) (e .1) (e .2) (e .3) (c .put-term .ensures)
+    let l = w .before .before in
+    partly-more (l .loop .inv) (w .before .loop-test .taken) (w .worked-at .result) (w .worked-at .ensures) (c .put-term .ensures)
 
 put-term-requires-2 : tie.Need-put-term-requires-2 Inv-loop μ-loop
 put-term-requires-2 c κs =
@@ -77,13 +58,7 @@ part-terms-spec =
     Inv-loop
     μ-loop
     loop-holds
-    mul-worked-term
-    element-copy-out-worked-term
-    mul-worked-term-2
-    element-copy-out-worked-term-2
-    mul-worked-term-3
-    element-copy-out-worked-term-3
-    worked-term-requires
+    worked-at-requires
     put-term-requires
     add-i
     loop-less

@@ -1,13 +1,18 @@
--- The two tables that a piece of a block is parted into, by the parity of each term's quarter. Held by the code, no part of document 01.
+-- A piece of a block, and the two tables that it is parted into, by the parity of each term's quarter.
 use mathlib.Core.Path.{_≡_}
 use mathlib.Core.List.{List}
 use Prim.Native.Nat.{ℕ, zero, suc, _+_, _-_, _≤_, _<_}
 use lib.IntN.{ℤ, pos, natAbs, _+ℤ_}
 use lib.ListN.{length, getD, set}
-use Rattle.units.specs.Units.{a-limit}
-use Rattle.cosine.specs.machine.Parity.{even-value, odd-value, InRange}
+use Rattle.units.specs.Units.{a-limit, series-limit}
+use Rattle.cosine.specs.Terms.{term-value}
+use Rattle.cosine.specs.machine.Parity.{even-value, odd-value, half-value, InRange}
+use Rattle.cosine.specs.machine.Prepared.{Ready}
+use Rattle.cosine.specs.declared.term.Prepared.{Prepared}
 use Rattle.cosine.specs.declared.term.Worked.{Worked}
 use Rattle.limits.specs.declared.Term.{Term}
+use Rattle.limits.specs.Allowed.{BlockFits}
+use Rattle.packed.specs.machine.Table.{Sized, terms-at}
 use Rattle.pieces.specs.declared.Counts.{Counts}
 use Rattle.pieces.specs.Sums.{block-sum}
 
@@ -18,13 +23,31 @@ piece-limit = 256
 abbrev pub room : ℕ
 room = piece-limit + 1
 
+-- What is asked of the terms from place from up to place to of a term table, for them to be summed at a prepared instant.
+pub record Piece (p : Prepared) (rows : List (List ℕ)) (from to : ℕ) : Type 0 where
+  pub ready : Ready p
+  pub sized : Sized rows
+  pub order : from ≤ to
+  pub space : to ≤ series-limit
+  pub short : to ≤ from + piece-limit
+  pub limits : BlockFits (terms-at rows from (to - from))
+
+-- A term at the instant t with its angle worked out.
+pub record WorkedFor (t : ℤ) (x : Term) (w : Worked) : Type 0 where
+  pub value : half-value (w .odd) (w .a) (w .v) ≡ term-value (x .a) (x .b) (x .c) t
+  pub size : natAbs (w .a) ≡ natAbs (x .a)
+  pub parity : w .odd ≤ 1
+  pub offset : InRange (w .v)
+
 -- The sum of the values f a v at the first n places.
 unfoldable pub half-sum : (ℤ → ℕ → ℤ) → List ℤ → List ℕ → ℕ → ℤ
 half-sum f la lv zero = pos 0
 half-sum f la lv (suc n) = half-sum f la lv n +ℤ f (getD la n (pos 0)) (getD lv n 0)
 
 -- A term is put at the next free place of both tables; only the count of the one that it belongs to moves on.
-pub record PutInBoth (w : Worked) (n : Counts) (ea₀ : List ℤ) (ev₀ : List ℕ) (oa₀ : List ℤ) (ov₀ : List ℕ) (ea : List ℤ) (ev : List ℕ) (oa : List ℤ) (ov : List ℕ) (r : Counts) : Type 0 where
+pub record PutInBoth (w : Worked) (n : Counts)
+    (ea₀ : List ℤ) (ev₀ : List ℕ) (oa₀ : List ℤ) (ov₀ : List ℕ)
+    (ea : List ℤ) (ev : List ℕ) (oa : List ℤ) (ov : List ℕ) (r : Counts) : Type 0 where
   pub evens-a : ea ≡ set ea₀ (n .evens) (w .a)
   pub evens-v : ev ≡ set ev₀ (n .evens) (w .v)
   pub odds-a : oa ≡ set oa₀ (n .odds) (w .a)

@@ -9,21 +9,21 @@ use Rattle.limits.specs.declared.Term.{Term}
 use lib.ListN.{length}
 use mir.Syntax.{w64}
 use mir.Val.{toZ}
-use Rattle.packed.specs.machine.Tables.{table-blocks}
+use Rattle.packed.specs.machine.Table.{table-blocks}
 use Rattle.series.proofs.Blocks.{Running, running-start, running-next, running-whole, running-within}
 use Rattle.series.proofs.Accepted.{allowed-inside}
 use Rattle.series.proofs.sums.coordinate.Statement.{statement}
 use Rattle.series.proofs.sums.coordinate.Tie as tie
 
 abbrev Inv-loop : tie.InvT-loop
-Inv-loop p a b c ends first v₀ k₀ v k = Running (p .t) (table-blocks a b c ends) first (toZ w64 v) k
+Inv-loop p table first v₀ k₀ v k = Running (p .t) (table-blocks table) first (toZ w64 v) k
 
 abbrev μ-loop : tie.MeasureT-loop
-μ-loop p a b c ends first v₀ k₀ v k = k
+μ-loop p table first v₀ k₀ v k = k
 
 -- the blocks of the table, of which there are enough
 abbrev blocks-of : tie.Start Inv-loop μ-loop → List (List Term)
-blocks-of c = table-blocks (c .args .a .now) (c .args .b .now) (c .args .c .now) (c .args .ends .now)
+blocks-of c = table-blocks (c .args .table .now)
 
 enough : (c : tie.Start Inv-loop μ-loop) → c .args .first + 6 ≤ length (blocks-of c)
 enough c = let n = c .pre .2 .allowed .eighteen in let l = c .pre .3 in omega arith
@@ -41,8 +41,14 @@ with-block-requires : tie.Need-with-block-requires Inv-loop μ-loop
 with-block-requires c κs =
     let s = c .before .before in
     let f = c .before .loop .inv .few in
-    let l = s .pre .3 in
-    (s .pre .0, s .pre .1, s .pre .2, omega arith, running-within (s .args .p .t) (table-blocks (s .args .a .now) (s .args .b .now) (s .args .c .now) (s .args .ends .now)) (s .args .first) (enough s) (s .pre .1) (allowed-inside (blocks-of s) (s .pre .2 .allowed)) (toZ w64 (c .before .loop .v)) (c .before .loop .k) (c .loop-test .taken) (c .before .loop .inv))
+    let l = s .pre .3 in (
+      s .pre .0,
+      s .pre .1,
+      s .pre .2,
+      omega arith,
+      running-within (s .args .p .t) (blocks-of s) (s .args .first) (enough s) (s .pre .1) (allowed-inside (blocks-of s) (s .pre .2 .allowed))
+          (toZ w64 (c .before .loop .v)) (c .before .loop .k) (c .loop-test .taken) (c .before .loop .inv),
+    )
 
 sub-k : tie.Need-sub-k Inv-loop μ-loop
 sub-k c = omega arith
@@ -54,12 +60,17 @@ loop-again : tie.Need-loop-again Inv-loop μ-loop
 loop-again c =
     let l = c .before in
     let s = l .before .before in
-    let bs = table-blocks (s .args .a .now) (s .args .b .now) (s .args .c .now) (s .args .ends .now) in
-    subst (λ (z : ℤ). Running (s .args .p .t) bs (s .args .first) z (l .before .loop .k - 1)) (sym (back (c .with-block .result) (ok (c .with-block .ok))))
-    (running-next (s .args .p .t) bs (s .args .first) (enough s) (toZ w64 (l .before .loop .v)) (c .with-block .result) (l .before .loop .k) (l .loop-test .taken) (l .before .loop .inv) (c .with-block .ensures))
+    let bs = blocks-of s in
+    subst (λ (z : ℤ). Running (s .args .p .t) bs (s .args .first) z (l .before .loop .k - 1))
+    (sym (back (c .with-block .result) (ok (c .with-block .ok))))
+    (running-next (s .args .p .t) bs (s .args .first) (enough s) (toZ w64 (l .before .loop .v)) (c .with-block .result)
+    (l .before .loop .k) (l .loop-test .taken) (l .before .loop .inv) (c .with-block .ensures))
 
 returns : tie.Need-returns Inv-loop μ-loop
-returns c = let s = c .before .before in running-whole (s .args .p .t) (table-blocks (s .args .a .now) (s .args .b .now) (s .args .c .now) (s .args .ends .now)) (s .args .first) (enough s) (toZ w64 (c .before .loop .v)) (c .before .loop .k) (c .before .loop .inv) (c .loop-test .left)
+returns c =
+    let s = c .before .before in
+    running-whole (s .args .p .t) (blocks-of s) (s .args .first) (enough s)
+    (toZ w64 (c .before .loop .v)) (c .before .loop .k) (c .before .loop .inv) (c .loop-test .left)
 
 pub coordinate-spec : {M : Type 1} → statement M
 coordinate-spec =

@@ -1,7 +1,7 @@
 -- `series::sums::sum_of` meets its contract: what is summed and what is left are the block's sum. Assumes nothing.
 use mathlib.Core.Path.{sym, subst}
-use Prim.Native.Nat.{_-_, _≤_}
-use lib.IntN.{ℤ}
+use Prim.Native.Nat.{_+_, _-_, _^_, _≤_, _<_}
+use lib.IntN.{ℤ, natAbs}
 use native.Mathlib.Omega.{arith}
 use mir.Syntax.{w64}
 use mir.Val.{toZ}
@@ -11,10 +11,10 @@ use Rattle.series.proofs.sums.sum_of.Statement.{statement}
 use Rattle.series.proofs.sums.sum_of.Tie as tie
 
 abbrev Inv-loop : tie.InvT-loop
-Inv-loop p a b c from to sum₀ i₀ sum i = Summed (p .t) a b c from to (toZ w64 sum) i
+Inv-loop p table from to sum₀ i₀ sum i = Summed (p .t) table from to (toZ w64 sum) i
 
 abbrev μ-loop : tie.MeasureT-loop
-μ-loop p a b c from to sum₀ i₀ sum i = to - i
+μ-loop p table from to sum₀ i₀ sum i = to - i
 
 loop-holds : tie.Need-loop-holds Inv-loop μ-loop
 loop-holds c = summed-none (c .pre .2) (c .pre .3) (c .pre .4)
@@ -27,13 +27,25 @@ sum-piece-requires c κs =
     let l = c .before .before in
     let s = l .before in
     let e = c .piece-end .ensures in
-    (s .pre .0, s .pre .1, omega arith, (let r = s .pre .3 in omega arith), e .2, piece-fits (l .loop .inv) (c .piece-end .result) (omega arith) (e .1) (e .2))
+    record {
+      ready = s .pre .0;
+      sized = s .pre .1;
+      order = omega arith;
+      space = (let r = s .pre .3 in omega arith);
+      short = e .2;
+      limits = piece-fits (l .loop .inv) (c .piece-end .result) (omega arith) (e .1) (e .2);
+    }
+
+-- what is summed and the sum of the piece
+small : (v : tie.After-sum-piece Inv-loop μ-loop) → let l = v .before .before .before in natAbs (toZ w64 (l .loop .sum)) + natAbs (v .sum-piece .result) < 2 ^ 63
+small v =
+    let e = v .before in
+    let l = e .before .before in
+    let h : l .loop .i ≤ e .piece-end .result = (let q = e .piece-end .ensures .0 in omega arith) in
+    sum-small (l .loop .inv) (e .piece-end .result) h (e .piece-end .ensures .1) (v .sum-piece .result) (v .sum-piece .ensures)
 
 add-requires : tie.Need-add-requires Inv-loop μ-loop
-add-requires c κs =
-    let e = c .before in
-    let l = e .before .before in
-    add-fits (toZ w64 (l .loop .sum)) (c .sum-piece .result) (sum-small (l .loop .inv) (e .piece-end .result) (let q = e .piece-end .ensures .0 in omega arith) (e .piece-end .ensures .1) (c .sum-piece .result) (c .sum-piece .ensures))
+add-requires c κs = add-fits (toZ w64 (c .before .before .before .loop .sum)) (c .sum-piece .result) (small c)
 
 loop-less : tie.Need-loop-less Inv-loop μ-loop
 loop-less c = let e = c .before .before .piece-end .ensures in omega arith
@@ -45,8 +57,8 @@ loop-again c =
     let l = e .before .before in
     let s = l .before in
     let h : l .loop .i ≤ e .piece-end .result = (let q = e .piece-end .ensures .0 in omega arith) in
-    let is = add-is (toZ w64 (l .loop .sum)) (v .sum-piece .result) (sum-small (l .loop .inv) (e .piece-end .result) h (e .piece-end .ensures .1) (v .sum-piece .result) (v .sum-piece .ensures)) (c .add .result) (c .add .ensures) in
-    subst (λ (z : ℤ). Summed (s .args .p .t) (s .args .a .now) (s .args .b .now) (s .args .c .now) (s .args .from) (s .args .to) z (e .piece-end .result)) (sym is)
+    let is = add-is (toZ w64 (l .loop .sum)) (v .sum-piece .result) (small v) (c .add .result) (c .add .ensures) in
+    subst (λ (z : ℤ). Summed (s .args .p .t) (s .args .table .now) (s .args .from) (s .args .to) z (e .piece-end .result)) (sym is)
     (summed-piece (l .loop .inv) (e .piece-end .result) h (e .piece-end .ensures .1) (v .sum-piece .result) (v .sum-piece .ensures))
 
 returns : tie.Need-returns Inv-loop μ-loop

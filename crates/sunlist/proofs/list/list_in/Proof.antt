@@ -2,22 +2,22 @@
 use mathlib.Core.Path.{ap, _∙_, subst}
 use Prim.Native.Nat.{ℕ, _≤_}
 use lib.ListN.{length}
-use Rattle.sunlist.specs.SunList.{decision-at, answered, written}
+use Rattle.sunlist.specs.SunList.{answered, written}
+use Rattle.sunlist.specs.machine.Answers.{decided-at}
 use Rattle.sunlist.specs.machine.Working.{Window}
 use Rattle.sunlist.proofs.Listing.{part-length, part-bad, part-size, part-numbers}
-use Rattle.packed.specs.machine.Tables.{table-blocks}
 use borrow.Author.Needs.{needs}
 use Rattle.sunlist.proofs.list.list_in.Statement.{statement}
 use Rattle.sunlist.proofs.list.list_in.Tie as tie
 
-slice-relend-prefix-fill : tie.Need-slice-relend-prefix-fill
-slice-relend-prefix-fill c = search needs
+slice-relend-prefix-flag-minutes : tie.Need-slice-relend-prefix-flag-minutes
+slice-relend-prefix-flag-minutes c = search needs
 
-slice-aggregate-fill : tie.Need-slice-aggregate-fill
-slice-aggregate-fill c = let s = c .before .before .before in part-length (s .args .n) (s .args .room .now) (s .pre .1 .few) (s .pre .0)
+slice-aggregate-flag-minutes : tie.Need-slice-aggregate-flag-minutes
+slice-aggregate-flag-minutes c = let s = c .before .before .before in part-length (s .args .n) (s .args .room .now) (s .pre .1 .few) (s .pre .0)
 
-fill-requires : tie.Need-fill-requires
-fill-requires c κs =
+flag-minutes-requires : tie.Need-flag-minutes-requires
+flag-minutes-requires c κs =
     let s = c .before .before .before in
     (subst (λ (m : ℕ). Window (s .args .t0) m (s .args .k)) (part-length (s .args .n) (s .args .room .now) (s .pre .1 .few) (s .pre .0)) (s .pre .1), s .pre .2, s .pre .3)
 
@@ -28,7 +28,7 @@ returns : tie.Need-returns
 returns c =
     let f = c .before .before .before in
     let s = f .before .before .before .before in
-    part-bad (decision-at (table-blocks (s .args .pa .now) (s .args .pb .now) (s .args .pc .now) (s .args .pends .now)) (table-blocks (s .args .ea .now) (s .args .eb .now) (s .args .ec .now) (s .args .eends .now)) (s .args .t0) (s .args .k)) (s .args .n) _ (f .fill .result) (f .fill .last .0) (s .args .room .now) (s .args .out .now) (f .fill .ensures) (part-length (s .args .n) (s .args .room .now) (s .pre .1 .few) (s .pre .0)) (c .if1 .taken)
+    part-bad (decided-at (s .args .planet .now) (s .args .earth .now) (s .args .t0) (s .args .k)) (s .args .n) _ (f .flag-minutes .result) (f .flag-minutes .last .0) (s .args .room .now) (s .args .out .now) (f .flag-minutes .ensures) (part-length (s .args .n) (s .args .room .now) (s .pre .1 .few) (s .pre .0)) (c .if1 .taken)
 
 slice-reshare-prefix-write-runs : tie.Need-slice-reshare-prefix-write-runs
 slice-reshare-prefix-write-runs c = search needs
@@ -37,13 +37,13 @@ slice-aggregate-write-runs : tie.Need-slice-aggregate-write-runs
 slice-aggregate-write-runs c =
     let f = c .before .before .before .before in
     let s = f .before .before .before .before in
-    part-size (decision-at (table-blocks (s .args .pa .now) (s .args .pb .now) (s .args .pc .now) (s .args .pends .now)) (table-blocks (s .args .ea .now) (s .args .eb .now) (s .args .ec .now) (s .args .eends .now)) (s .args .t0) (s .args .k)) (s .args .n) _ (f .fill .result) (f .fill .last .0) (s .args .room .now) (s .args .out .now) (f .fill .ensures) (part-length (s .args .n) (s .args .room .now) (s .pre .1 .few) (s .pre .0)) (c .before .if1 .left)
+    part-size (decided-at (s .args .planet .now) (s .args .earth .now) (s .args .t0) (s .args .k)) (s .args .n) _ (f .flag-minutes .result) (f .flag-minutes .last .0) (s .args .room .now) (s .args .out .now) (f .flag-minutes .ensures) (part-length (s .args .n) (s .args .room .now) (s .pre .1 .few) (s .pre .0)) (c .before .if1 .left)
 
 write-runs-requires : tie.Need-write-runs-requires
 write-runs-requires c κs =
     let f = c .before .before .before .before .before in
     let s = f .before .before .before .before in
-    subst (λ (m : ℕ). m ≤ 1440) (part-size (decision-at (table-blocks (s .args .pa .now) (s .args .pb .now) (s .args .pc .now) (s .args .pends .now)) (table-blocks (s .args .ea .now) (s .args .eb .now) (s .args .ec .now) (s .args .eends .now)) (s .args .t0) (s .args .k)) (s .args .n) _ (f .fill .result) (f .fill .last .0) (s .args .room .now) (s .args .out .now) (f .fill .ensures) (part-length (s .args .n) (s .args .room .now) (s .pre .1 .few) (s .pre .0)) (c .before .before .if1 .left)) (s .pre .1 .few)
+    subst (λ (m : ℕ). m ≤ 1440) (part-size (decided-at (s .args .planet .now) (s .args .earth .now) (s .args .t0) (s .args .k)) (s .args .n) _ (f .flag-minutes .result) (f .flag-minutes .last .0) (s .args .room .now) (s .args .out .now) (f .flag-minutes .ensures) (part-length (s .args .n) (s .args .room .now) (s .pre .1 .few) (s .pre .0)) (c .before .before .if1 .left)) (s .pre .1 .few)
 
 same-length-2 : tie.Need-same-length-2
 same-length-2 c = search needs
@@ -56,16 +56,16 @@ returns-2 c =
     let w = c .before .before in
     let f = c .before .before .before .before .before .before .before .before in
     let s = f .before .before .before .before in
-    let o = part-numbers (decision-at (table-blocks (s .args .pa .now) (s .args .pb .now) (s .args .pc .now) (s .args .pends .now)) (table-blocks (s .args .ea .now) (s .args .eb .now) (s .args .ec .now) (s .args .eends .now)) (s .args .t0) (s .args .k)) (s .args .n) _ (f .fill .result) (f .fill .last .0) (s .args .room .now) (s .args .out .now) (f .fill .ensures) (part-length (s .args .n) (s .args .room .now) (s .pre .1 .few) (s .pre .0)) (w .before .before .before .if1 .left) in
+    let o = part-numbers (decided-at (s .args .planet .now) (s .args .earth .now) (s .args .t0) (s .args .k)) (s .args .n) _ (f .flag-minutes .result) (f .flag-minutes .last .0) (s .args .room .now) (s .args .out .now) (f .flag-minutes .ensures) (part-length (s .args .n) (s .args .room .now) (s .pre .1 .few) (s .pre .0)) (w .before .before .before .if1 .left) in
     (w .write-runs .ensures .0 ∙ ap (answered (length (s .args .out .now))) o, w .write-runs .ensures .1 ∙ ap (written (s .args .out .now)) o)
 
 pub list-in-spec : {M : Type 1} → statement M
 list-in-spec =
     tie.close
     (tie.spec
-    slice-relend-prefix-fill
-    slice-aggregate-fill
-    fill-requires
+    slice-relend-prefix-flag-minutes
+    slice-aggregate-flag-minutes
+    flag-minutes-requires
     same-length
     returns
     slice-reshare-prefix-write-runs
