@@ -1,5 +1,5 @@
--- Document 01, "Series, as text and packed" and "Refusals and what they leave": the reader of texts.
-pub mod Lexer
+-- The reader of texts: what a text is (Grammar), one line of it a byte at a time (Lexer), the judgement of a line (Judge), the calls (Reader).
 pub mod Grammar
+pub mod Lexer
 pub mod Judge
 pub mod Reader
