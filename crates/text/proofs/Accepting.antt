@@ -172,7 +172,7 @@ count-rest at w k s out xs end c r =
     let n = count (c .c) in
     let b : Block = record { head = c .c; lines = r .lines } in
     let q : packs [] (b ∷ r .ks) ≡ encode n ++ packs (r .lines) (r .ks) =
-        packs-block b (r .ks) ∙ ap (λ (m : ℕ). encode m ++ packs (r .lines) (r .ks)) (r .left)
+    packs-block b (r .ks) ∙ ap (λ (m : ℕ). encode m ++ packs (r .lines) (r .ks)) (r .left)
     in
     let limits = rw (less k) at (r .limits) in
     let all = rw (less k) at (r .all) in

@@ -133,7 +133,8 @@ event [] r out s p =
     nil-status r out = unfold run in refl
 event (x ∷ xs) r out s p =
     by-cases (eqb (r .at) last-offset)
-    (λ z. inr (halt-now r out x xs 3 (λ e. omega (arith, e)) (step-last r out x s (eqb-true (r .at) last-offset z)) (last-out r out x s (eqb-true (r .at) last-offset z))))
+    (λ z. let e = eqb-true (r .at) last-offset z in
+    inr (halt-now r out x xs 3 (λ e. omega (arith, e)) (step-last r out x s e) (last-out r out x s e)))
     (λ z. by-cases (eqb (r .line .spot) 30)
     (λ y. let t = after-all r out x s (eqb-false (r .at) last-offset z) (eqb-true (r .line .spot) 30 y) in
     inr (halt-now r out x xs 9 (λ e. omega (arith, e)) (t .0) (t .1)))
