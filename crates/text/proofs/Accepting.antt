@@ -25,7 +25,7 @@ use Rattle.text.proofs.Writing.{sets-append}
 use Rattle.text.proofs.Lexing.{flag}
 use Rattle.text.proofs.Parsing.{term-in}
 use Rattle.text.proofs.Counting.{count-in}
-use Rattle.text.proofs.Lines.{moved, Taken, not-stopped, next-line}
+use Rattle.text.proofs.Lines.{moved, Taken, not-stopped, next-line, shorter}
 use Rattle.text.proofs.Verdicts.{sp, st, count-verdict, term-verdict, count-limits, term-limits, ends-count, ends-term}
 
 -- The packed form of a count line and of a term line.
@@ -248,9 +248,6 @@ spot-count k h = rw (ne-eqb k 18 h)
 pub spot-after : next-spot 18 0 ≡ 30
 unfolding next-spot
 spot-after = refl
-
-shorter : (xs body rest : List ℕ) → xs ≡ body ++ (10 ∷ rest) → length rest < length xs
-shorter xs body rest e = omega (arith, ap length e, length-append body (10 ∷ rest))
 
 -- Texts that are shorter than xs.
 abbrev Shorter : List ℕ → Type 0

@@ -25,7 +25,7 @@ use Rattle.text.proofs.Stepping.{verdict-count, verdict-term}
 use Rattle.text.proofs.Lexing.{line-of-term}
 use Rattle.text.proofs.Parsing.{term-in}
 use Rattle.text.proofs.Counting.{count-in}
-use Rattle.text.proofs.Lines.{Going, step-in, step-bad, step-feed, stays, NextLine, feed-run, moved-none, byte-line, step-last}
+use Rattle.text.proofs.Lines.{Going, step-in, step-bad, step-feed, stays, NextLine, feed-run, moved-none, byte-line, step-last, shorter}
 use Rattle.text.proofs.Digits.{early}
 use Rattle.text.proofs.Unlexing.{Lexed, none, digit, pointed, spaced, kept, negated, view, term-of, count-of}
 use Rattle.text.proofs.Verdicts.{term-is, ends-count, ends-term, early-never}
@@ -325,9 +325,6 @@ lined r out xs n l e =
       refused = λ g. rw (n .next) (rw d at (e .refused (λ z. g (ap (λ (q : Run). q .reader .status) (n .next) ∙ z))));
       reading = λ z. e .reading (sym (ap (λ (q : Run). q .reader .status) (n .next)) ∙ z);
     }
-
-shorter : (xs body rest : List ℕ) → xs ≡ body ++ (10 ∷ rest) → length rest < length xs
-shorter xs body rest e = omega (arith, ap length e, length-append body (10 ∷ rest))
 
 leaves-step : (xs : List ℕ) (r : Reader) (out : List ℕ)
     → ((ys : List ℕ) (q : Reader) (o : List ℕ) → length ys < length xs → Begins q → q .written ≤ length o → Leaves (q .at) (q .written) o ys (run q o ys))

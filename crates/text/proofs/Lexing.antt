@@ -83,7 +83,7 @@ count-spots =
       more = λ s m v d h k b p. in-count s m v d b (omega arith) k ∙ later-digit (eqb s 20) v p;
     }
 
-ten : (n : ℕ) → 10 ^ (n + 1) ≡ 10 * 10 ^ n
+pub ten : (n : ℕ) → 10 ^ (n + 1) ≡ 10 * 10 ^ n
 ten n = let e : n + 1 ≡ suc n = omega arith in ap (λ (k : ℕ). 10 ^ k) e ∙ pow-succ' 10 n
 
 under : (n v : ℕ) → n ≤ 17 → v < 10 ^ n → v < value-limit
