@@ -1,4 +1,4 @@
--- The machine, a line at a time: bytes within a line, its line feed, and what an answer without a refusal says of them. Assumes nothing.
+-- The reader, a line at a time: bytes within a line, its line feed, and what an answer without a refusal says of them. Assumes nothing.
 use mathlib.Core.Path.{_≡_, refl, sym, ap, _∙_}
 use mathlib.Core.List.{List, [], _∷_, _++_}
 use Prim.Native.Nat.{ℕ, suc, _+_, _≤_, _<_}
@@ -16,7 +16,7 @@ use Rattle.text.specs.Reader.{last-offset, stopped, further-in-line, aft
 use Rattle.text.specs.Reader.{step, step-out, Run, run}
 use Rattle.text.proofs.Digits.{early}
 use Rattle.text.proofs.Judging.{by-cases}
-use Rattle.text.proofs.Unlexing.{Lexed, none, digit, pointed, spaced, kept, negated, view}
+use Rattle.text.proofs.OneByte.{Lexed, none, digit, pointed, spaced, kept, negated, view}
 
 -- The reader r, so many bytes further, in a line.
 abbrev pub moved : Reader → Line → ℕ → Reader

@@ -15,10 +15,10 @@ use Rattle.text.specs.Grammar.{digits, AllDigits, numeral, Natural, Deci
 use Rattle.text.specs.Grammar.{CountLine, count-bytes, GoodCount, TermLine, term-bytes, GoodTerm}
 use Rattle.text.proofs.Digits.{early}
 use Rattle.text.proofs.Judging.{by-cases}
-use Rattle.text.proofs.Lexing.{put, keep, flag, ten, lexes-append, parts-run, lex-point, lex-keep, natural-run, whole-spots, decimal-run, count-run, term-run}
-use Rattle.text.proofs.Unlexing.{Lexed, none, digit, pointed, spaced, kept, negated, view}
-use Rattle.text.proofs.Parsing.{no-digit, term-in}
-use Rattle.text.proofs.Counting.{count-in}
+use Rattle.text.proofs.GoodLines.{put, keep, flag, ten, lexes-append, parts-run, lex-point, lex-keep, natural-run, whole-spots, decimal-run, count-run, term-run}
+use Rattle.text.proofs.OneByte.{Lexed, none, digit, pointed, spaced, kept, negated, view}
+use Rattle.text.proofs.TakenTerms.{no-digit, term-in}
+use Rattle.text.proofs.TakenCounts.{count-in}
 use Rattle.text.proofs.Lines.{Going, step-in, step-bad, bad-end}
 use Rattle.text.specs.declared.Reader.{Reader}
 use Rattle.text.specs.Reader.{stopped, step}

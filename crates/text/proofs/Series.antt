@@ -24,7 +24,7 @@ use Rattle.text.specs.Reader.{told, whole}
 use Rattle.text.specs.Grammar.{count, TermLine, Block, term-of-line, terms-of-lines, blocks-of-lines, GoodBlocks, GoodText}
 use Rattle.text.specs.Grammar.{TermInLimits, TermsInLimits, BlocksInLimits, InLimits}
 use Rattle.text.proofs.Theorems.{Reads, accepted-text}
-pub use Rattle.text.proofs.Accepting.{length-terms}
+pub use Rattle.text.proofs.TakenTexts.{length-terms}
 
 -- ---- The limits of a term and of a count, as the text and as the packed series have them.
 

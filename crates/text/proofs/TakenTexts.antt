@@ -21,10 +21,10 @@ use Rattle.text.specs.Grammar.{CountLine, count, count-bytes, GoodCount,
 use Rattle.text.specs.Grammar.{Block, lines-bytes, blocks-bytes, terms-of-lines, blocks-of-lines, AllGood, GoodBlocks}
 use Rattle.text.specs.Grammar.{TermsInLimits, BlocksInLimits}
 use Rattle.text.proofs.Judging.{by-cases}
-use Rattle.text.proofs.Writing.{sets-append}
-use Rattle.text.proofs.Lexing.{flag}
-use Rattle.text.proofs.Parsing.{term-in}
-use Rattle.text.proofs.Counting.{count-in}
+use Rattle.text.proofs.WrittenTerm.{sets-append}
+use Rattle.text.proofs.GoodLines.{flag}
+use Rattle.text.proofs.TakenTerms.{term-in}
+use Rattle.text.proofs.TakenCounts.{count-in}
 use Rattle.text.proofs.Lines.{moved, Taken, not-stopped, next-line, shorter}
 use Rattle.text.proofs.Verdicts.{sp, st, count-verdict, term-verdict, count-limits, term-limits, ends-count, ends-term}
 

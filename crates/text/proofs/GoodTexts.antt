@@ -18,11 +18,11 @@ use Rattle.text.specs.Reader.{last-offset, Run, run}
 use Rattle.text.specs.Grammar.{CountLine, count, count-bytes, GoodCount, TermLine, term-bytes, GoodTerm, term-of-line}
 use Rattle.text.specs.Grammar.{Block, lines-bytes, blocks-bytes, terms-of-lines, blocks-of-lines, AllGood, GoodBlocks}
 use Rattle.text.specs.Grammar.{TermsInLimits, BlocksInLimits}
-use Rattle.text.proofs.Writing.{sets-append, sets-three}
-use Rattle.text.proofs.Lexing.{put, line-of-term, count-run, term-run}
+use Rattle.text.proofs.WrittenTerm.{sets-append, sets-three}
+use Rattle.text.proofs.GoodLines.{put, line-of-term, count-run, term-run}
 use Rattle.text.proofs.Lines.{moved, Going, line-run, feed-run}
 use Rattle.text.proofs.Verdicts.{sp, st, count-verdict, term-verdict, count-zero, term-zero, is-whole}
-use Rattle.text.proofs.Accepting.{count-packed, term-packed, after-count, after-term, spot-term, spot-count, less, length-terms}
+use Rattle.text.proofs.TakenTexts.{count-packed, term-packed, after-count, after-term, spot-term, spot-count, less, length-terms}
 
 -- A line and its line feed, from the beginning of the line.
 module _ (spot at w k n : ℕ) (s : Tally) (out xs ys : List ℕ) (L : Line)

@@ -1,4 +1,4 @@
--- The parts of a line that was taken, from left to right: spaces, sign, digits, point, decimals. Assumes nothing.
+-- A term line that was taken follows the grammar, shown part by part: spaces, sign, digits, point, decimals. Assumes nothing.
 use mathlib.Core.Path.{_≡_, refl, sym, ap, _∙_}
 use mathlib.Core.Bool.{Bool, true, false}
 use mathlib.Core.List.{List, [], _∷_, _++_, append-assoc, append-nil}
@@ -9,8 +9,8 @@ use lib.ListN.{length}
 use Rattle.text.specs.declared.Line.{Line}
 use Rattle.text.specs.Lexer.{fresh, takes-digit, lex, lexes, whole-term}
 use Rattle.text.specs.Grammar.{spaces, sign, digits, AllDigits, numeral, Decimal, size, decimal, GoodDecimal, TermLine, term-bytes, GoodTerm}
-use Rattle.text.proofs.Lexing.{put, keep, flag, line-of-term}
-use Rattle.text.proofs.Unlexing.{Lexed, none, digit, pointed, spaced, kept, negated, view, term-of, no-term, never, last-part, whole-more}
+use Rattle.text.proofs.GoodLines.{put, keep, flag, line-of-term}
+use Rattle.text.proofs.OneByte.{Lexed, none, digit, pointed, spaced, kept, negated, view, term-of, no-term, never, last-part, whole-more}
 use Rattle.text.proofs.Digits.{after-decimal, small}
 use lib.Dec.{lit<}
 

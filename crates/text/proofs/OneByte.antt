@@ -1,4 +1,4 @@
--- A line that is taken follows the grammar, and the numbers in the line read are its own. Assumes nothing.
+-- What one byte does to a line, case by case, what a whole line is, and what a digit that goes on says. Assumes nothing.
 use mathlib.Core.Path.{_≡_, refl, sym, ap, _∙_}
 use mathlib.Core.Bool.{true, false}
 use mathlib.Core.List.{List, [], _∷_}
@@ -11,7 +11,7 @@ use Rattle.text.specs.declared.Line.{Line}
 use Rattle.text.specs.Lexer.{bad, takes-digit, with-digit, with-point, with-space, with-minus, lex, lexes, whole-count, whole-term}
 use Rattle.text.proofs.Judging.{by-cases}
 use Rattle.text.proofs.Digits.{in-whole, before-point, at-last-part, in-count, after-value, small, early}
-use Rattle.text.proofs.Lexing.{put, keep}
+use Rattle.text.proofs.GoodLines.{put, keep}
 
 -- What a byte can do to a line.
 pub data Lexed (l : Line) (byte : ℕ) : Line → Type 0 where

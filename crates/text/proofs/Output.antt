@@ -20,14 +20,14 @@ use Rattle.text.specs.Reader.{last-offset, begun, stopped, further-in-li
 use Rattle.text.specs.Reader.{uncounted, step, step-out, Run, run}
 use Rattle.text.specs.Grammar.{AnyLine, a-count, a-term, line-bytes, line-packed, GoodLine, any-bytes, any-packed, GoodLines, NoFeed}
 use Rattle.text.proofs.Judging.{by-cases}
-use Rattle.text.proofs.Writing.{sets-append}
-use Rattle.text.proofs.Stepping.{verdict-count, verdict-term}
-use Rattle.text.proofs.Lexing.{line-of-term}
-use Rattle.text.proofs.Parsing.{term-in}
-use Rattle.text.proofs.Counting.{count-in}
+use Rattle.text.proofs.WrittenTerm.{sets-append}
+use Rattle.text.proofs.Branches.{verdict-count, verdict-term}
+use Rattle.text.proofs.GoodLines.{line-of-term}
+use Rattle.text.proofs.TakenTerms.{term-in}
+use Rattle.text.proofs.TakenCounts.{count-in}
 use Rattle.text.proofs.Lines.{Going, step-in, step-bad, step-feed, stays, NextLine, feed-run, moved-none, byte-line, step-last, shorter}
 use Rattle.text.proofs.Digits.{early}
-use Rattle.text.proofs.Unlexing.{Lexed, none, digit, pointed, spaced, kept, negated, view, term-of, count-of}
+use Rattle.text.proofs.OneByte.{Lexed, none, digit, pointed, spaced, kept, negated, view, term-of, count-of}
 use Rattle.text.proofs.Verdicts.{term-is, ends-count, ends-term, early-never}
 
 -- The byte at an offset, with no line feed between the beginning of xs, at the offset at, and it.
