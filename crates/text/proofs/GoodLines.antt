@@ -10,39 +10,13 @@ use borrow.Author.Tests.{eq-eqb, lt-ltb, le-ltb, le-leb}
 use lib.Dec.{eqb, lit<}
 use lib.ListN.{length}
 use Rattle.text.specs.declared.Line.{Line}
+pub use Rattle.text.specs.Lexer.{put, keep}
 use Rattle.text.specs.Lexer.{value-limit, fresh, takes-digit, with-digit, with-point, with-space, with-minus, lex, lexes}
 use Rattle.text.specs.Grammar.{spaces, sign, digits, AllDigits, numeral, Natural, Decimal, size, decimal, GoodDecimal}
 use Rattle.text.specs.Grammar.{CountLine, count, count-bytes, GoodCount, TermLine, term-bytes, GoodTerm}
 use Rattle.text.proofs.Digits.{in-whole, in-parts, at-last-part, in-count, first-digit, later-digit}
 
--- The line l with another spot and decimal.
-abbrev pub put : Line → ℕ → ℕ → ℕ → Line
-put l spot minus value =
-    record {
-      spot = spot;
-      field = l .field;
-      minus = minus;
-      value = value;
-      minusa = l .minusa;
-      a = l .a;
-      minusb = l .minusb;
-      b = l .b;
-    }
-
--- The line after a decimal and a space.
-abbrev pub keep : Line → ℕ → ℕ → Line
-keep l minus value =
-    record {
-      spot = 0;
-      field = l .field + 1;
-      minus = 0;
-      value = 0;
-      minusa = l .minusb;
-      a = l .b;
-      minusb = minus;
-      b = value;
-    }
-
+-- A minus as the reader holds it.
 unfoldable pub flag : Bool → ℕ
 flag true = 1
 flag false = 0
