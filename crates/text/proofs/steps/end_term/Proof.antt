@@ -4,7 +4,7 @@ use Prim.Native.Nat.{ℕ, _-_}
 use native.Mathlib.Omega.{arith}
 use borrow.Author.Needs.{needs}
 use Rattle.text.proofs.Judging.{small-of}
-use Rattle.text.proofs.Stepping.{wrote-refused, wrote-full, wrote-next}
+use Rattle.text.proofs.Branches.{wrote-refused, wrote-full, wrote-next}
 use Rattle.limits.specs.Limits.{factor, added}
 use Rattle.text.specs.Judge.{tally, term-on-line, term-refusal, term-end}
 use Rattle.text.proofs.steps.end_term.Statement.{statement}
