@@ -75,10 +75,10 @@ pub struct Date {
 }
 
 // A date as the code counts it: the year plus YEAR_SHIFT, month and day.
-pub struct Shifted {
-    pub index: u64,
-    pub month: u64,
-    pub day: u64,
+struct Shifted {
+    index: u64,
+    month: u64,
+    day: u64,
 }
 
 pub enum DayAnswer {
