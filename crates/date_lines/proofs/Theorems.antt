@@ -1,5 +1,5 @@
 -- The lines' theorems: the input may be cut anywhere; each line has the reply to what it says; three numbers, written as decimals and parted by
--- single spaces, are read as these numbers; document 01's two lines. Assumes nothing.
+-- single spaces, are read as these numbers; the two lines of the rules. Assumes nothing.
 use mathlib.Core.Path.{_≡_, refl, sym, ap, _∙_}
 use mathlib.Core.Bool.{Bool, true, false}
 use mathlib.Core.List.{List, [], _∷_, _++_, append-assoc}
@@ -11,11 +11,13 @@ use Rattle.integers.specs.Division.{floor, modulo}
 use Rattle.integers.specs.Signs.{sgn}
 use Rattle.arith.specs.machine.Signed.{natural-or}
 use Rattle.calendar.specs.Calendar.{leap, month-length, first-bad, noon-number, day-of-date}
-use Rattle.date_lines.specs.Lines.{fresh, greatest, at-space, at-minus, at-digit, take, reading, read}
+use Rattle.date_lines.specs.Lines.{line-feed, space, minus-sign, zero-digit, nine-digit, digit-limit, fresh, greatest, at-space, at-minus, at-digit}
+use Rattle.date_lines.specs.Lines.{take, reading, read}
 use Rattle.date_lines.specs.Replies.{decimal, refused, day-text, reply, after, said, line-after, replies}
+use Rattle.date_lines.specs.Written.{NoFeed, Digits, value, Decimal, written, example-lines, example-replies}
 use Rattle.date_lines.specs.declared.reader.Line.{Line}
 use Rattle.date_lines.specs.declared.reader.Reading.the-variants.{Three}
-use Rattle.date_lines.proofs.Least.{greatest-most}
+use Rattle.date_lines.proofs.LeastNumber.{greatest-most}
 
 -- Two pieces are the input in one.
 pub cut-line : (s : Line) (xs ys : List ℕ) → line-after s (xs ++ ys) ≡ line-after (line-after s xs) ys
@@ -26,35 +28,15 @@ cut-line s (b ∷ xs) ys = cut-line (after s b) xs ys
 pub cut-replies : (s : Line) (xs ys : List ℕ) → replies s (xs ++ ys) ≡ replies s xs ++ replies (line-after s xs) ys
 unfolding line-after replies
 cut-replies s [] ys = refl
-cut-replies s (b ∷ xs) ys = ap (λ (t : List ℕ). said s b ++ t) (cut-replies (after s b) xs ys) ∙ sym (append-assoc (said s b) (replies (after s b) xs) (replies (line-after (after s b) xs) ys))
+cut-replies s (b ∷ xs) ys =
+    ap (λ (t : List ℕ). said s b ++ t) (cut-replies (after s b) xs ys) ∙ sym
+    (append-assoc (said s b) (replies (after s b) xs) (replies (line-after (after s b) xs) ys))
 
 -- A line and its line feed: the reply to what it says, and a fresh line.
-abbrev pub NoFeed : List ℕ → Type 0
-NoFeed [] = Unit {0}
-NoFeed (b ∷ bs) = (b ≡ 10 → ⊥) × NoFeed bs
-
-pub one-line : (s : Line) (l rest : List ℕ) → NoFeed l → replies s (l ++ (10 ∷ rest)) ≡ reply (reading (read s l)) ++ replies fresh rest
+pub one-line : (s : Line) (l rest : List ℕ) → NoFeed l → replies s (l ++ (line-feed ∷ rest)) ≡ reply (reading (read s l)) ++ replies fresh rest
 unfolding replies read after said
 one-line s [] rest h = refl
-one-line s (b ∷ l) rest h = rw (ne-eqb b 10 (h .0)) (one-line (take s b) l rest (h .1))
-
--- Digits, and the number that they are.
-abbrev pub Digits : List ℕ → Type 0
-Digits [] = Unit {0}
-Digits (b ∷ ds) = (48 ≤ b) × (b ≤ 57) × Digits ds
-
-unfoldable pub value : ℕ → List ℕ → ℕ
-value v [] = v
-value v (b ∷ ds) = value (10 * v + (b - 48)) ds
-
--- A number as it is written: a minus or none, a first digit, and more; one of 64 bits.
-pub record Decimal (minus : Bool) (first : ℕ) (more : List ℕ) : Type 0 where
-  pub digits : Digits (first ∷ more)
-  pub small : value 0 (first ∷ more) ≤ greatest minus
-
-abbrev pub written : Bool → List ℕ → List ℕ
-written true ds = 45 ∷ ds
-written false ds = ds
+one-line s (b ∷ l) rest h = rw (ne-eqb b line-feed (h .0)) (one-line (take s b) l rest (h .1))
 
 abbrev state : ℕ → ℤ → ℤ → Bool → Bool → ℕ → Line
 state count year month minus digits v =
@@ -63,29 +45,39 @@ state count year month minus digits v =
 grows : (v : ℕ) (ds : List ℕ) → v ≤ value v ds
 unfolding value
 grows v [] = omega arith
-grows v (b ∷ ds) = omega (arith, grows (10 * v + (b - 48)) ds)
+grows v (b ∷ ds) = omega (arith, grows (10 * v + (b - zero-digit)) ds)
 
 module _ (count : ℕ) (year month : ℤ) (few : count ≤ 2) (minus : Bool) where
-  one-digit : (d : Bool) (v b : ℕ) → 48 ≤ b → b ≤ 57 → v ≤ 922337203685477580 → take (state count year month minus d v) b ≡ state count year month minus true (10 * v + (b - 48))
+  one-digit : (d : Bool) (v b : ℕ) → zero-digit ≤ b → b ≤ nine-digit → v ≤ digit-limit
+      → take (state count year month minus d v) b ≡ state count year month minus true (10 * v + (b - zero-digit))
   unfolding take at-digit
   one-digit d v b p q l =
-      rw (ne-eqb b 32 (λ e. omega (arith, e)), le-ltb 2 count few, ne-eqb b 45 (λ e. omega (arith, e)), le-ltb b 48 p, le-ltb 57 b q, le-ltb 922337203685477580 v l)
+      rw (
+        ne-eqb b space (λ e. omega (arith, e)),
+        le-ltb 2 count few,
+        ne-eqb b minus-sign (λ e. omega (arith, e)),
+        le-ltb b zero-digit p,
+        le-ltb nine-digit b q,
+        le-ltb digit-limit v l,
+      )
 
-  more-digits : (v : ℕ) (ds rest : List ℕ) → Digits ds → value v ds ≤ greatest minus → read (state count year month minus true v) (ds ++ rest) ≡ read (state count year month minus true (value v ds)) rest
+  more-digits : (v : ℕ) (ds rest : List ℕ) → Digits ds → value v ds ≤ greatest minus
+      → read (state count year month minus true v) (ds ++ rest) ≡ read (state count year month minus true (value v ds)) rest
   unfolding value read
   more-digits v [] rest h l = refl
   more-digits v (b ∷ ds) rest h l =
-      let g = grows (10 * v + (b - 48)) ds in
+      let g = grows (10 * v + (b - zero-digit)) ds in
       ap (λ (s : Line). read s (ds ++ rest)) (one-digit true v b (h .0) (h .1) (omega (arith, greatest-most minus)))
-      ∙ more-digits (10 * v + (b - 48)) ds rest (h .2) l
+      ∙ more-digits (10 * v + (b - zero-digit)) ds rest (h .2) l
 
-  all-digits : (b : ℕ) (ds rest : List ℕ) → Decimal minus b ds → read (state count year month minus false 0) (b ∷ (ds ++ rest)) ≡ read (state count year month minus true (value 0 (b ∷ ds))) rest
+  all-digits : (b : ℕ) (ds rest : List ℕ) → Decimal minus b ds
+      → read (state count year month minus false 0) (b ∷ (ds ++ rest)) ≡ read (state count year month minus true (value 0 (b ∷ ds))) rest
   unfolding value read
   all-digits b ds rest h =
       ap (λ (s : Line). read s (ds ++ rest)) (one-digit false 0 b (h .digits .0) (h .digits .1) (omega arith))
-      ∙ more-digits (10 * 0 + (b - 48)) ds rest (h .digits .2) (h .small)
+      ∙ more-digits (10 * 0 + (b - zero-digit)) ds rest (h .digits .2) (h .small)
 
-minus-read : (count : ℕ) (year month : ℤ) → count ≤ 2 → take (state count year month false false 0) 45 ≡ state count year month true false 0
+minus-read : (count : ℕ) (year month : ℤ) → count ≤ 2 → take (state count year month false false 0) minus-sign ≡ state count year month true false 0
 unfolding take at-minus
 minus-read count year month few = rw (le-ltb 2 count few)
 
@@ -98,11 +90,11 @@ number-read count year month few true b ds rest h =
 
 -- A space after the year and after the month, and the end after the day.
 module _ (minus : Bool) (v : ℕ) (l : v ≤ greatest minus) where
-  year-read : (rest : List ℕ) → read (state 0 (pos 0) (pos 0) minus true v) (32 ∷ rest) ≡ read (state 1 (sgn minus v) (pos 0) false false 0) rest
+  year-read : (rest : List ℕ) → read (state 0 (pos 0) (pos 0) minus true v) (space ∷ rest) ≡ read (state 1 (sgn minus v) (pos 0) false false 0) rest
   unfolding read take at-space
   year-read rest = rw (le-ltb (greatest minus) v l)
 
-  month-read : (y : ℤ) (rest : List ℕ) → read (state 1 y (pos 0) minus true v) (32 ∷ rest) ≡ read (state 2 y (sgn minus v) false false 0) rest
+  month-read : (y : ℤ) (rest : List ℕ) → read (state 1 y (pos 0) minus true v) (space ∷ rest) ≡ read (state 2 y (sgn minus v) false false 0) rest
   unfolding read take at-space
   month-read y rest = rw (le-ltb (greatest minus) v l)
 
@@ -110,23 +102,24 @@ module _ (minus : Bool) (v : ℕ) (l : v ≤ greatest minus) where
   unfolding read reading
   day-read y m = rw (le-ltb (greatest minus) v l)
 
--- "1582 10 4": three numbers parted by single spaces are these numbers.
+-- Three numbers parted by single spaces are these numbers.
 pub three-numbers : (a b c : Bool) (f g h : ℕ) (fs gs hs : List ℕ) → Decimal a f fs → Decimal b g gs → Decimal c h hs
-    → reading (read fresh (written a (f ∷ fs) ++ (32 ∷ (written b (g ∷ gs) ++ (32 ∷ (written c (h ∷ hs) ++ []))))))
+    → reading (read fresh (written a (f ∷ fs) ++ (space ∷ (written b (g ∷ gs) ++ (space ∷ (written c (h ∷ hs) ++ []))))))
     ≡ Three (sgn a (value 0 (f ∷ fs))) (sgn b (value 0 (g ∷ gs))) (sgn c (value 0 (h ∷ hs)))
 three-numbers a b c f g h fs gs hs p q r =
     let y : ℤ = sgn a (value 0 (f ∷ fs)) in
     let m : ℤ = sgn b (value 0 (g ∷ gs)) in
     let z : List ℕ = written c (h ∷ hs) ++ [] in
     ap reading
-    (number-read 0 (pos 0) (pos 0) (omega arith) a f fs (32 ∷ (written b (g ∷ gs) ++ (32 ∷ z))) p
-    ∙ year-read a (value 0 (f ∷ fs)) (p .small) (written b (g ∷ gs) ++ (32 ∷ z))
-    ∙ number-read 1 y (pos 0) (omega arith) b g gs (32 ∷ z) q
+    (number-read 0 (pos 0) (pos 0) (omega arith) a f fs (space ∷ (written b (g ∷ gs) ++ (space ∷ z))) p
+    ∙ year-read a (value 0 (f ∷ fs)) (p .small) (written b (g ∷ gs) ++ (space ∷ z))
+    ∙ number-read 1 y (pos 0) (omega arith) b g gs (space ∷ z) q
     ∙ month-read b (value 0 (g ∷ gs)) (q .small) y z
     ∙ number-read 2 y m (omega arith) c h hs [] r)
     ∙ day-read c (value 0 (h ∷ hs)) (r .small) y m
 
--- "The date program reads "1582 10 4" and "1582 10 10" on two lines and prints `2299160` and `refused 1`, a line each."
-pub two-lines : replies fresh (49 ∷ 53 ∷ 56 ∷ 50 ∷ 32 ∷ 49 ∷ 48 ∷ 32 ∷ 52 ∷ 10 ∷ 49 ∷ 53 ∷ 56 ∷ 50 ∷ 32 ∷ 49 ∷ 48 ∷ 32 ∷ 49 ∷ 48 ∷ 10 ∷ []) ≡ 50 ∷ 50 ∷ 57 ∷ 57 ∷ 49 ∷ 54 ∷ 48 ∷ 10 ∷ 114 ∷ 101 ∷ 102 ∷ 117 ∷ 115 ∷ 101 ∷ 100 ∷ 32 ∷ 49 ∷ 10 ∷ []
-unfolding replies said after take at-space at-digit reading reply day-text decimal refused sgn natural-or day-of-date first-bad month-length leap noon-number floor modulo greatest
+-- The two lines of the rules: `1582 10 4` and `1582 10 10` are answered `2299160` and `refused 1`.
+pub two-lines : replies fresh example-lines ≡ example-replies
+unfolding replies said after take at-space at-digit reading reply day-text decimal refused sgn natural-or day-of-date first-bad month-length leap noon-number
+    floor modulo greatest
 two-lines = refl

@@ -2,8 +2,31 @@
 ghost use mathlib.Core.Path.{_≡_};
 ghost use Prim.Native.Nat.{_≤_};
 ghost use Rattle.integers.specs.Signs.{sgn};
-ghost use Rattle.date_lines.specs.Lines.{fresh, faulty, greatest, at-space, at-minus, at-digit, take, reading};
+ghost use Rattle.date_lines.specs.Lines.{waiting, fresh, faulty, greatest, ended, at-space, at-minus, at-digit, take, reading};
+use crate::FAULT_BYTE;
+use crate::FAULT_EMPTY;
+use crate::FAULT_FEW;
+use crate::FAULT_LARGE;
+use crate::FAULT_MANY;
+use crate::FAULT_SPACE;
+use crate::ZERO_DIGIT;
 use arith::signed::of_parts;
+
+// specs/Lines.antt has the same constants under the same names.
+
+// Bytes that a line may have, beside its line feed.
+const SPACE: u8 = 32;
+
+const MINUS_SIGN: u8 = 45;
+
+const NINE_DIGIT: u8 = ZERO_DIGIT + 9;
+
+// The magnitudes of the least and of the greatest number of 64 bits, and the greatest that has room for one more digit.
+const LEAST_SIZE: u64 = 9223372036854775808;
+
+const GREATEST_SIZE: u64 = LEAST_SIZE - 1;
+
+const DIGIT_LIMIT: u64 = GREATEST_SIZE / 10;
 
 // What a line has said so far: its first fault, or 0; how many of its numbers have ended; the year and the month once they have;
 // and of the number that is being read whether it has a minus, whether it has a digit, and its magnitude.
@@ -23,20 +46,29 @@ pub enum Reading {
     Bad(u64),
 }
 
-pub fn start() -> Line
-    ensures { λ r. ⌜ r ≡ fresh ⌝ }
+// A line with so many numbers ended, of which these are the year and the month, and nothing of the next.
+fn waiting(count: u64, year: i64, month: i64) -> Line
+    ensures { λ r. ⌜ r ≡ waiting count year month ⌝ }
 {
     Line {
         fault: 0,
-        count: 0,
-        year: 0,
-        month: 0,
+        count,
+        year,
+        month,
         minus: false,
         digits: false,
         value: 0,
     }
 }
 
+// A line before its first byte.
+pub fn start() -> Line
+    ensures { λ r. ⌜ r ≡ fresh ⌝ }
+{
+    waiting(0, 0, 0)
+}
+
+// A line that has this fault.
 fn refuse(fault: u64) -> Line
     ensures { λ r. ⌜ r ≡ faulty fault ⌝ }
 {
@@ -51,13 +83,14 @@ fn refuse(fault: u64) -> Line
     }
 }
 
-fn most(minus: bool) -> u64
+// The greatest magnitude that a number of 64 bits may have.
+fn greatest(minus: bool) -> u64
     ensures { λ r. ⌜ r ≡ greatest minus ⌝ }
 {
     if minus {
-        return 9223372036854775808;
+        return LEAST_SIZE;
     }
-    9223372036854775807
+    GREATEST_SIZE
 }
 
 // The number with this sign and magnitude.
@@ -65,10 +98,23 @@ fn number(minus: bool, value: u64) -> i64
     requires { ⌜ value ≤ greatest minus ⌝ }
     ensures { λ r. ⌜ r ≡ sgn minus value ⌝ }
 {
-    if value == 9223372036854775808 {
-        return -9223372036854775808;
+    if value == LEAST_SIZE {
+        return i64::MIN;
     }
     of_parts(minus, value)
+}
+
+// A number that has ended: the year, the month, or the day, after which nothing may come.
+fn end_number(s: Line, n: i64) -> Line
+    ensures { λ r. ⌜ r ≡ ended s n ⌝ }
+{
+    if s.count == 0 {
+        return waiting(1, n, 0);
+    }
+    if s.count == 1 {
+        return waiting(2, s.year, n);
+    }
+    waiting(3, s.year, s.month)
 }
 
 fn take_space(s: Line) -> Line
@@ -78,56 +124,25 @@ fn take_space(s: Line) -> Line
     let value = s.value;
     if !s.digits {
         if minus {
-            return refuse(2);
+            return refuse(FAULT_BYTE);
         }
-        return refuse(3);
+        return refuse(FAULT_SPACE);
     }
-    let limit = most(minus);
+    let limit = greatest(minus);
     if limit < value {
-        return refuse(4);
+        return refuse(FAULT_LARGE);
     }
-    let n = number(minus, value);
-    if s.count == 0 {
-        return Line {
-            fault: 0,
-            count: 1,
-            year: n,
-            month: 0,
-            minus: false,
-            digits: false,
-            value: 0,
-        };
-    }
-    if s.count == 1 {
-        return Line {
-            fault: 0,
-            count: 2,
-            year: s.year,
-            month: n,
-            minus: false,
-            digits: false,
-            value: 0,
-        };
-    }
-    Line {
-        fault: 0,
-        count: 3,
-        year: s.year,
-        month: s.month,
-        minus: false,
-        digits: false,
-        value: 0,
-    }
+    end_number(s, number(minus, value))
 }
 
 fn take_minus(s: Line) -> Line
     ensures { λ r. ⌜ r ≡ at-minus s ⌝ }
 {
     if s.digits {
-        return refuse(2);
+        return refuse(FAULT_BYTE);
     }
     if s.minus {
-        return refuse(2);
+        return refuse(FAULT_BYTE);
     }
     Line {
         fault: 0,
@@ -143,14 +158,14 @@ fn take_minus(s: Line) -> Line
 fn take_digit(s: Line, b: u8) -> Line
     ensures { λ r. ⌜ r ≡ at-digit s b ⌝ }
 {
-    if b < 48 {
-        return refuse(2);
+    if b < ZERO_DIGIT {
+        return refuse(FAULT_BYTE);
     }
-    if 57 < b {
-        return refuse(2);
+    if NINE_DIGIT < b {
+        return refuse(FAULT_BYTE);
     }
-    if 922337203685477580 < s.value {
-        return refuse(4);
+    if DIGIT_LIMIT < s.value {
+        return refuse(FAULT_LARGE);
     }
     Line {
         fault: 0,
@@ -159,7 +174,7 @@ fn take_digit(s: Line, b: u8) -> Line
         month: s.month,
         minus: s.minus,
         digits: true,
-        value: 10 * s.value + (b as u64 - 48),
+        value: 10 * s.value + (b - ZERO_DIGIT) as u64,
     }
 }
 
@@ -170,13 +185,13 @@ pub fn take_byte(s: Line, b: u8) -> Line
     if s.fault != 0 {
         return s;
     }
-    if b == 32 {
+    if b == SPACE {
         return take_space(s);
     }
     if 2 < s.count {
-        return refuse(6);
+        return refuse(FAULT_MANY);
     }
-    if b == 45 {
+    if b == MINUS_SIGN {
         return take_minus(s);
     }
     take_digit(s, b)
@@ -191,21 +206,21 @@ pub fn whole(s: Line) -> Reading
     }
     if !s.digits {
         if s.minus {
-            return Reading::Bad(2);
+            return Reading::Bad(FAULT_BYTE);
         }
         if s.count == 0 {
-            return Reading::Bad(1);
+            return Reading::Bad(FAULT_EMPTY);
         }
-        return Reading::Bad(3);
+        return Reading::Bad(FAULT_SPACE);
     }
     let minus = s.minus;
     let value = s.value;
-    let limit = most(minus);
+    let limit = greatest(minus);
     if limit < value {
-        return Reading::Bad(4);
+        return Reading::Bad(FAULT_LARGE);
     }
     if s.count < 2 {
-        return Reading::Bad(5);
+        return Reading::Bad(FAULT_FEW);
     }
     Reading::Three(s.year, s.month, number(minus, value))
 }

@@ -2,17 +2,28 @@
 ghost use mathlib.Core.Path.{_≡_};
 ghost use Prim.Native.Nat.{_+_, _≤_, _<_};
 ghost use lib.ListN.{length};
-ghost use lib.Seq.{sets};
-ghost use Rattle.date_lines.specs.Replies.{decimal, day-text, fault-text, reply};
+ghost use Rattle.date_lines.specs.Lines.{zero-digit};
+ghost use Rattle.date_lines.specs.Replies.{decimal, day-text, fault-text, reply, reply-limit};
+ghost use Rattle.date_lines.specs.machine.Writing.{Put};
+use crate::FAULT_BYTE;
+use crate::FAULT_EMPTY;
+use crate::FAULT_FEW;
+use crate::FAULT_LARGE;
+use crate::FAULT_SPACE;
+use crate::LINE_FEED;
+use crate::ZERO_DIGIT;
 use crate::reader::Reading;
 use arith::signed::natural_or;
 use calendar::DayAnswer;
 use calendar::day_of_date;
 
+// The digits that a number of 64 bits may have; specs/Replies.antt has the same name.
+const DAY_PLACES: usize = 20;
+
 // Writes a text at a place, and answers the place after it.
 fn put_bytes(text: &[u8], out: &mut [u8], at: usize) -> usize
     requires { ⌜ at + length (now text) ≤ length (now out) ⌝ }
-    ensures { λ r. ⌜ (r ≡ at + length (now (text .entry))) × (now (out .exit) ≡ sets (now (out .entry)) at (now (text .entry))) ⌝ }
+    ensures { λ r. ⌜ Put (now (out .entry)) at (now (text .entry)) r (now (out .exit)) ⌝ }
 {
     let mut i = 0;
     while i < text.len() {
@@ -25,15 +36,15 @@ fn put_bytes(text: &[u8], out: &mut [u8], at: usize) -> usize
 // A digit's byte.
 fn digit(d: u64) -> u8
     requires { ⌜ d < 10 ⌝ }
-    ensures { λ r. ⌜ r ≡ 48 + d ⌝ }
+    ensures { λ r. ⌜ r ≡ zero-digit + d ⌝ }
 {
-    48 + d as u8
+    ZERO_DIGIT + d as u8
 }
 
 // Writes the decimal digits of a number that has at most so many.
 fn put_decimal(n: u64, places: usize, out: &mut [u8], at: usize) -> usize
     requires { ⌜ at + places ≤ length (now out) ⌝ }
-    ensures { λ r. ⌜ (r ≡ at + length (decimal places n)) × (now (out .exit) ≡ sets (now (out .entry)) at (decimal places n)) ⌝ }
+    ensures { λ r. ⌜ Put (now (out .entry)) at (decimal places n) r (now (out .exit)) ⌝ }
 {
     if places == 0 {
         return at;
@@ -49,13 +60,13 @@ fn put_decimal(n: u64, places: usize, out: &mut [u8], at: usize) -> usize
 
 // Writes a day number, or that it is refused.
 pub fn put_day(answer: DayAnswer, out: &mut [u8], at: usize) -> usize
-    requires { ⌜ at + 40 ≤ length (now out) ⌝ }
-    ensures { λ r. ⌜ (r ≡ at + length (day-text answer)) × (now (out .exit) ≡ sets (now (out .entry)) at (day-text answer)) ⌝ }
+    requires { ⌜ at + reply-limit ≤ length (now out) ⌝ }
+    ensures { λ r. ⌜ Put (now (out .entry)) at (day-text answer) r (now (out .exit)) ⌝ }
 {
     match answer {
         DayAnswer::Day(n) => {
-            let next = put_decimal(natural_or(n, 0), 20, out, at);
-            out[next] = 10;
+            let next = put_decimal(natural_or(n, 0), DAY_PLACES, out, at);
+            out[next] = LINE_FEED;
             next + 1
         }
         DayAnswer::NoDay(_) => put_bytes(b"refused 1\n", out, at),
@@ -64,22 +75,22 @@ pub fn put_day(answer: DayAnswer, out: &mut [u8], at: usize) -> usize
 
 // Writes what is wrong with a line.
 pub fn put_fault(fault: u64, out: &mut [u8], at: usize) -> usize
-    requires { ⌜ at + 40 ≤ length (now out) ⌝ }
-    ensures { λ r. ⌜ (r ≡ at + length (fault-text fault)) × (now (out .exit) ≡ sets (now (out .entry)) at (fault-text fault)) ⌝ }
+    requires { ⌜ at + reply-limit ≤ length (now out) ⌝ }
+    ensures { λ r. ⌜ Put (now (out .entry)) at (fault-text fault) r (now (out .exit)) ⌝ }
 {
-    if fault == 1 {
+    if fault == FAULT_EMPTY {
         return put_bytes(b"bad line: empty\n", out, at);
     }
-    if fault == 2 {
+    if fault == FAULT_BYTE {
         return put_bytes(b"bad line: byte\n", out, at);
     }
-    if fault == 3 {
+    if fault == FAULT_SPACE {
         return put_bytes(b"bad line: space\n", out, at);
     }
-    if fault == 4 {
+    if fault == FAULT_LARGE {
         return put_bytes(b"bad line: too large\n", out, at);
     }
-    if fault == 5 {
+    if fault == FAULT_FEW {
         return put_bytes(b"bad line: too few\n", out, at);
     }
     put_bytes(b"bad line: too many\n", out, at)
@@ -87,8 +98,8 @@ pub fn put_fault(fault: u64, out: &mut [u8], at: usize) -> usize
 
 // Writes the reply to a line.
 pub fn put_reply(r: Reading, out: &mut [u8], at: usize) -> usize
-    requires { ⌜ at + 40 ≤ length (now out) ⌝ }
-    ensures { λ n. ⌜ (n ≡ at + length (reply r)) × (now (out .exit) ≡ sets (now (out .entry)) at (reply r)) ⌝ }
+    requires { ⌜ at + reply-limit ≤ length (now out) ⌝ }
+    ensures { λ n. ⌜ Put (now (out .entry)) at (reply r) n (now (out .exit)) ⌝ }
 {
     match r {
         Reading::Three(y, m, d) => put_day(day_of_date(y, m, d), out, at),

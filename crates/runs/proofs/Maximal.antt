@@ -20,7 +20,8 @@ last-of xs i = getD xs (2 * i + 1) 0
 abbrev pub Holds : List ℕ → ℕ → ℕ → Type 0
 Holds xs i j = (first-of xs i ≤ j) × (j ≤ last-of xs i)
 
--- The numbers xs are r runs of the minutes below n: each listed minute is in exactly one, they hold listed minutes only, they rise, and at least one minute lies between two.
+-- The numbers xs are r runs of the minutes below n: each listed minute is in exactly one, they hold listed minutes only, they rise, and at least one minute
+-- lies between two.
 pub record Runs-of (listed : ℕ → Bool) (n r : ℕ) (xs : List ℕ) : Type 0 where
   pub count : length xs ≡ 2 * r
   pub inside : (i : ℕ) → i < r → (first-of xs i ≤ last-of xs i) × (last-of xs i < n)
@@ -114,7 +115,8 @@ module _ (listed : ℕ → Bool) (n : ℕ) where
     once′ (suc i) (suc k) j l m h g = ap suc (f .once i k j (omega arith) (omega arith) (holds-next a b xs i j h) (holds-next a b xs k j g))
 
     from-run : From listed n from (suc r) (a ∷ b ∷ xs)
-    from-run = record { count = let c = f .count in omega arith; inside = inside′; after = after′; rising = rising′; only = only′; every = every′; once = once′ }
+    from-run =
+        record { count = let c = f .count in omega arith; inside = inside′; after = after′; rising = rising′; only = only′; every = every′; once = once′ }
 
   from-list : {from : ℕ} {xs : List ℕ} → Run-list listed n from xs → (r : ℕ) × From listed n from r xs
   from-list {from} (no-more h) = (0, from-none from h)

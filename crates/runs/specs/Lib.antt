@@ -1,2 +1,2 @@
--- Document 01, "Sun list": the runs of listed minutes.
+-- RULES, "Sun list": the runs of listed minutes.
 pub mod Runs

@@ -1,23 +1,26 @@
-// The runs of listed minutes of a window, from a byte for each minute, 1 where it is listed. For the crate `sunlist`.
+// The runs of listed minutes of a window, from a byte for each minute. For the crate `sunlist`.
 ghost use mathlib.Core.Path.{_≡_};
 ghost use Prim.Native.Nat.{_+_, _≤_};
 ghost use lib.ListN.{length, drop};
 ghost use lib.Seq.{sets};
-ghost use Rattle.runs.specs.Runs.{first-listed, flags, marks, run-numbers};
+ghost use Rattle.runs.specs.Runs.{first-listed, flags, run-ends, run-numbers, window-limit};
+
+// The byte of a listed minute; specs/Runs.antt has the same name.
+const LISTED: u8 = 1;
 
 // Whether minute i is listed; past the window's end none is.
-fn listed(window: &[u8], i: usize) -> bool
+fn is_listed(window: &[u8], i: usize) -> bool
     ensures { λ r. ⌜ r ≡ first-listed (flags (drop i (now (window .entry)))) ⌝ }
 {
     if i < window.len() {
-        return window[i] == 1;
+        return window[i] == LISTED;
     }
     false
 }
 
-// How many numbers a minute gives: one where it begins a run, one where it ends one.
-fn marks_of(before: bool, here: bool, after: bool) -> usize
-    ensures { λ r. ⌜ (r ≡ length (marks 0 before here after)) × (r ≤ 2) ⌝ }
+// How many ends of runs a minute is: one where it begins a run, one where it ends one.
+fn count_ends(before: bool, here: bool, after: bool) -> usize
+    ensures { λ r. ⌜ (r ≡ length (run-ends 0 before here after)) × (r ≤ 2) ⌝ }
 {
     if !here {
         return 0;
@@ -36,26 +39,26 @@ fn marks_of(before: bool, here: bool, after: bool) -> usize
 
 // How many numbers the runs of a window take.
 pub fn count(window: &[u8]) -> usize
-    requires { ⌜ length (now window) ≤ 1440 ⌝ }
+    requires { ⌜ length (now window) ≤ window-limit ⌝ }
     ensures { λ r. ⌜ r ≡ length (run-numbers (now (window .entry))) ⌝ }
 {
     let mut n = 0;
     let mut i = 0;
     let mut before = false;
     while i < window.len() {
-        let here = listed(window, i);
-        let after = listed(window, i + 1);
-        n = n + marks_of(before, here, after);
+        let here = is_listed(window, i);
+        let after = is_listed(window, i + 1);
+        n = n + count_ends(before, here, after);
         before = here;
         i = i + 1;
     }
     n
 }
 
-// Writes the numbers of minute i into out from at.
-fn put(out: &mut [u64], at: usize, i: usize, before: bool, here: bool, after: bool) -> usize
-    requires { ⌜ at + length (marks i before here after) ≤ length (now out) ⌝ }
-    ensures { λ r. ⌜ (r ≡ at + length (marks i before here after)) × (now (out .exit) ≡ sets (now (out .entry)) at (marks i before here after)) ⌝ }
+// Writes minute i into out from at, once for each end of a run that it is.
+fn write_ends(out: &mut [u64], at: usize, i: usize, before: bool, here: bool, after: bool) -> usize
+    requires { ⌜ at + length (run-ends i before here after) ≤ length (now out) ⌝ }
+    ensures { λ r. ⌜ (r ≡ at + length (run-ends i before here after)) × (now (out .exit) ≡ sets (now (out .entry)) at (run-ends i before here after)) ⌝ }
 {
     if !here {
         return at;
@@ -84,9 +87,9 @@ pub fn write(window: &[u8], out: &mut [u64])
     let mut i = 0;
     let mut before = false;
     while i < window.len() {
-        let here = listed(window, i);
-        let after = listed(window, i + 1);
-        at = put(out, at, i, before, here, after);
+        let here = is_listed(window, i);
+        let after = is_listed(window, i + 1);
+        at = write_ends(out, at, i, before, here, after);
         before = here;
         i = i + 1;
     }

@@ -3,7 +3,7 @@ use mathlib.Core.Path.{_≡_}
 use lib.IntN.{natAbs}
 use mir.Syntax.{w64}
 use mir.Val.{toZ, ofZ}
-use Rattle.calendar.proofs.Answers.{moment-past, moment-given}
+use Rattle.calendar.proofs.CallAnswers.{moment-past, moment-given}
 use borrow.Author.Needs.{needs}
 use Rattle.calendar.proofs.date_of_instant.Statement.{statement}
 use Rattle.calendar.proofs.date_of_instant.Tie as tie
@@ -31,8 +31,11 @@ wide-requires : tie.Need-wide-requires
 wide-requires c κs = search needs
 
 returns-2 : tie.Need-returns-2
-returns-2 c = let a = c .before .before .before .before in
-    moment-given _ _ _ _ _ (abs-is a) (c .before .before .before .if1 .left) (rw (ms-back (a .before)) at (c .before .before .since-start .ensures .0)) (c .before .plain-date .ensures) (c .wide .ensures)
+returns-2 c =
+    let u = c .before .before in
+    let a = u .before .before in
+    moment-given _ _ _ _ _ (abs-is a) (u .before .if1 .left) (rw (ms-back (a .before)) at (u .since-start .ensures .0)) (c .before .plain-date .ensures)
+    (c .wide .ensures)
 
 pub date-of-instant-spec : {M : Type 1} → statement M
 date-of-instant-spec =

@@ -1,6 +1,6 @@
 -- `main` meets its contract. Assumes nothing.
 use native.Mathlib.Omega.{arith}
-use Rattle.date_lines.proofs.Pieces.{last-fits, taken}
+use Rattle.date_lines.proofs.PieceLoop.{last-fits, taken}
 use borrow.Author.Needs.{needs}
 use Rattle.date.proofs.main.Statement.{statement}
 use Rattle.date.proofs.main.Tie as tie

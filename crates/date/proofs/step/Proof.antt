@@ -1,6 +1,6 @@
 -- `step` meets its contract. Assumes nothing.
 use native.Mathlib.Omega.{arith}
-use Rattle.date_lines.proofs.Pieces.{replies-fit, taken}
+use Rattle.date_lines.proofs.PieceLoop.{replies-fit, taken}
 use borrow.Author.Needs.{needs}
 use Rattle.date.proofs.step.Statement.{statement}
 use Rattle.date.proofs.step.Tie as tie

@@ -2,7 +2,7 @@
 use mathlib.Core.Path.{_≡_}
 use mir.Syntax.{w64}
 use mir.Val.{toZ, ofZ}
-use Rattle.date_lines.proofs.Texts.{last-none, last-three, last-bad}
+use Rattle.date_lines.proofs.WrittenReplies.{last-none, last-three, last-bad}
 use borrow.Author.Needs.{needs}
 use Rattle.date_lines.proofs.answer_last.Statement.{statement}
 use Rattle.date_lines.proofs.answer_last.Tie as tie
@@ -23,7 +23,9 @@ enum-known-r-2 : tie.Need-enum-known-r-2
 enum-known-r-2 c = search needs
 
 returns : tie.Need-returns
-returns c = last-none _ _ _ _ (c .before .before .before .before .whole .ensures) (c .before .before .r2 .given .1) (c .if1 .taken)
+returns c =
+    let r = c .before .before in
+    last-none _ _ _ _ (r .before .before .whole .ensures) (r .r2 .given .1) (c .if1 .taken)
 
 put-fault-requires : tie.Need-put-fault-requires
 put-fault-requires c κs = search needs
@@ -32,17 +34,25 @@ same-length : tie.Need-same-length
 same-length c = search needs
 
 returns-2 : tie.Need-returns-2
-returns-2 c = let p = c .before .before .before .before .before .before .r .given in
-    let y : toZ w64 (ofZ w64 (p .0 .0)) ≡ p .0 .0 = search needs in
-    let m : toZ w64 (ofZ w64 (p .0 .1 .0)) ≡ p .0 .1 .0 = search needs in
-    let d : toZ w64 (ofZ w64 (p .0 .1 .1 .0)) ≡ p .0 .1 .1 .0 = search needs in
-    last-three _ _ _ _ _ _ _ _ _ (c .before .before .before .before .before .before .before .before .whole .ensures) (p .1) (rw (y, m, d) at (c .before .before .before .before .day-of-date .ensures)) (c .before .before .put-day .ensures)
+returns-2 c =
+    let p = c .before .before in
+    let n = p .before .before in
+    let r = n .before .before in
+    let v = r .r .given in
+    let y : toZ w64 (ofZ w64 (v .0 .0)) ≡ v .0 .0 = search needs in
+    let m : toZ w64 (ofZ w64 (v .0 .1 .0)) ≡ v .0 .1 .0 = search needs in
+    let d : toZ w64 (ofZ w64 (v .0 .1 .1 .0)) ≡ v .0 .1 .1 .0 = search needs in
+    last-three _ _ _ _ _ _ _ _ _ (r .before .before .whole .ensures) (v .1) (rw (y, m, d) at (n .day-of-date .ensures)) (p .put-day .ensures)
 
 same-length-2 : tie.Need-same-length-2
 same-length-2 c = search needs
 
 returns-3 : tie.Need-returns-3
-returns-3 c = last-bad _ _ _ _ _ _ (c .before .before .before .before .before .before .before .before .whole .ensures) (c .before .before .before .before .before .before .r2 .given .1) (c .before .before .before .before .if1 .left) (c .before .before .put-fault .ensures)
+returns-3 c =
+    let p = c .before .before in
+    let e = p .before .before in
+    let r = e .before .before in
+    last-bad _ _ _ _ _ _ (r .before .before .whole .ensures) (r .r2 .given .1) (e .if1 .left) (p .put-fault .ensures)
 
 pub answer-last-spec : {M : Type 1} → statement M
 answer-last-spec =

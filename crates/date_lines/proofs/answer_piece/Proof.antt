@@ -3,24 +3,24 @@ use mathlib.Core.Path.{refl}
 use Prim.Native.Nat.{_-_}
 use native.Mathlib.Omega.{arith}
 use lib.ListN.{length}
-use Rattle.date_lines.proofs.Pieces.{Left, left-start, left-room, left-more, left-end}
+use Rattle.date_lines.proofs.PieceLoop.{Left, left-start, left-room, left-more, left-end}
 use Rattle.date_lines.proofs.answer_piece.Statement.{statement}
 use Rattle.date_lines.proofs.answer_piece.Tie as tie
 
 abbrev Inv-loop : tie.InvT-loop
-Inv-loop piece out₀ turn₀ i₀ out turn i = Left (turn₀ .line) out₀ piece out (turn .line) (turn .at) i
+Inv-loop piece out₀ so-far₀ i₀ out so-far i = Left (so-far₀ .line) out₀ piece out (so-far .line) (so-far .at) i
 
 abbrev μ-loop : tie.MeasureT-loop
-μ-loop piece out₀ turn₀ i₀ out turn i = length piece - i
+μ-loop piece out₀ so-far₀ i₀ out so-far i = length piece - i
 
 loop-holds : tie.Need-loop-holds Inv-loop μ-loop
 loop-holds c = left-start _ _ _ (c .before .before .pre)
 
-shared-slice-read-take : tie.Need-shared-slice-read-take Inv-loop μ-loop
-shared-slice-read-take c = omega arith
+shared-slice-read-answer-byte : tie.Need-shared-slice-read-answer-byte Inv-loop μ-loop
+shared-slice-read-answer-byte c = omega arith
 
-take-requires : tie.Need-take-requires Inv-loop μ-loop
-take-requires c κs = let l = c .before .before .before .before .loop in left-room _ _ _ _ _ _ _ (l .inv) (c .before .before .before .loop-test .taken)
+answer-byte-requires : tie.Need-answer-byte-requires Inv-loop μ-loop
+answer-byte-requires c κs = let i = c .before .before .before in left-room _ _ _ _ _ _ _ (i .before .loop .inv) (i .loop-test .taken)
 
 add-i : tie.Need-add-i Inv-loop μ-loop
 add-i c = omega arith
@@ -29,7 +29,10 @@ loop-less : tie.Need-loop-less Inv-loop μ-loop
 loop-less c = omega arith
 
 loop-again : tie.Need-loop-again Inv-loop μ-loop
-loop-again c = let l = c .before .before .before .before .before .before .before .loop in left-more _ _ _ _ _ _ _ (l .inv) (c .before .before .before .before .before .before .loop-test .taken) _ refl _ _ _ (c .before .before .take .ensures)
+loop-again c =
+    let b = c .before .before in
+    let i = b .before .before .before .before in
+    left-more _ _ _ _ _ _ _ (i .before .loop .inv) (i .loop-test .taken) _ refl _ _ _ (b .answer-byte .ensures)
 
 same-length : tie.Need-same-length Inv-loop μ-loop
 same-length c = c .before .loop .inv .same
@@ -44,8 +47,8 @@ answer-piece-spec =
     Inv-loop
     μ-loop
     loop-holds
-    shared-slice-read-take
-    take-requires
+    shared-slice-read-answer-byte
+    answer-byte-requires
     add-i
     loop-less
     loop-again

@@ -3,7 +3,7 @@ use Prim.Native.Nat.{_-_}
 use native.Mathlib.Omega.{arith}
 use borrow.Author.Needs.{needs}
 use lib.ListN.{length}
-use Rattle.runs.proofs.Window.{Counted, counted-none, counted-more, counted-all}
+use Rattle.runs.proofs.WindowLoops.{Counted, counted-none, counted-more, counted-all}
 use Rattle.runs.proofs.count.Statement.{statement}
 use Rattle.runs.proofs.count.Tie as tie
 
@@ -16,20 +16,20 @@ abbrev μ-loop : tie.MeasureT-loop
 loop-holds : tie.Need-loop-holds Inv-loop μ-loop
 loop-holds c = counted-none (c .before .args .window .now)
 
-listed-requires : tie.Need-listed-requires Inv-loop μ-loop
-listed-requires c κs = search needs
+is-listed-requires : tie.Need-is-listed-requires Inv-loop μ-loop
+is-listed-requires c κs = search needs
 
-add-listed : tie.Need-add-listed Inv-loop μ-loop
-add-listed c = omega arith
+add-is-listed : tie.Need-add-is-listed Inv-loop μ-loop
+add-is-listed c = omega arith
 
-listed-requires-2 : tie.Need-listed-requires-2 Inv-loop μ-loop
-listed-requires-2 c κs = search needs
+is-listed-requires-2 : tie.Need-is-listed-requires-2 Inv-loop μ-loop
+is-listed-requires-2 c κs = search needs
 
-marks-of-requires : tie.Need-marks-of-requires Inv-loop μ-loop
-marks-of-requires c κs = search needs
+count-ends-requires : tie.Need-count-ends-requires Inv-loop μ-loop
+count-ends-requires c κs = search needs
 
 add-n : tie.Need-add-n Inv-loop μ-loop
-add-n c = let m = c .marks-of .ensures .1 in let f = c .before .before .before .before .loop .inv .few in omega arith
+add-n c = let m = c .count-ends .ensures .1 in let f = c .before .before .before .before .loop .inv .few in omega arith
 
 add-i : tie.Need-add-i Inv-loop μ-loop
 add-i c = omega arith
@@ -38,7 +38,11 @@ loop-less : tie.Need-loop-less Inv-loop μ-loop
 loop-less c = omega arith
 
 loop-again : tie.Need-loop-again Inv-loop μ-loop
-loop-again c = counted-more _ _ _ _ _ _ _ (c .before .before .before .before .loop .inv) (c .before .before .before .loop-test .taken) (c .before .before .listed .ensures) (c .before .listed2 .ensures) (c .marks-of .ensures .0) (c .marks-of .ensures .1)
+loop-again c =
+    let m = c .count-ends .ensures in
+    let i = c .before .before .before in
+    counted-more _ _ _ _ _ _ _ (i .before .loop .inv) (i .loop-test .taken) (c .before .before .is-listed .ensures) (c .before .is-listed2 .ensures) (m .0)
+    (m .1)
 
 returns : tie.Need-returns Inv-loop μ-loop
 returns c = counted-all _ _ _ _ (c .before .loop .inv) (c .loop-test .left)
@@ -50,10 +54,10 @@ count-spec =
     Inv-loop
     μ-loop
     loop-holds
-    listed-requires
-    add-listed
-    listed-requires-2
-    marks-of-requires
+    is-listed-requires
+    add-is-listed
+    is-listed-requires-2
+    count-ends-requires
     add-n
     add-i
     loop-less

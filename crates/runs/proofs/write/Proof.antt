@@ -3,7 +3,7 @@ use Prim.Native.Nat.{_-_}
 use native.Mathlib.Omega.{arith}
 use borrow.Author.Needs.{needs}
 use lib.ListN.{length}
-use Rattle.runs.proofs.Window.{Written, written-none, written-room, written-more, written-all}
+use Rattle.runs.proofs.WindowLoops.{Written, written-none, written-room, written-more, written-all}
 use Rattle.runs.proofs.write.Statement.{statement}
 use Rattle.runs.proofs.write.Tie as tie
 
@@ -16,17 +16,19 @@ abbrev μ-loop : tie.MeasureT-loop
 loop-holds : tie.Need-loop-holds Inv-loop μ-loop
 loop-holds c = written-none (c .before .before .args .window .now) (c .before .before .args .out .now) (c .before .before .pre)
 
-listed-requires : tie.Need-listed-requires Inv-loop μ-loop
-listed-requires c κs = search needs
+is-listed-requires : tie.Need-is-listed-requires Inv-loop μ-loop
+is-listed-requires c κs = search needs
 
-add-listed : tie.Need-add-listed Inv-loop μ-loop
-add-listed c = omega arith
+add-is-listed : tie.Need-add-is-listed Inv-loop μ-loop
+add-is-listed c = omega arith
 
-listed-requires-2 : tie.Need-listed-requires-2 Inv-loop μ-loop
-listed-requires-2 c κs = search needs
+is-listed-requires-2 : tie.Need-is-listed-requires-2 Inv-loop μ-loop
+is-listed-requires-2 c κs = search needs
 
-put-requires : tie.Need-put-requires Inv-loop μ-loop
-put-requires c κs = let b = c .before .before .before in written-room _ _ _ _ _ _ _ _ (b .before .loop .inv) (b .loop-test .taken) (c .before .before .listed .ensures) (c .before .listed2 .ensures)
+write-ends-requires : tie.Need-write-ends-requires Inv-loop μ-loop
+write-ends-requires c κs =
+    let b = c .before .before .before in
+    written-room _ _ _ _ _ _ _ _ (b .before .loop .inv) (b .loop-test .taken) (c .before .before .is-listed .ensures) (c .before .is-listed2 .ensures)
 
 add-i : tie.Need-add-i Inv-loop μ-loop
 add-i c = omega arith
@@ -39,8 +41,11 @@ loop-again c =
     let p = c .before .before in
     let l = p .before .before in
     let b = l .before .before in
-    written-more (b .before .before .before .before .args .window .now) (b .before .before .before .before .args .out .now) (b .before .loop .out) (b .before .loop .at) (b .before .loop .i) (b .before .loop .before) (l .before .listed .result) (l .listed2 .result)
-    (b .before .loop .inv) (b .loop-test .taken) (l .before .listed .ensures) (l .listed2 .ensures) (p .put .last .0) (p .put .result) (search needs) (p .put .ensures .0) (p .put .ensures .1)
+    let o = b .before .loop in
+    let a = b .before .before .before .before .args in
+    written-more (a .window .now) (a .out .now) (o .out) (o .at) (o .i) (o .before) (l .before .is-listed .result) (l .is-listed2 .result)
+    (o .inv) (b .loop-test .taken) (l .before .is-listed .ensures) (l .is-listed2 .ensures) (p .write-ends .last .0) (p .write-ends .result) (search needs)
+    (p .write-ends .ensures .0) (p .write-ends .ensures .1)
 
 same-length : tie.Need-same-length Inv-loop μ-loop
 same-length c = c .before .loop .inv .same
@@ -55,10 +60,10 @@ write-spec =
     Inv-loop
     μ-loop
     loop-holds
-    listed-requires
-    add-listed
-    listed-requires-2
-    put-requires
+    is-listed-requires
+    add-is-listed
+    is-listed-requires-2
+    write-ends-requires
     add-i
     loop-less
     loop-again

@@ -1,7 +1,7 @@
 -- `date_at` meets its contract. Assumes nothing.
 use native.Mathlib.Omega.{arith}
 use Rattle.calendar.specs.machine.Shifted.{year-of}
-use Rattle.calendar.proofs.Back.{count-small, asked}
+use Rattle.calendar.proofs.DayToDate.{count-small, asked}
 use borrow.Author.Needs.{needs}
 use Rattle.calendar.proofs.naturals.date_at.Statement.{statement}
 use Rattle.calendar.proofs.naturals.date_at.Tie as tie

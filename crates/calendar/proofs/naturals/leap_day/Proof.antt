@@ -26,12 +26,14 @@ sub-if4 c = search needs
 returns-4 : tie.Need-returns-4
 unfolding leap-day
 returns-4 c =
-    simp (eq-eqb _ _ (c .before .before .before .if1 .left), lt-leb _ _ (c .before .before .if2 .left), eq-eqb _ _ (c .before .if3 .left), ne-eqb _ _ (c .if4 .taken))
+    let old = c .before .before in
+    simp (eq-eqb _ _ (old .before .if1 .left), lt-leb _ _ (old .if2 .left), eq-eqb _ _ (c .before .if3 .left), ne-eqb _ _ (c .if4 .taken))
 
 returns-5 : tie.Need-returns-5
 unfolding leap-day
 returns-5 c =
-    simp (eq-eqb _ _ (c .before .before .before .if1 .left), lt-leb _ _ (c .before .before .if2 .left), eq-eqb _ _ (c .before .if3 .left), eq-eqb _ _ (c .if4 .left))
+    let old = c .before .before in
+    simp (eq-eqb _ _ (old .before .if1 .left), lt-leb _ _ (old .if2 .left), eq-eqb _ _ (c .before .if3 .left), eq-eqb _ _ (c .if4 .left))
 
 pub leap-day-spec : {M : Type 1} → statement M
 leap-day-spec =

@@ -2,7 +2,7 @@
 use native.Mathlib.Omega.{arith}
 use borrow.Author.Tests.{lt-ltb, le-ltb}
 use Rattle.calendar.specs.machine.Shifted.{noon}
-use Rattle.calendar.proofs.Round.{room}
+use Rattle.calendar.proofs.DateToDay.{room}
 use borrow.Author.Needs.{needs}
 use Rattle.calendar.proofs.naturals.noon_of.Statement.{statement}
 use Rattle.calendar.proofs.naturals.noon_of.Tie as tie

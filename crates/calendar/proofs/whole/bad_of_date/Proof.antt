@@ -1,6 +1,6 @@
 -- `bad_of_date` meets its contract. Assumes nothing.
 use Rattle.calendar.proofs.Bounds.{year-known}
-use Rattle.calendar.proofs.Fields.{bad-law}
+use Rattle.calendar.proofs.FirstBad.{bad-law}
 use Rattle.arith.proofs.Signs.{back}
 use borrow.Author.Needs.{needs}
 use Rattle.calendar.proofs.whole.bad_of_date.Statement.{statement}
@@ -16,11 +16,25 @@ natural-or-requires-2 : tie.Need-natural-or-requires-2
 natural-or-requires-2 c κs = search needs
 
 first-bad-requires : tie.Need-first-bad-requires
-first-bad-requires c κs = let s = c .before .before .before in year-known (s .args .year) _ (rw (back _ (s .fits .year)) at (c .before .before .year-index .ensures)) .small
+first-bad-requires c κs =
+    let y = c .before .before in
+    let s = y .before in
+    year-known (s .args .year) _ (rw (back _ (s .fits .year)) at (y .year-index .ensures)) .small
 
 returns : tie.Need-returns
-returns c = let s = c .before .before .before .before in
-    rw (c .first-bad .ensures, c .before .before .before .year-index .ensures, c .before .before .natural-or .ensures, c .before .natural-or2 .ensures, back _ (s .fits .year), back _ (s .fits .month), back _ (s .fits .day)) (bad-law _ _ _)
+returns c =
+    let y = c .before .before .before in
+    let s = y .before in
+    rw (
+      c .first-bad .ensures,
+      y .year-index .ensures,
+      c .before .before .natural-or .ensures,
+      c .before .natural-or2 .ensures,
+      back _ (s .fits .year),
+      back _ (s .fits .month),
+      back _ (s .fits .day),
+    )
+    (bad-law _ _ _)
 
 pub bad-of-date-spec : {M : Type 1} → statement M
 bad-of-date-spec =

@@ -2,9 +2,10 @@
 use mathlib.Core.Path.{sym, _∙_}
 use lib.Dec.{lit<}
 use native.Mathlib.Omega.{arith}
-use Rattle.calendar.proofs.Calls.{sub-asked, sub-back}
-use Rattle.calendar.proofs.Answers.{instant-is}
+use Rattle.calendar.proofs.WholeDates.{sub-asked, sub-back}
+use Rattle.calendar.proofs.CallAnswers.{instant-is}
 use borrow.Author.Needs.{needs}
+use Rattle.calendar.specs.machine.Shifted.{epoch-ms}
 use Rattle.calendar.proofs.whole.instant_at.Statement.{statement}
 use Rattle.calendar.proofs.whole.instant_at.Tie as tie
 
@@ -18,10 +19,10 @@ wide-requires : tie.Need-wide-requires
 wide-requires c κs = search needs
 
 sub-requires : tie.Need-sub-requires
-sub-requires c κs = sub-asked _ _ 211813531200000 (c .wide .ensures) (omega arith) (lit< tt)
+sub-requires c κs = sub-asked _ _ epoch-ms (c .wide .ensures) (omega arith) (lit< tt)
 
 returns : tie.Need-returns
-returns c = sub-back _ _ 211813531200000 (c .before .wide .ensures) (omega arith) (lit< tt) _ (c .sub .ensures) ∙ sym (instant-is _ _)
+returns c = sub-back _ _ epoch-ms (c .before .wide .ensures) (omega arith) (lit< tt) _ (c .sub .ensures) ∙ sym (instant-is _ _)
 
 pub instant-at-spec : {M : Type 1} → statement M
 instant-at-spec = tie.close (tie.spec mul-wide add-wide wide-requires sub-requires returns)

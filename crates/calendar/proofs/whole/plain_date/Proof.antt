@@ -3,29 +3,37 @@ use mathlib.Core.Path.{ap, _∙_}
 use lib.Dec.{lit<}
 use native.Mathlib.Omega.{arith}
 use Rattle.calendar.specs.machine.Shifted.{plain}
-use Rattle.calendar.proofs.Calls.{date-small, plain-law, sub-asked}
+use Rattle.calendar.proofs.WholeDates.{Small, date-small, plain-law, sub-asked}
 use borrow.Author.Needs.{needs}
+use Rattle.calendar.specs.Constants.{year-shift}
 use Rattle.calendar.proofs.whole.plain_date.Statement.{statement}
 use Rattle.calendar.proofs.whole.plain_date.Tie as tie
+
+-- the date that was found is small
+small : (c : tie.After-date-at) → Small (c .date-at .result)
+small c = date-small _ _ (c .before .pre) (c .date-at .ensures)
 
 date-at-requires : tie.Need-date-at-requires
 date-at-requires c κs = search needs
 
 wide-requires : tie.Need-wide-requires
-wide-requires c κs = omega (arith, date-small _ _ (c .before .pre) (c .date-at .ensures))
+wide-requires c κs = omega (arith, small c)
 
 sub-requires : tie.Need-sub-requires
-sub-requires c κs = sub-asked _ _ 4716 (c .wide .ensures) (omega (arith, date-small _ _ (c .before .before .pre) (c .before .date-at .ensures))) (lit< tt)
+sub-requires c κs = sub-asked _ _ year-shift (c .wide .ensures) (omega (arith, small (c .before))) (lit< tt)
 
 wide-requires-2 : tie.Need-wide-requires-2
-wide-requires-2 c κs = omega (arith, date-small _ _ (c .before .before .before .pre) (c .before .before .date-at .ensures))
+wide-requires-2 c κs = omega (arith, small (c .before .before))
 
 wide-requires-3 : tie.Need-wide-requires-3
-wide-requires-3 c κs = omega (arith, date-small _ _ (c .before .before .before .before .pre) (c .before .before .before .date-at .ensures))
+wide-requires-3 c κs = omega (arith, small (c .before .before .before))
 
 returns : tie.Need-returns
-returns c = let d = c .before .before .before .before .date-at in
-    plain-law _ _ _ _ _ (date-small _ _ (c .before .before .before .before .before .pre) (d .ensures)) (c .before .before .before .wide .ensures) (c .before .before .sub .ensures) (c .before .wide2 .ensures) (c .wide3 .ensures) ∙ ap plain (d .ensures)
+returns c =
+    let w = c .before .before .before in
+    let d = w .before in
+    plain-law _ _ _ _ _ (small d) (w .wide .ensures) (c .before .before .sub .ensures) (c .before .wide2 .ensures) (c .wide3 .ensures)
+    ∙ ap plain (d .date-at .ensures)
 
 pub plain-date-spec : {M : Type 1} → statement M
 plain-date-spec =

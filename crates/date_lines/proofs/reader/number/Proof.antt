@@ -1,7 +1,7 @@
 -- `number` meets its contract. Assumes nothing.
 use native.Mathlib.Omega.{arith}
 use borrow.Author.Needs.{needs}
-use Rattle.date_lines.proofs.Least.{greatest-most, least}
+use Rattle.date_lines.proofs.LeastNumber.{greatest-most, least}
 use Rattle.date_lines.proofs.reader.number.Statement.{statement}
 use Rattle.date_lines.proofs.reader.number.Tie as tie
 

@@ -1,7 +1,7 @@
 -- `take_digit` meets its contract. Assumes nothing.
 use native.Mathlib.Omega.{arith}
 use borrow.Author.Tests.{lt-ltb, le-ltb}
-use Rattle.date_lines.specs.Lines.{at-digit}
+use Rattle.date_lines.specs.Lines.{zero-digit, nine-digit, digit-limit, at-digit}
 use mathlib.Core.Path.{_≡_}
 use mir.Syntax.{w64}
 use mir.Val.{toZ, ofZ}
@@ -14,37 +14,47 @@ refuse-requires c κs = search needs
 
 returns : tie.Need-returns
 unfolding at-digit
-returns c = let a = c .before .before .args in rw (c .refuse .ensures, lt-ltb (a .b) 48 (omega arith))
+returns c = let a = c .before .before .args in rw (c .refuse .ensures, lt-ltb (a .b) zero-digit (omega arith))
 
 refuse-requires-2 : tie.Need-refuse-requires-2
 refuse-requires-2 c κs = search needs
 
 returns-2 : tie.Need-returns-2
 unfolding at-digit
-returns-2 c = let a = c .before .before .before .args in rw (c .refuse2 .ensures, le-ltb (a .b) 48 (omega arith), lt-ltb 57 (a .b) (omega arith))
+returns-2 c =
+    let a = c .before .before .before .args in
+    rw (c .refuse2 .ensures, le-ltb (a .b) zero-digit (omega arith), lt-ltb nine-digit (a .b) (omega arith))
 
 refuse-requires-3 : tie.Need-refuse-requires-3
 refuse-requires-3 c κs = search needs
 
 returns-3 : tie.Need-returns-3
 unfolding at-digit
-returns-3 c = let a = c .before .before .before .before .before .args in rw (c .refuse3 .ensures, le-ltb (a .b) 48 (omega arith), le-ltb 57 (a .b) (omega arith), lt-ltb 922337203685477580 (a .s .value) (omega arith))
+returns-3 c =
+    let a = c .before .before .before .before .before .args in
+    rw (
+      c .refuse3 .ensures,
+      le-ltb (a .b) zero-digit (omega arith),
+      le-ltb nine-digit (a .b) (omega arith),
+      lt-ltb digit-limit (a .s .value) (omega arith),
+    )
 
 mul-t4 : tie.Need-mul-t4
 mul-t4 c = search needs
 
-sub-t6 : tie.Need-sub-t6
-sub-t6 c = search needs
+cast-t6 : tie.Need-cast-t6
+cast-t6 c = search needs
 
 add-t7 : tie.Need-add-t7
 add-t7 c = search needs
 
 returns-4 : tie.Need-returns-4
 unfolding at-digit
-returns-4 c = let a = c .before .before .before .before .before .before .args in
+returns-4 c =
+    let a = c .before .before .before .before .before .before .args in
     let p : toZ w64 (ofZ w64 (a .s .year)) ≡ a .s .year = search needs in
     let q : toZ w64 (ofZ w64 (a .s .month)) ≡ a .s .month = search needs in
-    rw (p, q, le-ltb (a .b) 48 (omega arith), le-ltb 57 (a .b) (omega arith), le-ltb 922337203685477580 (a .s .value) (omega arith))
+    rw (p, q, le-ltb (a .b) zero-digit (omega arith), le-ltb nine-digit (a .b) (omega arith), le-ltb digit-limit (a .s .value) (omega arith))
 
 pub take-digit-spec : {M : Type 1} → statement M
 take-digit-spec =
@@ -57,6 +67,6 @@ take-digit-spec =
     refuse-requires-3
     returns-3
     mul-t4
-    sub-t6
+    cast-t6
     add-t7
     returns-4)

@@ -1,7 +1,7 @@
 -- `put_decimal`, which calls itself, meets its contract: the measure is the number of places. Assumes nothing.
 use native.Mathlib.Omega.{arith}
 use lib.ListN.{length-set}
-use Rattle.date_lines.proofs.Texts.{none-put, one-put, more-put, decimal-length}
+use Rattle.date_lines.proofs.WrittenReplies.{none-put, one-put, more-put, decimal-length}
 use Prim.Native.Nat.{ℕ, _-_, _/_, _<_}
 use borrow.Fn.Kinds.{In}
 use borrow.Fn.PlainCycle.{Measures, is, falls, and}
@@ -69,7 +69,10 @@ put-decimal-returns-2 : (t : ℕ) → put-decimal-lts.Need-returns-2 (
   put-decimal-below t,
   put-decimal.Post,
 ) (put-decimal-at t) put-decimal.Post
-put-decimal-returns-2 t c = let a = c .before .before .before .before .args in one-put (a .places) (a .n) (a .at) _ (a .out .now) (c .before .before .if1 .left) (c .before .if2 .taken) (c .digit .ensures)
+put-decimal-returns-2 t c =
+    let d = c .before .before in
+    let a = d .before .before .args in
+    one-put (a .places) (a .n) (a .at) _ (a .out .now) (d .if1 .left) (c .before .if2 .taken) (c .digit .ensures)
 
 put-decimal-sub-put-decimal : (t : ℕ) → put-decimal-lts.Need-sub-put-decimal (
   digit-reads.Asked,
@@ -101,7 +104,11 @@ put-decimal-slice-write-out-2 : (t : ℕ) → put-decimal-lts.Need-slice-write-o
   put-decimal-below t,
   put-decimal.Post,
 ) (put-decimal-at t) put-decimal.Post
-put-decimal-slice-write-out-2 t c = let s = c .before .before .before .before .before .before .before .before in let q = c .before .before .before .put-decimal in omega (arith, q .ensures .0, q .kept .1 .1 .0, decimal-length (s .args .places - 1) (s .args .n / 10), s .pre .1, s .good)
+put-decimal-slice-write-out-2 t c =
+    let p = c .before .before .before in
+    let s = p .before .before .before .before .before in
+    let q = p .put-decimal in
+    omega (arith, q .ensures .0, q .kept .1 .1 .0, decimal-length (s .args .places - 1) (s .args .n / 10), s .pre .1, s .good)
 
 put-decimal-add-result-2 : (t : ℕ) → put-decimal-lts.Need-add-result-2 (
   digit-reads.Asked,
@@ -109,7 +116,11 @@ put-decimal-add-result-2 : (t : ℕ) → put-decimal-lts.Need-add-result-2 (
   put-decimal-below t,
   put-decimal.Post,
 ) (put-decimal-at t) put-decimal.Post
-put-decimal-add-result-2 t c = let s = c .before .before .before .before .before .before .before .before in let q = c .before .before .before .put-decimal in omega (arith, q .ensures .0, q .kept .1 .1 .0, decimal-length (s .args .places - 1) (s .args .n / 10), s .pre .1, s .good)
+put-decimal-add-result-2 t c =
+    let p = c .before .before .before in
+    let s = p .before .before .before .before .before in
+    let q = p .put-decimal in
+    omega (arith, q .ensures .0, q .kept .1 .1 .0, decimal-length (s .args .places - 1) (s .args .n / 10), s .pre .1, s .good)
 
 put-decimal-same-length-2 : (t : ℕ) → put-decimal-lts.Need-same-length-2 (
   digit-reads.Asked,
@@ -125,7 +136,11 @@ put-decimal-returns-3 : (t : ℕ) → put-decimal-lts.Need-returns-3 (
   put-decimal-below t,
   put-decimal.Post,
 ) (put-decimal-at t) put-decimal.Post
-put-decimal-returns-3 t c = let a = c .before .before .before .before .before .before .before .before .args in more-put (a .places) (a .n) (a .at) _ _ (a .out .now) _ (c .before .before .before .before .before .before .if1 .left) (c .before .before .before .before .before .if2 .left) (c .before .before .before .put-decimal .ensures) (c .digit2 .ensures)
+put-decimal-returns-3 t c =
+    let p = c .before .before .before in
+    let e = p .before .before in
+    let a = e .before .before .before .args in
+    more-put (a .places) (a .n) (a .at) _ _ (a .out .now) _ (e .before .if1 .left) (e .if2 .left) (p .put-decimal .ensures) (c .digit2 .ensures)
 
 pub +put-decimal-spec : {M : Type 1} → statement M
 +put-decimal-spec = close μ-put-decimal λ t. put-decimal-lts.spec (

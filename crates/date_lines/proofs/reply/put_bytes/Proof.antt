@@ -5,7 +5,7 @@ use native.Mathlib.Nat.{add-zero}
 use native.Mathlib.Omega.{arith}
 use lib.ListN.{length, drop, length-set}
 use lib.Seq.{sets}
-use Rattle.date_lines.proofs.Texts.{copied-more, copied-end}
+use Rattle.date_lines.proofs.WrittenReplies.{copied-more, copied-end}
 use Rattle.date_lines.proofs.reply.put_bytes.Statement.{statement}
 use Rattle.date_lines.proofs.reply.put_bytes.Tie as tie
 

@@ -3,8 +3,8 @@ use native.Mathlib.Omega.{arith}
 use mathlib.Core.Path.{_≡_}
 use mir.Syntax.{w64}
 use mir.Val.{toZ, ofZ}
-use Rattle.date_lines.proofs.Texts.{decimal-length, day-put, refused-put}
-use Rattle.date_lines.specs.Replies.{refused}
+use Rattle.date_lines.proofs.WrittenReplies.{decimal-length, day-put, refused-put}
+use Rattle.date_lines.specs.Replies.{refused, day-places}
 use borrow.Author.Needs.{needs}
 use Rattle.date_lines.proofs.reply.put_day.Statement.{statement}
 use Rattle.date_lines.proofs.reply.put_day.Tie as tie
@@ -19,10 +19,18 @@ put-decimal-requires : tie.Need-put-decimal-requires
 put-decimal-requires c κs = search needs
 
 slice-write-out : tie.Need-slice-write-out
-slice-write-out c = let q = c .before .before .put-decimal in let k = c .before .before .before .before .natural-or .result in omega (arith, q .ensures .0, q .kept .1 .1 .0, decimal-length 20 k, c .before .before .before .before .before .before .before .before .before .pre, c .before .before .before .before .before .before .before .before .before .good)
+slice-write-out c =
+    let p = c .before .before in
+    let n = p .before .before in
+    let s = n .before .before .before .before .before in
+    omega (arith, p .put-decimal .ensures .0, p .put-decimal .kept .1 .1 .0, decimal-length day-places (n .natural-or .result), s .pre, s .good)
 
 add-result : tie.Need-add-result
-add-result c = let q = c .before .before .put-decimal in let k = c .before .before .before .before .natural-or .result in omega (arith, q .ensures .0, q .kept .1 .1 .0, decimal-length 20 k, c .before .before .before .before .before .before .before .before .before .pre, c .before .before .before .before .before .before .before .before .before .good)
+add-result c =
+    let p = c .before .before in
+    let n = p .before .before in
+    let s = n .before .before .before .before .before in
+    omega (arith, p .put-decimal .ensures .0, p .put-decimal .kept .1 .1 .0, decimal-length day-places (n .natural-or .result), s .pre, s .good)
 
 enum-told : tie.Need-enum-told
 enum-told c = search needs
@@ -37,16 +45,21 @@ same-length : tie.Need-same-length
 same-length c = search needs
 
 returns : tie.Need-returns
-returns c = let n = c .before .before .before .before .before .before .answer .given .0 .0 in
-    let e : toZ w64 (ofZ w64 n) ≡ n = search needs in
-    day-put _ _ _ _ _ _ _ (c .before .before .before .before .before .before .answer .given .1) (rw e at (c .before .before .before .before .natural-or .ensures)) (c .before .before .put-decimal .ensures)
+returns c =
+    let p = c .before .before in
+    let n = p .before .before in
+    let a = n .before .before .answer in
+    let e : toZ w64 (ofZ w64 (a .given .0 .0)) ≡ a .given .0 .0 = search needs in
+    day-put _ _ _ _ _ _ _ (a .given .1) (rw e at (n .natural-or .ensures)) (p .put-decimal .ensures)
 
 same-length-2 : tie.Need-same-length-2
 same-length-2 c = search needs
 
 returns-2 : tie.Need-returns-2
 unfolding refused
-returns-2 c = refused-put _ _ _ _ _ _ (c .before .before .before .before .before .enum-told .given .1) (c .before .before .put-bytes .ensures)
+returns-2 c =
+    let p = c .before .before in
+    refused-put _ _ _ _ _ _ (p .before .before .before .enum-told .given .1) (p .put-bytes .ensures)
 
 pub put-day-spec : {M : Type 1} → statement M
 put-day-spec =

@@ -2,7 +2,7 @@
 use mathlib.Core.Path.{_≡_}
 use mir.Syntax.{w64}
 use mir.Val.{toZ, ofZ}
-use Rattle.date_lines.proofs.Texts.{three-put, bad-put}
+use Rattle.date_lines.proofs.WrittenReplies.{three-put, bad-put}
 use borrow.Author.Needs.{needs}
 use Rattle.date_lines.proofs.reply.put_reply.Statement.{statement}
 use Rattle.date_lines.proofs.reply.put_reply.Tie as tie
@@ -26,17 +26,22 @@ same-length : tie.Need-same-length
 same-length c = search needs
 
 returns : tie.Need-returns
-returns c = let p = c .before .before .before .before .before .before .r .given in
-    let y : toZ w64 (ofZ w64 (p .0 .0)) ≡ p .0 .0 = search needs in
-    let m : toZ w64 (ofZ w64 (p .0 .1 .0)) ≡ p .0 .1 .0 = search needs in
-    let d : toZ w64 (ofZ w64 (p .0 .1 .1 .0)) ≡ p .0 .1 .1 .0 = search needs in
-    three-put _ _ _ _ _ _ _ _ _ (p .1) (rw (y, m, d) at (c .before .before .before .before .day-of-date .ensures)) (c .before .before .put-day .ensures)
+returns c =
+    let p = c .before .before in
+    let n = p .before .before in
+    let v = n .before .before .r .given in
+    let y : toZ w64 (ofZ w64 (v .0 .0)) ≡ v .0 .0 = search needs in
+    let m : toZ w64 (ofZ w64 (v .0 .1 .0)) ≡ v .0 .1 .0 = search needs in
+    let d : toZ w64 (ofZ w64 (v .0 .1 .1 .0)) ≡ v .0 .1 .1 .0 = search needs in
+    three-put _ _ _ _ _ _ _ _ _ (v .1) (rw (y, m, d) at (n .day-of-date .ensures)) (p .put-day .ensures)
 
 same-length-2 : tie.Need-same-length-2
 same-length-2 c = search needs
 
 returns-2 : tie.Need-returns-2
-returns-2 c = bad-put _ _ _ _ _ _ (c .before .before .before .before .before .r2 .given .1) (c .before .before .put-fault .ensures)
+returns-2 c =
+    let p = c .before .before in
+    bad-put _ _ _ _ _ _ (p .before .before .before .r2 .given .1) (p .put-fault .ensures)
 
 pub put-reply-spec : {M : Type 1} → statement M
 put-reply-spec =

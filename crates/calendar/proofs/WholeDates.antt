@@ -1,4 +1,4 @@
--- What the code's calls ask and give, over plain values. Assumes nothing.
+-- The fields of a date, whole numbers, brought to the count in naturals and back, as the code does it. Assumes nothing.
 use mathlib.Core.Path.{_≡_, refl, sym, ap, _∙_}
 use mathlib.Core.Bool.{true, false, false≢true, true≢false}
 use Prim.Native.Nat.{ℕ, _+_, _-_, _≤_, _<_, _^_}
@@ -20,33 +20,35 @@ use Rattle.calendar.specs.machine.Shifted.{year-index, Sound, noon, date
 use Rattle.calendar.specs.declared.Date.{Date}
 use Rattle.calendar.specs.declared.Shifted.{Shifted}
 use Rattle.calendar.specs.declared.DateAnswer.the-variants.{On, NoDate}
-use Rattle.calendar.proofs.Back.{found}
+use Rattle.calendar.specs.Constants.{years-before-zero, last-year, year-shift, last-day}
+use Rattle.calendar.specs.machine.Shifted.{last-index}
+use Rattle.calendar.proofs.DayToDate.{found}
 use Rattle.calendar.proofs.Bounds.{month-le, exists, year-known}
-use Rattle.calendar.proofs.Facts.{Ok, ok}
-use Rattle.calendar.proofs.Fields.{Year, year, missing, year-of-index, Field, low, good, high, field, bad-law}
-use Rattle.calendar.proofs.Literal.{literal}
-use Rattle.calendar.proofs.Round.{numbered}
+use Rattle.calendar.proofs.Existing.{Ok, ok}
+use Rattle.calendar.proofs.FirstBad.{Year, year, missing, year-of-index, Field, low, good, high, field, bad-law}
+use Rattle.calendar.proofs.Formula.{literal}
+use Rattle.calendar.proofs.DateToDay.{numbered}
 
 -- ---- the index of a year, from its sign and magnitude
-pub index-below : (y : ℤ) (n : ℕ) → negative y ≡ true → n ≡ natAbs y → n ≤ 4712 → 4716 - n ≡ year-index y
+pub index-below : (y : ℤ) (n : ℕ) → negative y ≡ true → n ≡ natAbs y → n ≤ years-before-zero → year-shift - n ≡ year-index y
 unfolding negative year-index
 index-below (pos k) n s e h = absurd (false≢true s)
-index-below (negsuc k) n s e h = rw (le-leb k 4711 (omega arith)) (omega arith)
+index-below (negsuc k) n s e h = rw (le-leb k (years-before-zero - 1) (omega arith)) (omega arith)
 
-pub index-too-low : (y : ℤ) (n : ℕ) → negative y ≡ true → n ≡ natAbs y → 4712 < n → 0 ≡ year-index y
+pub index-too-low : (y : ℤ) (n : ℕ) → negative y ≡ true → n ≡ natAbs y → years-before-zero < n → 0 ≡ year-index y
 unfolding negative year-index
 index-too-low (pos k) n s e h = absurd (false≢true s)
-index-too-low (negsuc k) n s e h = rw (lt-leb k 4711 (omega arith))
+index-too-low (negsuc k) n s e h = rw (lt-leb k (years-before-zero - 1) (omega arith))
 
-pub index-from : (y : ℤ) (n : ℕ) → negative y ≡ false → n ≡ natAbs y → n ≤ 9999 → n + 4716 ≡ year-index y
+pub index-from : (y : ℤ) (n : ℕ) → negative y ≡ false → n ≡ natAbs y → n ≤ last-year → n + year-shift ≡ year-index y
 unfolding negative year-index
 index-from (negsuc k) n s e h = absurd (true≢false s)
-index-from (pos k) n s e h = rw (le-leb k 9999 (omega arith)) (omega arith)
+index-from (pos k) n s e h = rw (le-leb k last-year (omega arith)) (omega arith)
 
-pub index-too-high : (y : ℤ) (n : ℕ) → negative y ≡ false → n ≡ natAbs y → 9999 < n → 0 ≡ year-index y
+pub index-too-high : (y : ℤ) (n : ℕ) → negative y ≡ false → n ≡ natAbs y → last-year < n → 0 ≡ year-index y
 unfolding negative year-index
 index-too-high (negsuc k) n s e h = absurd (true≢false s)
-index-too-high (pos k) n s e h = rw (lt-leb k 9999 (omega arith))
+index-too-high (pos k) n s e h = rw (lt-leb k last-year (omega arith))
 
 -- ---- a difference of two naturals, by machine numbers
 module _ (w : ℤ) (n k : ℕ) (e : w ≡ pos n) (p : n < 2 ^ 63) (q : k < 2 ^ 63) where
@@ -64,7 +66,7 @@ natural-back w n e p = wide-back w n 0 e p (lit< tt)
 
 -- ---- the date of a day number
 pub record Small (s : Shifted) : Type 0 where
-  pub index : s .index ≤ 14715
+  pub index : s .index ≤ last-index
   pub month : s .month ≤ 12
   pub day : s .day ≤ 31
 
@@ -73,12 +75,13 @@ small-of s p =
     let o = ok _ _ _ p in
     record { index = o .small; month = o .month-small; day = omega (arith, month-le (s .index) (s .month), o .day-small) }
 
-pub date-small : (n : ℕ) (s : Shifted) → n ≤ 5373484 → s ≡ date-at n → Small s
+pub date-small : (n : ℕ) (s : Shifted) → n ≤ last-day → s ≡ date-at n → Small s
 date-small n s h e = rw e (small-of (date-at n) (found n h .sound))
 
-pub plain-law : (s : Shifted) (i y m d : ℤ) → Small s → i ≡ pos (s .index) → y ≡ toZ w64 (ofZ w64 i) -ℤ pos 4716 → m ≡ pos (s .month) → d ≡ pos (s .day) → _≡_ {A = Date} (record { year = toZ w64 (ofZ w64 y); month = toZ w64 (ofZ w64 m); day = toZ w64 (ofZ w64 d) }) (plain s)
+pub plain-law : (s : Shifted) (i y m d : ℤ) → Small s → i ≡ pos (s .index) → y ≡ toZ w64 (ofZ w64 i) -ℤ pos year-shift → m ≡ pos (s .month) → d ≡ pos (s .day)
+    → _≡_ {A = Date} (record { year = toZ w64 (ofZ w64 y); month = toZ w64 (ofZ w64 m); day = toZ w64 (ofZ w64 d) }) (plain s)
 plain-law s i y m d b f p q r =
-    let py = sub-back i (s .index) 4716 f (omega (arith, b .index)) (lit< tt) y p in
+    let py = sub-back i (s .index) year-shift f (omega (arith, b .index)) (lit< tt) y p in
     let pm = natural-back m (s .month) q (omega (arith, b .month)) in
     let pd = natural-back d (s .day) r (omega (arith, b .day)) in
     λ t. record { year = py t; month = pm t; day = pd t }
@@ -97,19 +100,19 @@ upto (pos n) l = go (decLe n l)
     go (yes h) = inside n refl h (λ o. refl) (rw (le-leb 0 n (omega arith), le-leb n l h))
     go (no h) = outside (λ o p. omega arith) (rw (le-leb 0 n (omega arith), lt-leb n l (omega arith)))
 
-pub no-date : (x : ℤ) (k : ℕ) → k ≡ natural-or x 5373485 → 5373484 < k → NoDate (NoSuchDate 5) ≡ date-of-day x
+pub no-date : (x : ℤ) (k : ℕ) → k ≡ natural-or x 5373485 → last-day < k → NoDate (NoSuchDate 5) ≡ date-of-day x
 unfolding date-of-day
-no-date x k e h = go (upto x 5373484)
+no-date x k e h = go (upto x last-day)
   where
-    go : Upto x 5373484 → NoDate (NoSuchDate 5) ≡ date-of-day x
+    go : Upto x last-day → NoDate (NoSuchDate 5) ≡ date-of-day x
     go (outside f b) = rw b
     go (inside n p q r b) = absurd (omega (arith, r 5373485))
 
-pub on-date : (x : ℤ) (k : ℕ) (d : Date) → k ≡ natural-or x 5373485 → k ≤ 5373484 → d ≡ plain (date-at k) → On d ≡ date-of-day x
+pub on-date : (x : ℤ) (k : ℕ) (d : Date) → k ≡ natural-or x 5373485 → k ≤ last-day → d ≡ plain (date-at k) → On d ≡ date-of-day x
 unfolding date-of-day
-on-date x k d e h f = go (upto x 5373484)
+on-date x k d e h f = go (upto x last-day)
   where
-    go : Upto x 5373484 → On d ≡ date-of-day x
+    go : Upto x last-day → On d ≡ date-of-day x
     go (outside g b) = absurd (omega (arith, g 5373485 (lit< tt)))
     go (inside n p q r b) = let z : k ≡ n = omega (arith, r 5373485) in rw (b, p) (ap On (f ∙ ap (λ (j : ℕ). plain (date-at j)) z))
 
@@ -124,7 +127,8 @@ module _ (y m d : ℤ) (e : first-bad y m d ≡ 0) where
       o : Ok (year-index y) (natural-or m 0) (natural-or d 0)
       o = ok _ _ _ sound-of
 
-      by-parts : (c k j : ℕ) → Is y c 4716 → year-index y ≡ c → m ≡ pos k → natural-or m 0 ≡ k → d ≡ pos j → natural-or d 0 ≡ j → pos (noon (year-index y) (natural-or m 0) (natural-or d 0)) ≡ noon-number y m d
+      by-parts : (c k j : ℕ) → Is y c year-shift → year-index y ≡ c → m ≡ pos k → natural-or m 0 ≡ k → d ≡ pos j → natural-or d 0 ≡ j
+          → pos (noon (year-index y) (natural-or m 0) (natural-or d 0)) ≡ noon-number y m d
       by-parts c k j i f z p t q = rw (f, p, q, z, t) (sym (literal y c k j i (rw (f, p, q) at sound-of)))
 
       go : Year y → Field m 12 → Field d 31 → pos (noon (year-index y) (natural-or m 0) (natural-or d 0)) ≡ noon-number y m d
@@ -135,5 +139,5 @@ module _ (y m d : ℤ) (e : first-bad y m d ≡ 0) where
       go (year c f a b i g) (good k z p u v x) (good j t q r s w) = by-parts c k j i f z p t q
       go (year c f a b i g) (good k z p u v x) (high j t q r s w) = by-parts c k j i f z p t q
 
-  pub noon-small : noon (year-index y) (natural-or m 0) (natural-or d 0) ≤ 5373484
+  pub noon-small : noon (year-index y) (natural-or m 0) (natural-or d 0) ≤ last-day
   noon-small = numbered _ _ _ sound-of .small

@@ -13,7 +13,8 @@ use Rattle.units.specs.declared.Refusal.{Refusal}
 use Rattle.units.specs.declared.Refusal.the-variants.{NoSuchDate, PastLimit}
 use Rattle.arith.specs.machine.Signed.{natural-or}
 use Rattle.arith.proofs.Naturals.{natural-back as field-back}
-use Rattle.calendar.specs.Calendar.{between, first-bad, first-bad-of-four, noon-number, day-of-date, date-of-day, instant, limited, instant-of-date, day-of-instant, ms-of-instant, date-of-instant}
+use Rattle.calendar.specs.Calendar.{between, first-bad, first-bad-of-four, noon-number, day-of-date, date-of-day, instant, limited, instant-of-date}
+use Rattle.calendar.specs.Calendar.{day-of-instant, ms-of-instant, date-of-instant}
 use Rattle.calendar.specs.machine.Shifted.{year-index, bad-field, Sound, noon, date-at, plain}
 use Rattle.calendar.specs.declared.Date.{Date}
 use Rattle.calendar.specs.declared.Shifted.{Shifted}
@@ -21,48 +22,51 @@ use Rattle.calendar.specs.declared.DayAnswer.the-variants.{Day, NoDay}
 use Rattle.calendar.specs.declared.DateAnswer.the-variants.{On, NoDate}
 use Rattle.calendar.specs.declared.InstantAnswer.the-variants.{At, NoInstant}
 use Rattle.calendar.specs.declared.MomentAnswer.the-variants.{Moment, NoMoment}
-use Rattle.calendar.proofs.Answers.{Fields, fields, instant-is, day-is, ms-is}
-use Rattle.calendar.proofs.Back.{found}
-use Rattle.calendar.proofs.Calls.{Upto, inside, outside, upto, sound-of, noon-law, noon-small}
-use Rattle.calendar.proofs.Facts.{Ok, ok}
-use Rattle.calendar.proofs.Fields.{Year, year, missing, year-of-index, index-of, is-same, bad-law}
-use Rattle.calendar.proofs.Literal.{literal}
-use Rattle.calendar.proofs.Round.{numbered}
+use Rattle.units.specs.Units.{t-limit}
+use Rattle.calendar.specs.Constants.{year-shift, last-day, day-ms, last-ms}
+use Rattle.calendar.specs.machine.Shifted.{epoch-ms}
+use Rattle.calendar.proofs.CallAnswers.{Fields, fields, instant-is, day-is, ms-is}
+use Rattle.calendar.proofs.DayToDate.{found}
+use Rattle.calendar.proofs.WholeDates.{Upto, inside, outside, upto, sound-of, noon-law, noon-small}
+use Rattle.calendar.proofs.Existing.{Ok, ok}
+use Rattle.calendar.proofs.FirstBad.{Year, year, missing, year-of-index, index-of, is-same, bad-law}
+use Rattle.calendar.proofs.Formula.{literal}
+use Rattle.calendar.proofs.DateToDay.{numbered}
 
-abbrev pub date : ℤ → ℤ → ℤ → Date
+abbrev date : ℤ → ℤ → ℤ → Date
 date y m d = record { year = y; month = m; day = d }
 
 -- ---- answers taken apart
-pub pick-day : (b : Bool) (z n : ℤ) (r : Refusal) → cond b (Day z) (NoDay r) ≡ Day n → (b ≡ true) × (z ≡ n)
+pick-day : (b : Bool) (z n : ℤ) (r : Refusal) → cond b (Day z) (NoDay r) ≡ Day n → (b ≡ true) × (z ≡ n)
 pick-day true z n r e = (refl, cc)
 pick-day false z n r e = let x : _≡_ {A = ℕ} 0 1 = cc in absurd (omega arith)
 
-pub pick-date : (b : Bool) (z w : Date) (r : Refusal) → cond b (On z) (NoDate r) ≡ On w → (b ≡ true) × (z ≡ w)
+pick-date : (b : Bool) (z w : Date) (r : Refusal) → cond b (On z) (NoDate r) ≡ On w → (b ≡ true) × (z ≡ w)
 pick-date true z w r e = (refl, cc)
 pick-date false z w r e = let x : _≡_ {A = ℕ} 0 1 = cc in absurd (omega arith)
 
-pub pick-instant : (b l : Bool) (z t : Instant) (q r : Refusal) → cond b (cond l (At z) (NoInstant q)) (NoInstant r) ≡ At t → (b ≡ true) × (l ≡ true) × (z ≡ t)
+pick-instant : (b l : Bool) (z t : Instant) (q r : Refusal) → cond b (cond l (At z) (NoInstant q)) (NoInstant r) ≡ At t → (b ≡ true) × (l ≡ true) × (z ≡ t)
 pick-instant true true z t q r e = (refl, refl, cc)
 pick-instant true false z t q r e = let x : _≡_ {A = ℕ} 0 1 = cc in absurd (omega arith)
 pick-instant false l z t q r e = let x : _≡_ {A = ℕ} 0 1 = cc in absurd (omega arith)
 
-pub pick-moment : (b : Bool) (z w : Date) (j k : ℤ) (r : Refusal) → cond b (Moment z j) (NoMoment r) ≡ Moment w k → (b ≡ true) × (z ≡ w) × (j ≡ k)
+pick-moment : (b : Bool) (z w : Date) (j k : ℤ) (r : Refusal) → cond b (Moment z j) (NoMoment r) ≡ Moment w k → (b ≡ true) × (z ≡ w) × (j ≡ k)
 pick-moment true z w j k r e = (refl, cc, cc)
 pick-moment false z w j k r e = let x : _≡_ {A = ℕ} 0 1 = cc in absurd (omega arith)
 
 -- ---- a date that exists is the date of its day number
 module _ (y m d : ℤ) (e : first-bad y m d ≡ 0) where
-  year-back : pos (year-index y) -ℤ pos 4716 ≡ y
+  year-back : pos (year-index y) -ℤ pos year-shift ≡ y
   year-back = go (year-of-index y)
     where
       o : Ok (year-index y) (natural-or m 0) (natural-or d 0)
       o = ok _ _ _ (sound-of y m d e)
 
-      go : Year y → pos (year-index y) -ℤ pos 4716 ≡ y
-      go (year c f p q i k) = rw f (same (nat c -ᵢ nat 4716) i (omega arith))
+      go : Year y → pos (year-index y) -ℤ pos year-shift ≡ y
+      go (year c f p q i k) = rw f (same (nat c -ᵢ nat year-shift) i (omega arith))
       go (missing f k) = absurd (omega (arith, o .least))
 
-  pub plain-back : plain (date-at (noon (year-index y) (natural-or m 0) (natural-or d 0))) ≡ date y m d
+  plain-back : plain (date-at (noon (year-index y) (natural-or m 0) (natural-or d 0))) ≡ date y m d
   plain-back =
       let s = sound-of y m d e in
       let o = ok _ _ _ s in
@@ -73,20 +77,21 @@ module _ (y m d : ℤ) (e : first-bad y m d ≡ 0) where
 
 -- ---- a day number's date exists and has that number
 module _ (s : Shifted) (p : Sound (s .index) (s .month) (s .day)) where
-  year-is : Is (pos (s .index) -ℤ pos 4716) (s .index) 4716
-  year-is = is-same (nat (s .index) -ᵢ nat 4716) (omega arith)
+  year-is : Is (pos (s .index) -ℤ pos year-shift) (s .index) year-shift
+  year-is = is-same (nat (s .index) -ᵢ nat year-shift) (omega arith)
 
-  pub plain-exists : first-bad (plain s .year) (plain s .month) (plain s .day) ≡ 0
+  plain-exists : first-bad (plain s .year) (plain s .month) (plain s .day) ≡ 0
   unfolding natural-or
   plain-exists =
       sym (bad-law (plain s .year) (pos (s .month)) (pos (s .day)))
       ∙ ap (λ (c : ℕ). bad-field c (s .month) (s .day)) (index-of (plain s .year) (s .index) (p .least) (p .small) year-is)
       ∙ p .exists
 
-  pub plain-noon : noon-number (plain s .year) (plain s .month) (plain s .day) ≡ pos (noon (s .index) (s .month) (s .day))
+  plain-noon : noon-number (plain s .year) (plain s .month) (plain s .day) ≡ pos (noon (s .index) (s .month) (s .day))
   plain-noon = literal _ _ _ _ year-is p
 
-pub day-of-plain : (n : ℕ) (s : Shifted) → Sound (s .index) (s .month) (s .day) → noon (s .index) (s .month) (s .day) ≡ n → day-of-date (plain s .year) (plain s .month) (plain s .day) ≡ Day (pos n)
+pub day-of-plain : (n : ℕ) (s : Shifted) → Sound (s .index) (s .month) (s .day) → noon (s .index) (s .month) (s .day) ≡ n
+    → day-of-date (plain s .year) (plain s .month) (plain s .day) ≡ Day (pos n)
 unfolding day-of-date
 day-of-plain n s p e = rw (plain-exists s p) (ap Day (plain-noon s p ∙ ap pos e))
 
@@ -94,51 +99,53 @@ day-of-plain n s p e = rw (plain-exists s p) (ap Day (plain-noon s p ∙ ap pos 
 -- the milliseconds from 0h of day number 0
 pub record Since (t : ℤ) : Type 0 where
   pub u : ℕ
-  pub is : pos u ≡ t +ℤ pos 211813531200000
-  pub small : u ≤ 274928731200000
+  pub is : pos u ≡ t +ℤ pos epoch-ms
+  pub small : u ≤ epoch-ms + t-limit
 
 pub since : (t : ℤ) → in-limit t ≡ true → Since t
 unfolding in-limit
 since (pos k) h =
-    let l : k ≤ 63115200000000 = leb-true k 63115200000000 h in
-    record { u = 211813531200000 + k; is = same (nat (211813531200000 + k)) (int (pos k) +ᵢ nat 211813531200000) (omega arith); small = omega arith }
+    let l : k ≤ t-limit = leb-true k t-limit h in
+    record { u = epoch-ms + k; is = same (nat (epoch-ms + k)) (int (pos k) +ᵢ nat epoch-ms) (omega arith); small = omega arith }
 since (negsuc k) h =
-    let l : suc k ≤ 63115200000000 = leb-true (suc k) 63115200000000 h in
-    record { u = 211813531200000 - suc k; is = same (nat (211813531200000 - suc k)) (int (negsuc k) +ᵢ nat 211813531200000) (omega arith); small = omega arith }
+    let l : suc k ≤ t-limit = leb-true (suc k) t-limit h in
+    record { u = epoch-ms - suc k; is = same (nat (epoch-ms - suc k)) (int (negsuc k) +ᵢ nat epoch-ms) (omega arith); small = omega arith }
 
-days-of : (n k : ℕ) → k < 86400000 → ((86400000 * n + k) / 86400000 ≡ n) × ((86400000 * n + k) % 86400000 ≡ k)
+days-of : (n k : ℕ) → k < day-ms → ((day-ms * n + k) / day-ms ≡ n) × ((day-ms * n + k) % day-ms ≡ k)
 days-of n k h = omega arith
 
 -- the instant of a day number and milliseconds has these again
-module _ (n k : ℕ) (h : k < 86400000) where
-  u-is : pos (86400000 * n + k) ≡ instant (pos n) (pos k) +ℤ pos 211813531200000
-  u-is = rw (instant-is n k) (same (nat (86400000 * n + k)) (nat (86400000 * n + k) -ᵢ nat 211813531200000 +ᵢ nat 211813531200000) (omega arith))
+module _ (n k : ℕ) (h : k < day-ms) where
+  u-is : pos (day-ms * n + k) ≡ instant (pos n) (pos k) +ℤ pos epoch-ms
+  u-is = rw (instant-is n k) (same (nat (day-ms * n + k)) (nat (day-ms * n + k) -ᵢ nat epoch-ms +ᵢ nat epoch-ms) (omega arith))
 
-  pub day-again : day-of-instant (instant (pos n) (pos k)) ≡ pos n
-  day-again = day-is (instant (pos n) (pos k)) (86400000 * n + k) u-is ∙ ap pos (days-of n k h .0)
+  day-again : day-of-instant (instant (pos n) (pos k)) ≡ pos n
+  day-again = day-is (instant (pos n) (pos k)) (day-ms * n + k) u-is ∙ ap pos (days-of n k h .0)
 
-  pub ms-again : ms-of-instant (instant (pos n) (pos k)) ≡ pos k
-  ms-again = ms-is (instant (pos n) (pos k)) (86400000 * n + k) u-is ∙ ap pos (days-of n k h .1)
+  ms-again : ms-of-instant (instant (pos n) (pos k)) ≡ pos k
+  ms-again = ms-is (instant (pos n) (pos k)) (day-ms * n + k) u-is ∙ ap pos (days-of n k h .1)
 
 -- the day number and milliseconds of an instant have that instant again
-pub instant-again : (t : ℤ) (u : ℕ) → pos u ≡ t +ℤ pos 211813531200000 → instant (pos (u / 86400000)) (pos (u % 86400000)) ≡ t
+instant-again : (t : ℤ) (u : ℕ) → pos u ≡ t +ℤ pos epoch-ms → instant (pos (u / day-ms)) (pos (u % day-ms)) ≡ t
 instant-again t u e =
-    instant-is (u / 86400000) (u % 86400000)
-    ∙ same (nat (86400000 * (u / 86400000) + u % 86400000) -ᵢ nat 211813531200000) (int t) (omega (arith, same⁻¹ (nat u) (int t +ᵢ nat 211813531200000) e))
+    instant-is (u / day-ms) (u % day-ms)
+    ∙ same (nat (day-ms * (u / day-ms) + u % day-ms) -ᵢ nat epoch-ms) (int t) (omega (arith, same⁻¹ (nat u) (int t +ᵢ nat epoch-ms) e))
 
-pub instant-of-plain : (n k : ℕ) (s : Shifted) → Sound (s .index) (s .month) (s .day) → noon (s .index) (s .month) (s .day) ≡ n → k < 86400000 → instant-of-date (plain s .year) (plain s .month) (plain s .day) (pos k) ≡ limited (instant (pos n) (pos k))
+instant-of-plain : (n k : ℕ) (s : Shifted) → Sound (s .index) (s .month) (s .day) → noon (s .index) (s .month) (s .day) ≡ n → k < day-ms
+    → instant-of-date (plain s .year) (plain s .month) (plain s .day) (pos k) ≡ limited (instant (pos n) (pos k))
 unfolding instant-of-date first-bad-of-four
-instant-of-plain n k s p e h = rw (plain-exists s p, le-leb 0 k (omega arith), le-leb k 86399999 (omega arith)) (ap (λ (z : ℤ). limited (instant z (pos k))) (plain-noon s p ∙ ap pos e))
+instant-of-plain n k s p e h =
+    rw (plain-exists s p, le-leb 0 k (omega arith), le-leb k last-ms (omega arith)) (ap (λ (z : ℤ). limited (instant z (pos k))) (plain-noon s p ∙ ap pos e))
 
 -- ---- what an answer that is no refusal says
-pub on-day : (k : ℕ) → k ≤ 5373484 → date-of-day (pos k) ≡ On (plain (date-at k))
+pub on-day : (k : ℕ) → k ≤ last-day → date-of-day (pos k) ≡ On (plain (date-at k))
 unfolding date-of-day
-on-day k h = rw (le-leb 0 k (omega arith), le-leb k 5373484 h)
+on-day k h = rw (le-leb 0 k (omega arith), le-leb k last-day h)
 
 pub record Numbered-as (y m d n : ℤ) : Type 0 where
   pub k : ℕ
   pub is : n ≡ pos k
-  pub small : k ≤ 5373484
+  pub small : k ≤ last-day
   pub back : plain (date-at k) ≡ date y m d
 
 pub numbered-as : (y m d n : ℤ) → day-of-date y m d ≡ Day n → Numbered-as y m d n
@@ -146,7 +153,12 @@ unfolding day-of-date
 numbered-as y m d n e =
     let p = pick-day (eqb (first-bad y m d) 0) (noon-number y m d) n (NoSuchDate (first-bad y m d)) e in
     let b : first-bad y m d ≡ 0 = eqb-true _ _ (p .0) in
-    record { k = noon (year-index y) (natural-or m 0) (natural-or d 0); is = sym (p .1) ∙ sym (noon-law y m d b); small = noon-small y m d b; back = plain-back y m d b }
+    record {
+      k = noon (year-index y) (natural-or m 0) (natural-or d 0);
+      is = sym (p .1) ∙ sym (noon-law y m d b);
+      small = noon-small y m d b;
+      back = plain-back y m d b;
+    }
 
 pub same-date : {z w : Date} → On z ≡ On w → z ≡ w
 same-date e = cc
@@ -154,21 +166,21 @@ same-date e = cc
 pub record Dated (n : ℤ) (w : Date) : Type 0 where
   pub k : ℕ
   pub is : n ≡ pos k
-  pub small : k ≤ 5373484
+  pub small : k ≤ last-day
   pub found : plain (date-at k) ≡ w
 
 pub dated : (n : ℤ) (w : Date) → date-of-day n ≡ On w → Dated n w
 unfolding date-of-day
-dated n w e = go (upto n 5373484)
+dated n w e = go (upto n last-day)
   where
-    p : (between (pos 0) n (pos 5373484) ≡ true) × (plain (date-at (natAbs n)) ≡ w)
-    p = pick-date (between (pos 0) n (pos 5373484)) (plain (date-at (natAbs n))) w (NoSuchDate 5) e
+    p : (between (pos 0) n (pos last-day) ≡ true) × (plain (date-at (natAbs n)) ≡ w)
+    p = pick-date (between (pos 0) n (pos last-day)) (plain (date-at (natAbs n))) w (NoSuchDate 5) e
 
-    go : Upto n 5373484 → Dated n w
+    go : Upto n last-day → Dated n w
     go (inside k i l r b) = record { k = k; is = i; small = l; found = ap (λ (z : ℤ). plain (date-at (natAbs z))) (sym i) ∙ p .1 }
     go (outside g b) = absurd (false≢true (sym b ∙ p .0))
 
-pub limited-is : (t : Instant) → in-limit (t .ms) ≡ true → limited (t .ms) ≡ At t
+limited-is : (t : Instant) → in-limit (t .ms) ≡ true → limited (t .ms) ≡ At t
 limited-is t h = rw h
 
 -- the instant of a date
@@ -186,7 +198,8 @@ timed y m d ms t e =
     record { all = fields y m d ms (eqb-true _ _ (p .0)); limit = ap in-limit (sym q) ∙ p .1; is = q }
 
 -- the date of an instant
-pub moment-of : (t : Instant) (u : ℕ) → in-limit (t .ms) ≡ true → pos u ≡ t .ms +ℤ pos 211813531200000 → date-of-instant t ≡ Moment (plain (date-at (u / 86400000))) (pos (u % 86400000))
+pub moment-of : (t : Instant) (u : ℕ) → in-limit (t .ms) ≡ true → pos u ≡ t .ms +ℤ pos epoch-ms
+    → date-of-instant t ≡ Moment (plain (date-at (u / day-ms))) (pos (u % day-ms))
 unfolding date-of-instant
 moment-of t u h e = rw h (λ i. Moment (plain (date-at (natAbs (day-is (t .ms) u e i)))) (ms-is (t .ms) u e i))
 
@@ -197,11 +210,13 @@ limit-of t w k e = pick-moment (in-limit (t .ms)) _ w _ k (PastLimit t) e .0
 pub same-moment : {z w : Date} {j k : ℤ} → Moment z j ≡ Moment w k → (z ≡ w) × (j ≡ k)
 same-moment e = (cc, cc)
 
-pub instant-back : (t : Instant) (w : Date) (k : ℤ) (u : ℕ) → in-limit (t .ms) ≡ true → pos u ≡ t .ms +ℤ pos 211813531200000 → u ≤ 274928731200000 → date-of-instant t ≡ Moment w k → instant-of-date (w .year) (w .month) (w .day) k ≡ At t
+pub instant-back : (t : Instant) (w : Date) (k : ℤ) (u : ℕ) → in-limit (t .ms) ≡ true → pos u ≡ t .ms +ℤ pos epoch-ms → u ≤ epoch-ms + t-limit
+    → date-of-instant t ≡ Moment w k → instant-of-date (w .year) (w .month) (w .day) k ≡ At t
 instant-back t w k u h e l p =
     let q = same-moment (sym (moment-of t u h e) ∙ p) in
-    let f = found (u / 86400000) (omega arith) in
-    rw (← q .0, ← q .1) (instant-of-plain (u / 86400000) (u % 86400000) (date-at (u / 86400000)) (f .sound) (f .number) (omega arith) ∙ ap limited (instant-again (t .ms) u e) ∙ limited-is t h)
+    let f = found (u / day-ms) (omega arith) in
+    rw (← q .0, ← q .1) (instant-of-plain (u / day-ms) (u % day-ms) (date-at (u / day-ms)) (f .sound) (f .number) (omega arith)
+    ∙ ap limited (instant-again (t .ms) u e) ∙ limited-is t h)
 
 pub moment-back : (y m d ms : ℤ) (t : Instant) → Timed y m d ms t → date-of-instant t ≡ Moment (date y m d) ms
 unfolding date-of-instant

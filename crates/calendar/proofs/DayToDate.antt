@@ -1,36 +1,40 @@
--- A day number's date exists and has that number. Assumes nothing.
+-- Over naturals, a day number's date exists and has that number; what the code of date_at asks. Assumes nothing.
 use mathlib.Core.Path.{_≡_, refl, sym, ap, _∙_, subst}
 use mathlib.Core.Logic.{inl, inr}
 use Prim.Native.Nat.{ℕ, _+_, _*_, _/_, _%_, _-_, _≤_, _<_}
 use native.Mathlib.Decide.{decLe, ℕ-discrete}
 use native.Mathlib.Omega.{arith}
 use borrow.Author.Tests.{lt-ltb, le-ltb}
-use Rattle.calendar.specs.machine.Shifted.{leap-day, month-days, key, Sound, march-year, march-month, julian, with-beta, noon, century, julian-count, year-of, day-of, month-of, from-march, date-at}
-use Rattle.calendar.proofs.Facts.{Leap, not4, old, plain, cent, quad, leap, february, other, sound}
-use Rattle.calendar.proofs.Round.{F, Y, C, Y-is, C-is, month-part, slot-len}
+use Rattle.calendar.specs.machine.Shifted.{leap-day, month-days, key, Sound, march-year, march-month, julian, with-beta, noon, century, julian-count}
+use Rattle.calendar.specs.machine.Shifted.{year-of, day-of, month-of, from-march, date-at}
+use Rattle.calendar.specs.Constants.{four-years, year-shift, last-day}
+use Rattle.calendar.specs.machine.Shifted.{first-index, last-index, reform-index, skipped-key, gregorian-key, reform-day, march-shift, year-zero}
+use Rattle.calendar.specs.machine.Shifted.{four-centuries}
+use Rattle.calendar.proofs.Existing.{Leap, not4, old, plain, cent, quad, leap, february, other, sound}
+use Rattle.calendar.proofs.DateToDay.{F, Y, C, Y-is, C-is, month-part, slot-len}
 
 -- what the count of a day number is
 data Count (n : ℕ) : Type 0 where
-  old-style : n < 2299161 → julian-count n ≡ n → Count n
-  new-style : 2299161 ≤ n → (A : ℕ) → century n ≡ A → julian-count n ≡ n + A - (2 + A / 4) → Count n
+  old-style : n < reform-day → julian-count n ≡ n → Count n
+  new-style : reform-day ≤ n → (A : ℕ) → century n ≡ A → julian-count n ≡ n + A - (2 + A / 4) → Count n
 
 count : (n : ℕ) → Count n
 unfolding julian-count
-count n = go (decLe 2299161 n)
+count n = go (decLe reform-day n)
   where
-    go : Dec (2299161 ≤ n) → Count n
-    go (yes h) = new-style h (century n) refl (rw (le-ltb n 2299161 h))
-    go (no h) = let l : n < 2299161 = omega arith in old-style l (rw (lt-ltb n 2299161 l))
+    go : Dec (reform-day ≤ n) → Count n
+    go (yes h) = new-style h (century n) refl (rw (le-ltb n reform-day h))
+    go (no h) = let l : n < reform-day = omega arith in old-style l (rw (lt-ltb n reform-day l))
 
 -- the place of a day in the year that begins in March
 record Place (j a r k : ℕ) : Type 0 where
-  year : Y a + r ≡ j + 1401
+  year : Y a + r ≡ j + march-shift
   within : r < Y (a + 1) - Y a
   month : F k ≤ r
   before : r < F (k + 1)
   twelve : k < 12
 
-year-law : (x a : ℕ) → a ≡ (4 * x + 3) / 1461 → (Y a ≤ x) × (x < Y (a + 1))
+year-law : (x a : ℕ) → a ≡ (4 * x + 3) / four-years → (Y a ≤ x) × (x < Y (a + 1))
 year-law x a e = omega arith
 
 month-law : (r k : ℕ) → r ≤ 365 → k ≡ (5 * r + 2) / 153 → (F k ≤ r) × (r < F (k + 1)) × (k < 12)
@@ -41,49 +45,52 @@ unfolding year-of
 place j =
     let a : ℕ = year-of j in
     let r : ℕ = day-of j a in
-    let y = year-law (j + 1401) a refl in
+    let y = year-law (j + march-shift) a refl in
     let w : r < Y (a + 1) - Y a = omega (arith, y) in
     let l : Y (a + 1) ≤ Y a + 366 = omega (arith, Y-is a, Y-is (a + 1)) in
     let m = month-law r (month-of r) (omega (arith, w, l)) refl in
     record { year = omega (arith, y); within = w; month = m .0; before = m .1; twelve = m .2 }
 
-century-law : (x A : ℕ) → A ≡ (4 * x + 3) / 146097 → (C A ≤ x) × (x < C (A + 1))
+century-law : (x A : ℕ) → A ≡ (4 * x + 3) / four-centuries → (C A ≤ x) × (x < C (A + 1))
 century-law x A e = omega arith
 
-last-law : (n j A r y : ℕ) → y ≡ 36525 * A + 1722519 + 36159 → n - 1721120 < C (A + 1) → j ≡ n + A - (2 + A / 4) → y + r ≡ j + 1401 → 2299161 ≤ n → r ≤ 364 + ((A + 1) / 4 - A / 4)
+last-law : (n j A r y : ℕ) → y ≡ 36525 * A + 1722519 + 36159 → n - year-zero < C (A + 1) → j ≡ n + A - (2 + A / 4) → y + r ≡ j + march-shift → reform-day ≤ n
+    → r ≤ 364 + ((A + 1) / 4 - A / 4)
 last-law n j A r y p q f g h = omega (arith, C-is (A + 1))
 
-beta-law : (n j A y r : ℕ) → 15 ≤ A → 2299161 ≤ n → j ≡ n + A - (2 + A / 4) → y + r ≡ j + 1401 → with-beta A (y + r - 1401) ≡ n
+beta-law : (n j A y r : ℕ) → 15 ≤ A → reform-day ≤ n → j ≡ n + A - (2 + A / 4) → y + r ≡ j + march-shift → with-beta A (y + r - march-shift) ≡ n
 beta-law n j A y r p h f g = omega arith
 
 -- the century of the March year that was found
-module _ (n j a r A : ℕ) (h : 2299161 ≤ n) (l : n ≤ 5373484) (e : A ≡ (4 * (n - 1721120) + 3) / 146097) (f : j ≡ n + A - (2 + A / 4)) (g : Y a + r ≡ j + 1401) (w : r < Y (a + 1) - Y a) where
-  same-century : (a - 4716) / 100 ≡ A
-  same-century = omega (arith, century-law (n - 1721120) A e, C-is A, C-is (A + 1), Y-is a, Y-is (a + 1))
+module _ (n j a r A : ℕ) (h : reform-day ≤ n) (l : n ≤ last-day) (e : A ≡ (4 * (n - year-zero) + 3) / four-centuries) (f : j ≡ n + A - (2 + A / 4))
+    (g : Y a + r ≡ j + march-shift) (w : r < Y (a + 1) - Y a) where
+  same-century : (a - year-shift) / 100 ≡ A
+  same-century = omega (arith, century-law (n - year-zero) A e, C-is A, C-is (A + 1), Y-is a, Y-is (a + 1))
 
-  modern : 6298 ≤ a
-  modern = omega (arith, century-law (n - 1721120) A e, C-is A, C-is (A + 1), Y-is a, Y-is (a + 1))
+  modern : reform-index ≤ a
+  modern = omega (arith, century-law (n - year-zero) A e, C-is A, C-is (A + 1), Y-is a, Y-is (a + 1))
 
-  last-year : (a - 4716) % 100 ≡ 99 → r ≤ 364 + ((A + 1) / 4 - A / 4)
-  last-year t =
-      let x : a ≡ 100 * A + 99 + 4716 = omega (arith, same-century, modern) in
+  last-of-century : (a - year-shift) % 100 ≡ 99 → r ≤ 364 + ((A + 1) / 4 - A / 4)
+  last-of-century t =
+      let x : a ≡ 100 * A + 99 + year-shift = omega (arith, same-century, modern) in
       let y : Y a ≡ 36525 * A + 1722519 + 36159 = omega (arith, Y-is a, x) in
-      last-law n j A r (Y a) y (century-law (n - 1721120) A e .1) f g h
+      last-law n j A r (Y a) y (century-law (n - year-zero) A e .1) f g h
 
-big-century : (n A : ℕ) → 2299161 ≤ n → A ≡ (4 * (n - 1721120) + 3) / 146097 → 15 ≤ A
+big-century : (n A : ℕ) → reform-day ≤ n → A ≡ (4 * (n - year-zero) + 3) / four-centuries → 15 ≤ A
 big-century n A h e = omega arith
 
-later : (n j A y r : ℕ) → 15 ≤ A → 2299161 ≤ n → j ≡ n + A - (2 + A / 4) → y + r ≡ j + 1401 → y ≡ 2300344 → 228 ≤ r
+later : (n j A y r : ℕ) → 15 ≤ A → reform-day ≤ n → j ≡ n + A - (2 + A / 4) → y + r ≡ j + march-shift → y ≡ 2300344 → 228 ≤ r
 later n j A y r p h f g t = omega arith
 
 -- how a day number stands to the March year and its day
 data Style (n a r : ℕ) : Type 0 where
-  before-gap : a ≤ 6298 → (a ≡ 6298 → r ≤ 217) → Y a + r - 1401 ≡ n → Style n a r
-  after-gap : 6298 ≤ a → (a ≡ 6298 → 228 ≤ r) → with-beta ((a - 4716) / 100) (Y a + r - 1401) ≡ n → ((a - 4716) % 100 ≡ 99 → r ≤ 364 + (((a - 4716) / 100 + 1) / 4 - (a - 4716) / 100 / 4)) → Style n a r
+  before-gap : a ≤ reform-index → (a ≡ reform-index → r ≤ 217) → Y a + r - march-shift ≡ n → Style n a r
+  after-gap : reform-index ≤ a → (a ≡ reform-index → 228 ≤ r) → with-beta ((a - year-shift) / 100) (Y a + r - march-shift) ≡ n
+      → ((a - year-shift) % 100 ≡ 99 → r ≤ 364 + (((a - year-shift) / 100 + 1) / 4 - (a - year-shift) / 100 / 4)) → Style n a r
 
-style : (n a r k : ℕ) → n ≤ 5373484 → Place (julian-count n) a r k → Count n → Style n a r
+style : (n a r k : ℕ) → n ≤ last-day → Place (julian-count n) a r k → Count n → Style n a r
 style n a r k l p (old-style h e) =
-    let y : Y a + r ≡ n + 1401 = p .year ∙ ap (λ (x : ℕ). x + 1401) e in
+    let y : Y a + r ≡ n + march-shift = p .year ∙ ap (λ (x : ℕ). x + march-shift) e in
     before-gap (omega (arith, Y-is a)) (λ t. omega (arith, ap Y t)) (omega arith)
 style n a r k l p (new-style h A e f) =
     let g = same-century n (julian-count n) a r A h l (sym e) f (p .year) (p .within) in
@@ -92,21 +99,24 @@ style n a r k l p (new-style h A e f) =
     (modern n (julian-count n) a r A h l (sym e) f (p .year) (p .within))
     (λ t. later n (julian-count n) A (Y a) r b h f (p .year) (ap Y t))
     (rw g (beta-law n (julian-count n) A (Y a) r b h f (p .year)))
-    (λ t. rw g (last-year n (julian-count n) a r A h l (sym e) f (p .year) (p .within) t))
+    (λ t. rw g (last-of-century n (julian-count n) a r A h l (sym e) f (p .year) (p .within) t))
 
 -- the first and the last year
 record Frame (a r : ℕ) : Type 0 where
   least : 3 ≤ a
   first : a ≡ 3 → 306 ≤ r
-  small : a ≤ 14715
-  final : a ≡ 14715 → r ≤ 305
+  small : a ≤ last-index
+  final : a ≡ last-index → r ≤ 305
 
-top-year : (n a r : ℕ) → n ≤ 5373484 → Style n a r → (a ≤ 14715) × (a ≡ 14715 → r ≤ 305)
+top-year : (n a r : ℕ) → n ≤ last-day → Style n a r → (a ≤ last-index) × (a ≡ last-index → r ≤ 305)
 top-year n a r l (before-gap h p e) = (omega arith, λ t. omega arith)
-top-year n a r l (after-gap h p e q) =
-    (omega (arith, Y-is a), λ t. let z : with-beta 99 (5374653 + r - 1401) ≡ n = rw (ap (λ (x : ℕ). (x - 4716) / 100) t, ap Y t) at e in omega (arith, z, l))
+top-year n a r l (after-gap h p e q) = (
+  omega (arith, Y-is a),
+  λ t. let z : with-beta 99 (5374653 + r - march-shift) ≡ n = rw (ap (λ (x : ℕ). (x - year-shift) / 100) t, ap Y t) at e in
+      omega (arith, z, l),
+)
 
-frame : (n j a r k : ℕ) → n ≤ 5373484 → Place j a r k → Style n a r → Frame a r
+frame : (n j a r k : ℕ) → n ≤ last-day → Place j a r k → Style n a r → Frame a r
 frame n j a r k l p s =
     let y = p .year in
     let w = p .within in
@@ -118,27 +128,30 @@ pub record Found (n c m d : ℕ) : Type 0 where
   pub sound : Sound c m d
   pub number : noon c m d ≡ n
 
-julian-is : (c m d a k r : ℕ) → march-year c m ≡ a → march-month m ≡ k + 3 → k < 12 → F k + d ≡ r + 1 → julian (march-year c m) (march-month m) d ≡ Y a + r - 1401
+julian-is : (c m d a k r : ℕ) → march-year c m ≡ a → march-month m ≡ k + 3 → k < 12 → F k + d ≡ r + 1
+    → julian (march-year c m) (march-month m) d ≡ Y a + r - march-shift
 julian-is c m d a k r p q h e = rw (p, q) (omega (arith, month-part k h))
 
 finish : (n c m d a k r : ℕ) → march-year c m ≡ a → march-month m ≡ k + 3 → k < 12 → F k + d ≡ r + 1
-    → 4 ≤ c → c ≤ 14715 → 0 < m → m ≤ 12 → d ≤ month-days c m
+    → first-index ≤ c → c ≤ last-index → 0 < m → m ≤ 12 → d ≤ month-days c m
     → F k ≤ r
-    → (a ≤ 6298 → (a ≡ 6298 → r ≤ 217) → key c m d < 62981005)
-    → (6298 ≤ a → (a ≡ 6298 → 228 ≤ r) → 62981015 ≤ key c m d)
+    → (a ≤ reform-index → (a ≡ reform-index → r ≤ 217) → key c m d < skipped-key)
+    → (reform-index ≤ a → (a ≡ reform-index → 228 ≤ r) → gregorian-key ≤ key c m d)
     → Style n a r → Found n c m d
 unfolding noon
 finish n c m d a k r p q h e b1 b2 b3 b4 b5 b6 f g (before-gap u v w) =
-    let x : key c m d < 62981005 = f u v in
+    let x : key c m d < skipped-key = f u v in
     record {
-      sound = sound c m d (record { least = b1; small = b2; month-least = b3; month-small = b4; day-least = omega (arith, e, b6); day-small = b5; gap = inl x });
-      number = rw (lt-ltb (key c m d) 62981015 (omega (arith, x))) (julian-is c m d a k r p q h e ∙ w);
+      sound =
+          sound c m d (record { least = b1; small = b2; month-least = b3; month-small = b4; day-least = omega (arith, e, b6); day-small = b5; gap = inl x });
+      number = rw (lt-ltb (key c m d) gregorian-key (omega (arith, x))) (julian-is c m d a k r p q h e ∙ w);
     }
 finish n c m d a k r p q h e b1 b2 b3 b4 b5 b6 f g (after-gap u v w z) =
-    let x : 62981015 ≤ key c m d = g u v in
+    let x : gregorian-key ≤ key c m d = g u v in
     record {
-      sound = sound c m d (record { least = b1; small = b2; month-least = b3; month-small = b4; day-least = omega (arith, e, b6); day-small = b5; gap = inr x });
-      number = rw (le-ltb (key c m d) 62981015 x, julian-is c m d a k r p q h e, p) w;
+      sound =
+          sound c m d (record { least = b1; small = b2; month-least = b3; month-small = b4; day-least = omega (arith, e, b6); day-small = b5; gap = inr x });
+      number = rw (le-ltb (key c m d) gregorian-key x, julian-is c m d a k r p q h e, p) w;
     }
 
 -- where the gap falls: in the year with index 6298 by the day r, elsewhere by the year
@@ -149,8 +162,8 @@ least-rest a r k h f b l = go (ℕ-discrete a 3)
     go (yes e) = absurd (let z = f e in omega arith)
     go (no e) = omega (arith, h, e)
 
-old-rest : (a r k : ℕ) → k < 10 → F k ≤ r → r < F (k + 1) → a ≤ 6298 → (a ≡ 6298 → r ≤ 217) → key a (k + 3) (r - F k + 1) < 62981005
-old-rest a r k l p q h f = go (ℕ-discrete a 6298)
+old-rest : (a r k : ℕ) → k < 10 → F k ≤ r → r < F (k + 1) → a ≤ reform-index → (a ≡ reform-index → r ≤ 217) → key a (k + 3) (r - F k + 1) < skipped-key
+old-rest a r k l p q h f = go (ℕ-discrete a reform-index)
   where
     d : r - F k + 1 ≤ 31
     d = omega arith
@@ -159,18 +172,18 @@ old-rest a r k l p q h f = go (ℕ-discrete a 6298)
     near u (yes e) = let y : F k ≡ 214 = ap F e in omega (arith, e, y, u)
     near u (no e) = let z : k < 7 = omega arith in omega (arith, z, d)
 
-    go : Dec (a ≡ 6298) → key a (k + 3) (r - F k + 1) < 62981005
+    go : Dec (a ≡ reform-index) → key a (k + 3) (r - F k + 1) < skipped-key
     go (yes e) = omega (arith, e, near (f e) (ℕ-discrete k 7))
     go (no e) = omega (arith, e, d, l, h)
 
-new-rest : (a r k : ℕ) → k < 10 → F k ≤ r → r < F (k + 1) → 6298 ≤ a → (a ≡ 6298 → 228 ≤ r) → 62981015 ≤ key a (k + 3) (r - F k + 1)
-new-rest a r k l p q h f = go (ℕ-discrete a 6298)
+new-rest : (a r k : ℕ) → k < 10 → F k ≤ r → r < F (k + 1) → reform-index ≤ a → (a ≡ reform-index → 228 ≤ r) → gregorian-key ≤ key a (k + 3) (r - F k + 1)
+new-rest a r k l p q h f = go (ℕ-discrete a reform-index)
   where
     near : 228 ≤ r → Dec (k ≡ 7) → 1015 ≤ 100 * (k + 3) + (r - F k + 1)
     near u (yes e) = let y : F k ≡ 214 = ap F e in omega (arith, e, y, u)
     near u (no e) = let z : 7 < k = omega arith in omega (arith, z)
 
-    go : Dec (a ≡ 6298) → 62981015 ≤ key a (k + 3) (r - F k + 1)
+    go : Dec (a ≡ reform-index) → gregorian-key ≤ key a (k + 3) (r - F k + 1)
     go (yes e) = omega (arith, e, near (f e) (ℕ-discrete k 7))
     go (no e) = omega (arith, e, h)
 
@@ -180,7 +193,8 @@ rest n j a r k p f s h =
     let pm = p .month in
     let pb = p .before in
     let l : month-days a (k + 3) ≡ 30 + (k + 3 + (k + 3) / 8) % 2 = other a (k + 3) (λ e. omega (arith, e)) in
-    let t : F k + (30 + (k + 3 + (k + 3) / 8) % 2) ≡ F (k + 1) = subst (λ (x : ℕ). F x + (30 + (k + 3 + (k + 3) / 8) % 2) ≡ F (x + 1)) (omega arith) (slot-len (k + 3) (omega arith) (omega arith)) in
+    let t : F k + (30 + (k + 3 + (k + 3) / 8) % 2) ≡ F (k + 1) = subst (λ (x : ℕ). F x + (30 + (k + 3 + (k + 3) / 8) % 2) ≡ F (x + 1)) (omega arith)
+    (slot-len (k + 3) (omega arith) (omega arith)) in
     finish n a (k + 3) (r - F k + 1) a k r
     (rw (le-ltb (k + 3) 3 (omega arith)))
     (rw (le-ltb (k + 3) 3 (omega arith)))
@@ -188,17 +202,17 @@ rest n j a r k p f s h =
     (least-rest a r k (f .least) (f .first) pb h) (f .small) (omega arith) (omega (arith, h)) (omega (arith, l, t, pm, pb))
     pm (old-rest a r k h pm pb) (new-rest a r k h pm pb) s
 
-small-next : (a r : ℕ) → a ≤ 14715 → (a ≡ 14715 → r ≤ 305) → 306 ≤ r → a + 1 ≤ 14715
-small-next a r h f p = go (ℕ-discrete a 14715)
+small-next : (a r : ℕ) → a ≤ last-index → (a ≡ last-index → r ≤ 305) → 306 ≤ r → a + 1 ≤ last-index
+small-next a r h f p = go (ℕ-discrete a last-index)
   where
-    go : Dec (a ≡ 14715) → a + 1 ≤ 14715
+    go : Dec (a ≡ last-index) → a + 1 ≤ last-index
     go (yes e) = absurd (let z = f e in omega arith)
     go (no e) = omega arith
 
-old-next : (a d m : ℕ) → a ≤ 6298 → (a ≡ 6298 → d + 305 ≤ 217) → 0 < d → m ≤ 2 → d ≤ 31 → key (a + 1) m d < 62981005
-old-next a d m h f p q l = go (ℕ-discrete a 6298)
+old-next : (a d m : ℕ) → a ≤ reform-index → (a ≡ reform-index → d + 305 ≤ 217) → 0 < d → m ≤ 2 → d ≤ 31 → key (a + 1) m d < skipped-key
+old-next a d m h f p q l = go (ℕ-discrete a reform-index)
   where
-    go : Dec (a ≡ 6298) → key (a + 1) m d < 62981005
+    go : Dec (a ≡ reform-index) → key (a + 1) m d < skipped-key
     go (yes e) = absurd (let z = f e in omega arith)
     go (no e) = omega arith
 
@@ -232,10 +246,10 @@ february-law : (n a r : ℕ) → r < Y (a + 1) - Y a → Style n a r → Leap (a
 february-law n a r w s (not4 p l) h = let y = plain-year a p in omega (arith, y, l)
 february-law n a r w s (old p q l) h = let y = year-most a in omega (arith, y, l)
 february-law n a r w s (plain p q t l) h = let y = year-most a in omega (arith, y, l)
-february-law n a r w (before-gap u v e) (cent p q t z l) h = absurd (let x : a ≡ 6298 = omega (arith, u, q) in let y = v x in omega (arith, y, h))
+february-law n a r w (before-gap u v e) (cent p q t z l) h = absurd (let x : a ≡ reform-index = omega (arith, u, q) in let y = v x in omega (arith, y, h))
 february-law n a r w (after-gap u v e f) (cent p q t z l) h =
-    let x : a + 1 - 4716 ≡ 100 * ((a - 4716) / 100 + 1) = omega (arith, u, t) in
-    let b = no-quarter ((a - 4716) / 100) (λ y. z (four-hundred (a + 1 - 4716) ((a - 4716) / 100 + 1) x y)) in
+    let x : a + 1 - year-shift ≡ 100 * ((a - year-shift) / 100 + 1) = omega (arith, u, t) in
+    let b = no-quarter ((a - year-shift) / 100) (λ y. z (four-hundred (a + 1 - year-shift) ((a - year-shift) / 100 + 1) x y)) in
     end-law r _ _ (leap-day (a + 1)) (f (omega (arith, u, t))) b
 february-law n a r w s (quad p q t z l) h = let y = year-most a in omega (arith, y, l)
 
@@ -245,11 +259,12 @@ february-date n j a r p f s =
     let pb = p .before in
     let l : month-days (a + 1) 2 ≡ 28 + leap-day (a + 1) = february (a + 1) 2 refl in
     finish n (a + 1) 2 (r - 337 + 1) a 11 r (omega arith) refl (p .twelve) (omega (arith, pm))
-    (omega (arith, f .least)) (small-next a r (f .small) (f .final) (omega (arith, pm))) (omega arith) (omega arith) (rw l (february-law n a r (p .within) s (leap (a + 1)) pm)) pm
+    (omega (arith, f .least)) (small-next a r (f .small) (f .final) (omega (arith, pm))) (omega arith) (omega arith)
+    (rw l (february-law n a r (p .within) s (leap (a + 1)) pm)) pm
     (λ u v. old-next a (r - 337 + 1) 2 u (λ e. let z = v e in omega (arith, z, pm)) (omega (arith, pm)) (omega arith) (omega (arith, pb)))
     (λ u v. omega (arith, u)) s
 
-module _ (n : ℕ) (small : n ≤ 5373484) where
+module _ (n : ℕ) (small : n ≤ last-day) where
   by-month : (a r k : ℕ) → Place (julian-count n) a r k → Found n (from-march a k r .index) (from-march a k r .month) (from-march a k r .day)
   by-month a r k p = go (decLe 10 k) (ℕ-discrete k 10)
     where
@@ -273,12 +288,13 @@ module _ (n : ℕ) (small : n ≤ 5373484) where
     where
       go : Count n → julian-count n ≤ 5373600
       go (old-style h e) = omega arith
-      go (new-style h A e f) = let z : A ≡ (4 * (n - 1721120) + 3) / 146097 = sym e in omega arith
+      go (new-style h A e f) = let z : A ≡ (4 * (n - year-zero) + 3) / four-centuries = sym e in omega arith
 
-  pub asked : (j : ℕ) → j ≡ julian-count n → (year-of j ≤ 14715) × (month-of (day-of j (year-of j)) ≤ 11) × (day-of j (year-of j) ≤ 365) × (F (month-of (day-of j (year-of j))) ≤ day-of j (year-of j))
+  pub asked : (j : ℕ) → j ≡ julian-count n → (year-of j ≤ last-index) × (month-of (day-of j (year-of j)) ≤ 11) × (day-of j (year-of j) ≤ 365) ×
+      (F (month-of (day-of j (year-of j))) ≤ day-of j (year-of j))
   asked j e = rw e (go (place (julian-count n)))
     where
-      go : {a r k : ℕ} → Place (julian-count n) a r k → (a ≤ 14715) × (k ≤ 11) × (r ≤ 365) × (F k ≤ r)
+      go : {a r k : ℕ} → Place (julian-count n) a r k → (a ≤ last-index) × (k ≤ 11) × (r ≤ 365) × (F k ≤ r)
       go {a} {r} {k} p =
           let f = frame n (julian-count n) a r k small p (style n a r k small p (count n)) in
           let y = year-most a in

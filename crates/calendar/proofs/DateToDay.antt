@@ -1,5 +1,4 @@
--- The two theorems of the calendar over naturals: a date's day number gives the date back, and a day number's date exists and has that number.
--- Assumes nothing.
+-- Over naturals, a date's day number exists and gives the date back; what the code of noon_of asks. Assumes nothing.
 use mathlib.Core.Path.{_≡_, refl, ap, _∙_, subst}
 use mathlib.Core.Logic.{_⊎_, inl, inr}
 use mathlib.Core.Bool.{Bool}
@@ -11,19 +10,22 @@ use lib.Dec.{eqb, eqb→eq}
 use Rattle.integers.proofs.Tests.{every-below}
 use Rattle.calendar.proofs.Bounds.{leap-le, month-le}
 use Rattle.calendar.specs.declared.Shifted.{Shifted}
-use Rattle.calendar.specs.machine.Shifted.{leap-day, month-days, key, Sound, march-year, march-month, julian, with-beta, noon, century, julian-count, year-of, day-of, month-of, from-march, in-year, of-count, date-at}
-use Rattle.calendar.proofs.Facts.{Leap, not4, old, plain, cent, quad, leap, february, other, Ok, ok}
+use Rattle.calendar.specs.machine.Shifted.{leap-day, month-days, key, Sound, march-year, march-month, julian, with-beta, noon, century, julian-count}
+use Rattle.calendar.specs.machine.Shifted.{year-of, day-of, month-of, before-month, from-march, in-year, of-count, date-at}
+use Rattle.calendar.specs.Constants.{four-years, year-shift, month-rate, rate-scale, day-shift, last-day}
+use Rattle.calendar.specs.machine.Shifted.{last-index, reform-index, skipped-key, gregorian-key, reform-day, march-shift, year-zero, four-centuries}
+use Rattle.calendar.proofs.Existing.{Leap, not4, old, plain, cent, quad, leap, february, other, Ok, ok}
 
 -- the days before the month k of the year that begins in March
 abbrev pub F : ℕ → ℕ
-F k = (153 * k + 2) / 5
+F k = before-month k
 
 -- the days before the year a, and before the century A
 abbrev pub Y : ℕ → ℕ
-Y a = 1461 * a / 4
+Y a = four-years * a / 4
 
 abbrev pub C : ℕ → ℕ
-C A = 146097 * A / 4
+C A = four-centuries * A / 4
 
 pub Y-is : (a : ℕ) → Y a ≡ 365 * a + a / 4
 Y-is a = omega arith
@@ -31,20 +33,21 @@ Y-is a = omega arith
 pub C-is : (A : ℕ) → C A ≡ 36524 * A + A / 4
 C-is A = omega arith
 
-pub month-part : (k : ℕ) → k < 12 → 306001 * (k + 4) / 10000 ≡ F k + 122
+pub month-part : (k : ℕ) → k < 12 → month-rate * (k + 4) / rate-scale ≡ F k + 122
 month-part k h = omega arith
 
 month-back : (k d : ℕ) → k < 12 → 0 < d → F k + d ≤ F (k + 1) → month-of (F k + d - 1) ≡ k
 month-back k d h p q = omega arith
 
-year-back : (a r j : ℕ) → r < Y (a + 1) - Y a → j + 1401 ≡ Y a + r → year-of j ≡ a
+year-back : (a r j : ℕ) → r < Y (a + 1) - Y a → j + march-shift ≡ Y a + r → year-of j ≡ a
 unfolding year-of
 year-back a r j h e = omega arith
 
-century-back : (A g n : ℕ) → g < C (A + 1) - C A → n - 1721120 ≡ C A + g → century n ≡ A
+century-back : (A g n : ℕ) → g < C (A + 1) - C A → n - year-zero ≡ C A + g → century n ≡ A
 century-back A g n h e = omega arith
 
-shifted : {c c' m m' d d' : ℕ} → c ≡ c' → m ≡ m' → d ≡ d' → _≡_ {A = Shifted} (record { index = c; month = m; day = d }) (record { index = c'; month = m'; day = d' })
+shifted : {c c' m m' d d' : ℕ} → c ≡ c' → m ≡ m' → d ≡ d' → _≡_ {A = Shifted} (record { index = c; month = m; day = d })
+    (record { index = c'; month = m'; day = d' })
 shifted p q r = λ i. record { index = p i; month = q i; day = r i }
 
 -- a date that exists, in the year that begins in March
@@ -56,12 +59,12 @@ record March (c m d a k : ℕ) : Type 0 where
   within : F k + d ≤ Y (a + 1) - Y a
   back : from-march a k (F k + d - 1) ≡ record { index = c; month = m; day = d }
   low : 1402 ≤ Y a + F k + d
-  small : a ≤ 14715
-  high : a ≡ 14715 → F k + d ≤ 306
-  early : key c m d < 62981005 → Y a + F k + d - 1402 < 2299161
-  modern : 62981015 ≤ key c m d → 6298 ≤ a
-  late : 62981015 ≤ key c m d → 2299161 ≤ with-beta ((a - 4716) / 100) (Y a + F k + d - 1402)
-  last : 6298 ≤ a → (a - 4716) % 100 ≡ 99 → F k + d ≤ 365 + (((a - 4716) / 100 + 1) / 4 - (a - 4716) / 100 / 4)
+  small : a ≤ last-index
+  high : a ≡ last-index → F k + d ≤ 306
+  early : key c m d < skipped-key → Y a + F k + d - 1402 < reform-day
+  modern : gregorian-key ≤ key c m d → reform-index ≤ a
+  late : gregorian-key ≤ key c m d → reform-day ≤ with-beta ((a - year-shift) / 100) (Y a + F k + d - 1402)
+  last : reform-index ≤ a → (a - year-shift) % 100 ≡ 99 → F k + d ≤ 365 + (((a - year-shift) / 100 + 1) / 4 - (a - year-shift) / 100 / 4)
 
 -- the length of a year that begins in March
 leap-year : (a : ℕ) → (a + 1) % 4 ≡ 0 → Y (a + 1) ≡ Y a + 366
@@ -81,16 +84,17 @@ quarter : (x q : ℕ) → x + 1 ≡ 4 * q → (x + 1) / 4 ≡ x / 4 + 1
 quarter x q e = omega arith
 
 -- the last February of a century
-feb-last : (c a d : ℕ) → a + 1 ≡ c → d ≤ 28 + leap-day c → 6298 ≤ a → (a - 4716) % 100 ≡ 99 → Leap c → 337 + d ≤ 365 + (((a - 4716) / 100 + 1) / 4 - (a - 4716) / 100 / 4)
+feb-last : (c a d : ℕ) → a + 1 ≡ c → d ≤ 28 + leap-day c → reform-index ≤ a → (a - year-shift) % 100 ≡ 99 → Leap c
+    → 337 + d ≤ 365 + (((a - year-shift) / 100 + 1) / 4 - (a - year-shift) / 100 / 4)
 feb-last c a d e h g n (not4 p l) = omega arith
 feb-last c a d e h g n (old p q l) = omega arith
 feb-last c a d e h g n (plain p q r l) = absurd (r (omega arith))
 feb-last c a d e h g n (cent p q r s l) = omega arith
 feb-last c a d e h g n (quad p q r s l) =
-    let f : c - 4716 ≡ 100 * ((a - 4716) / 100 + 1) = omega arith in
-    omega (arith, quarter ((a - 4716) / 100) ((c - 4716) / 400) (omega arith))
+    let f : c - year-shift ≡ 100 * ((a - year-shift) / 100 + 1) = omega arith in
+    omega (arith, quarter ((a - year-shift) / 100) ((c - year-shift) / 400) (omega arith))
 
-late-high : (a f d : ℕ) → 2300649 ≤ Y a + f → 6298 ≤ a → 0 < d → 2299161 ≤ with-beta ((a - 4716) / 100) (Y a + f + d - 1402)
+late-high : (a f d : ℕ) → 2300649 ≤ Y a + f → reform-index ≤ a → 0 < d → reform-day ≤ with-beta ((a - year-shift) / 100) (Y a + f + d - 1402)
 late-high a f d h p q = omega (arith, Y-is a)
 
 slot-test : ℕ → Bool
@@ -102,7 +106,7 @@ slot-len m h l =
     let e : m - 3 + 3 ≡ m = omega arith in
     subst (λ (x : ℕ). F (m - 3) + (30 + (x + x / 8) % 2) ≡ F (m - 3 + 1)) e (eqb→eq _ _ (every-below 10 slot-test tt (m - 3) (omega arith)))
 
-early-rest : (c m d : ℕ) → 3 ≤ m → m ≤ 12 → d ≤ 31 → key c m d < 62981005 → Y c + F (m - 3) + d - 1402 < 2299161
+early-rest : (c m d : ℕ) → 3 ≤ m → m ≤ 12 → d ≤ 31 → key c m d < skipped-key → Y c + F (m - 3) + d - 1402 < reform-day
 early-rest c m d p q r h = go (decLe c 6297)
   where
     f : F (m - 3) ≤ 275
@@ -111,25 +115,26 @@ early-rest c m d p q r h = go (decLe c 6297)
     g : 100 * m + d < 1005 → F (m - 3) + d ≤ 218
     g e = omega arith
 
-    go : Dec (c ≤ 6297) → Y c + F (m - 3) + d - 1402 < 2299161
+    go : Dec (c ≤ 6297) → Y c + F (m - 3) + d - 1402 < reform-day
     go (yes l) = let y : Y c ≤ 2299979 = omega arith in omega (arith, y, f)
     go (no l) =
-        let e : c ≡ 6298 = omega arith in
+        let e : c ≡ reform-index = omega arith in
         let y : Y c ≡ 2300344 = ap Y e in
         omega (arith, y, g (omega arith))
 
-late-rest : (c m d : ℕ) → 3 ≤ m → m ≤ 12 → 0 < d → 62981015 ≤ key c m d → d ≤ 31 → 2299161 ≤ with-beta ((c - 4716) / 100) (Y c + F (m - 3) + d - 1402)
-late-rest c m d p q r h w = go (decLe c 6298)
+late-rest : (c m d : ℕ) → 3 ≤ m → m ≤ 12 → 0 < d → gregorian-key ≤ key c m d → d ≤ 31
+    → reform-day ≤ with-beta ((c - year-shift) / 100) (Y c + F (m - 3) + d - 1402)
+late-rest c m d p q r h w = go (decLe c reform-index)
   where
     g : 1015 ≤ 100 * m + d → Dec (11 ≤ m) → 229 ≤ F (m - 3) + d
     g e (yes l) = omega arith
     g e (no l) = let f : m ≡ 10 = omega arith in let y : F (m - 3) ≡ 214 = ap (λ (x : ℕ). F (x - 3)) f in omega arith
 
-    go : Dec (c ≤ 6298) → 2299161 ≤ with-beta ((c - 4716) / 100) (Y c + F (m - 3) + d - 1402)
+    go : Dec (c ≤ reform-index) → reform-day ≤ with-beta ((c - year-shift) / 100) (Y c + F (m - 3) + d - 1402)
     go (yes l) =
-        let e : c ≡ 6298 = omega arith in
+        let e : c ≡ reform-index = omega arith in
         let y : Y c ≡ 2300344 = ap Y e in
-        let z : (c - 4716) / 100 ≡ 15 = ap (λ (x : ℕ). (x - 4716) / 100) e in
+        let z : (c - year-shift) / 100 ≡ 15 = ap (λ (x : ℕ). (x - year-shift) / 100) e in
         let k = g (omega arith) (decLe 11 m) in
         rw (y, z) (omega (arith, k))
     go (no l) = late-high c (F (m - 3)) d (let y : 2300649 ≤ Y c = omega arith in omega (arith, y)) (omega arith) r
@@ -193,16 +198,18 @@ march-feb c d o =
     }
 
 -- the century of a day: f is the day of the year that begins in March, from 1
-century-law : (a f : ℕ) → 6298 ≤ a → 0 < f → f ≤ 366 → ((a - 4716) % 100 ≡ 99 → f ≤ 365 + (((a - 4716) / 100 + 1) / 4 - (a - 4716) / 100 / 4)) → (n : ℕ) → n ≡ with-beta ((a - 4716) / 100) (Y a + f - 1402) → century n ≡ (a - 4716) / 100
+century-law : (a f : ℕ) → reform-index ≤ a → 0 < f → f ≤ 366 → ((a - year-shift) % 100 ≡ 99
+    → f ≤ 365 + (((a - year-shift) / 100 + 1) / 4 - (a - year-shift) / 100 / 4)) → (n : ℕ) → n ≡ with-beta ((a - year-shift) / 100) (Y a + f - 1402)
+    → century n ≡ (a - year-shift) / 100
 century-law a f h p q l n e = go (ℕ-discrete b 99)
   where
     A : ℕ
-    A = (a - 4716) / 100
+    A = (a - year-shift) / 100
 
     b : ℕ
-    b = (a - 4716) % 100
+    b = (a - year-shift) % 100
 
-    x : a ≡ 100 * A + b + 4716
+    x : a ≡ 100 * A + b + year-shift
     x = omega arith
 
     y : b < 100
@@ -211,10 +218,10 @@ century-law a f h p q l n e = go (ℕ-discrete b 99)
     z : Y a ≡ 36525 * A + 1722519 + 365 * b + b / 4
     z = omega (arith, Y-is a)
 
-    w : n - 1721120 ≡ C A + (365 * b + b / 4 + f - 1)
+    w : n - year-zero ≡ C A + (365 * b + b / 4 + f - 1)
     w = omega (arith, C-is A)
 
-    go : Dec (b ≡ 99) → century n ≡ (a - 4716) / 100
+    go : Dec (b ≡ 99) → century n ≡ (a - year-shift) / 100
     go (yes t) = century-back A (365 * b + b / 4 + f - 1) n (omega (arith, l t, C-is A, C-is (A + 1))) w
     go (no t) = century-back A (365 * b + b / 4 + f - 1) n (omega (arith, C-is A, C-is (A + 1))) w
 
@@ -236,21 +243,25 @@ module _ (c m d a k : ℕ) (r : March c m d a k) (pos-d : 0 < d) where
       let low = r .low in
       let y : year-of j ≡ a = year-back a (F k + d - 1) j (omega (arith, r .within, pos-d)) (omega (arith, low, pos-d)) in
       let e : day-of j a ≡ F k + d - 1 = omega (arith, low, pos-d) in
-      ap (λ (x : ℕ). in-year x (day-of j x)) y ∙ ap (in-year a) e ∙ ap (λ (x : ℕ). from-march a x (F k + d - 1)) (month-back k d (r .twelve) pos-d (r .slot)) ∙ r .back
+      ap (λ (x : ℕ). in-year x (day-of j x)) y ∙ ap (in-year a) e ∙ ap (λ (x : ℕ). from-march a x (F k + d - 1)) (month-back k d (r .twelve) pos-d (r .slot))
+      ∙ r .back
 
-  century-is : 62981015 ≤ key c m d → century (with-beta ((a - 4716) / 100) (Y a + F k + d - 1402)) ≡ (a - 4716) / 100
-  century-is h = century-law a (F k + d) (r .modern h) (omega (arith, pos-d)) (omega (arith, r .twelve, r .slot, r .within)) (r .last (r .modern h)) _ (omega (arith, pos-d))
+  century-is : gregorian-key ≤ key c m d → century (with-beta ((a - year-shift) / 100) (Y a + F k + d - 1402)) ≡ (a - year-shift) / 100
+  century-is h =
+      century-law a (F k + d) (r .modern h) (omega (arith, pos-d)) (omega (arith, r .twelve, r .slot, r .within)) (r .last (r .modern h)) _
+      (omega (arith, pos-d))
 
 -- the day number of a date that exists
 pub record Numbered (c m d : ℕ) : Type 0 where
-  pub small : noon c m d ≤ 5373484
+  pub small : noon c m d ≤ last-day
   pub back : date-at (noon c m d) ≡ record { index = c; month = m; day = d }
 
-top-law : (a f d : ℕ) → 6298 ≤ a → a ≤ 14715 → f + d ≤ 366 → (a ≡ 14715 → f + d ≤ 306) → with-beta ((a - 4716) / 100) (Y a + f + d - 1402) ≤ 5373484
-top-law a f d h l p q = go (ℕ-discrete a 14715)
+top-law : (a f d : ℕ) → reform-index ≤ a → a ≤ last-index → f + d ≤ 366 → (a ≡ last-index → f + d ≤ 306)
+    → with-beta ((a - year-shift) / 100) (Y a + f + d - 1402) ≤ last-day
+top-law a f d h l p q = go (ℕ-discrete a last-index)
   where
-    go : Dec (a ≡ 14715) → with-beta ((a - 4716) / 100) (Y a + f + d - 1402) ≤ 5373484
-    go (yes e) = rw (ap (λ (x : ℕ). (x - 4716) / 100) e, ap Y e) (omega (arith, q e))
+    go : Dec (a ≡ last-index) → with-beta ((a - year-shift) / 100) (Y a + f + d - 1402) ≤ last-day
+    go (yes e) = rw (ap (λ (x : ℕ). (x - year-shift) / 100) e, ap Y e) (omega (arith, q e))
     go (no e) = omega (arith, Y-is a)
 
 module _ (c m d a k : ℕ) (r : March c m d a k) (pos-d : 0 < d) where
@@ -258,30 +269,30 @@ module _ (c m d a k : ℕ) (r : March c m d a k) (pos-d : 0 < d) where
   J = Y a + F k + d - 1402
 
   A : ℕ
-  A = (a - 4716) / 100
+  A = (a - year-shift) / 100
 
   days : F k + d ≤ 366
   days = omega (arith, r .twelve, r .slot, r .within)
 
-  old-style : key c m d < 62981005 → Numbered c m d
+  old-style : key c m d < skipped-key → Numbered c m d
   unfolding noon julian-count J
   old-style h =
-      let e : noon c m d ≡ J = rw (lt-ltb (key c m d) 62981015 (omega arith)) (julian-is c m d a k r pos-d) in
-      let l : J < 2299161 = r .early h in
+      let e : noon c m d ≡ J = rw (lt-ltb (key c m d) gregorian-key (omega arith)) (julian-is c m d a k r pos-d) in
+      let l : J < reform-day = r .early h in
       record {
         small = rw e (omega arith);
-        back = rw (e, lt-ltb J 2299161 l) (count-back c m d a k r pos-d);
+        back = rw (e, lt-ltb J reform-day l) (count-back c m d a k r pos-d);
       }
 
-  new-style : 62981015 ≤ key c m d → Numbered c m d
+  new-style : gregorian-key ≤ key c m d → Numbered c m d
   unfolding noon julian-count J A
   new-style h =
-      let e : noon c m d ≡ with-beta A J = rw (le-ltb (key c m d) 62981015 h, julian-is c m d a k r pos-d, r .year) in
+      let e : noon c m d ≡ with-beta A J = rw (le-ltb (key c m d) gregorian-key h, julian-is c m d a k r pos-d, r .year) in
       let q : century (with-beta A J) ≡ A = century-is c m d a k r pos-d h in
       let t : with-beta A J + A - (2 + A / 4) ≡ J = omega (arith, r .late h) in
       record {
         small = rw e (top-law a (F k) d (r .modern h) (r .small) days (r .high));
-        back = rw (e, le-ltb (with-beta A J) 2299161 (r .late h), q, t) (count-back c m d a k r pos-d);
+        back = rw (e, le-ltb (with-beta A J) reform-day (r .late h), q, t) (count-back c m d a k r pos-d);
       }
 
 pub numbered : (c m d : ℕ) → Sound c m d → Numbered c m d
@@ -293,20 +304,20 @@ numbered c m d s = go (o .gap)
     q : (a : ℕ) × (k : ℕ) × March c m d a k
     q = in-march c m d o
 
-    go : (key c m d < 62981005) ⊎ (62981015 ≤ key c m d) → Numbered c m d
+    go : (key c m d < skipped-key) ⊎ (gregorian-key ≤ key c m d) → Numbered c m d
     go (inl h) = old-style c m d (q .0) (q .1) (q .2) (o .day-least) h
     go (inr h) = new-style c m d (q .0) (q .1) (q .2) (o .day-least) h
 
 -- what the code of noon_of asks
 pub record Room (c m d : ℕ) : Type 0 where
   pub index : 0 < c
-  pub top : c ≤ 14715
+  pub top : c ≤ last-index
   pub month : m ≤ 12
   pub day : d ≤ 31
-  pub year : march-year c m ≤ 14715
+  pub year : march-year c m ≤ last-index
   pub march : march-month m ≤ 14
-  pub low : 1524 ≤ 1461 * march-year c m / 4 + 306001 * (march-month m + 1) / 10000 + d
-  pub modern : 62981015 ≤ key c m d → 6298 ≤ march-year c m
+  pub low : day-shift ≤ four-years * march-year c m / 4 + month-rate * (march-month m + 1) / rate-scale + d
+  pub modern : gregorian-key ≤ key c m d → reform-index ≤ march-year c m
 
 room-of : (c m d a k : ℕ) → Ok c m d → March c m d a k → Room c m d
 room-of c m d a k o r =

@@ -1,4 +1,4 @@
--- A piece of the input, byte by byte: what is left of it gives what the whole gives. Assumes nothing.
+-- The loop over a piece of the input: what is left of the piece gives what the whole gives; the room that its replies take. Assumes nothing.
 use mathlib.Core.Path.{_≡_, refl, sym, ap, _∙_}
 use mathlib.Core.Bool.{Bool, true, false, cond}
 use mathlib.Core.List.{List, [], _∷_, _++_}
@@ -13,54 +13,55 @@ use Rattle.calendar.specs.Calendar.{day-of-date}
 use Rattle.calendar.specs.declared.DayAnswer.{DayAnswer}
 use Rattle.calendar.specs.declared.DayAnswer.the-variants.{Day, NoDay}
 use Rattle.arith.specs.machine.Signed.{natural-or}
-use Rattle.date_lines.specs.Lines.{reading}
-use Rattle.date_lines.specs.Replies.{decimal, refused, day-text, fault-words, fault-text, reply, after, said, line-after, replies, unless-empty, last-reply}
+use Rattle.date_lines.specs.Lines.{line-feed, fault-empty, reading}
+use Rattle.date_lines.specs.Replies.{reply-limit, day-places, decimal, refused, day-text, fault-words, fault-text, reply, after, said, line-after}
+use Rattle.date_lines.specs.Replies.{replies, unless-empty, last-reply}
 use Rattle.date_lines.specs.declared.reader.Line.{Line}
 use Rattle.date_lines.specs.declared.reader.Reading.{Reading}
 use Rattle.date_lines.specs.declared.reader.Reading.the-variants.{Three, Bad}
-use Rattle.date_lines.proofs.Texts.{decimal-length}
+use Rattle.date_lines.proofs.WrittenReplies.{decimal-length}
 
 -- ---- no reply has more than 40 bytes
 either : (b : Bool) (x y : List ℕ) (k : ℕ) → length x ≤ k → length y ≤ k → length (cond b x y) ≤ k
 either true x y k p q = p
 either false x y k p q = q
 
-day-length : (a : DayAnswer) → length (day-text a) ≤ 40
+day-length : (a : DayAnswer) → length (day-text a) ≤ reply-limit
 unfolding day-text refused
-day-length (Day n) = omega (arith, decimal-length 20 (natural-or n 0), length-append (decimal 20 (natural-or n 0)) (10 ∷ []))
+day-length (Day n) = omega (arith, decimal-length day-places (natural-or n 0), length-append (decimal day-places (natural-or n 0)) (line-feed ∷ []))
 day-length (NoDay r) = lit≤ tt
 
 words : (f : ℕ) → length (fault-words f) ≤ 10
 unfolding fault-words
 words f =
-    either (eqb f 1) _ _ 10 (lit≤ tt)
+    either (eqb f fault-empty) _ _ 10 (lit≤ tt)
     (either (eqb f 2) _ _ 10 (lit≤ tt)
     (either (eqb f 3) _ _ 10 (lit≤ tt)
     (either (eqb f 4) _ _ 10 (lit≤ tt) (either (eqb f 5) _ _ 10 (lit≤ tt) (lit≤ tt)))))
 
-fault-length : (f : ℕ) → length (fault-text f) ≤ 40
+fault-length : (f : ℕ) → length (fault-text f) ≤ reply-limit
 unfolding fault-text
 fault-length f = omega (arith, words f)
 
-reply-length : (w : Reading) → length (reply w) ≤ 40
+reply-length : (w : Reading) → length (reply w) ≤ reply-limit
 unfolding reply
 reply-length (Three y m d) = day-length (day-of-date y m d)
 reply-length (Bad f) = fault-length f
 
-said-length : (s : Line) (b : ℕ) → length (said s b) ≤ 40
+said-length : (s : Line) (b : ℕ) → length (said s b) ≤ reply-limit
 unfolding said
-said-length s b = either (eqb b 10) (reply (reading s)) [] 40 (reply-length (reading s)) (lit≤ tt)
+said-length s b = either (eqb b line-feed) (reply (reading s)) [] reply-limit (reply-length (reading s)) (lit≤ tt)
 
 -- ---- the loop
 pub record Left (start : Line) (first piece out : List ℕ) (line : Line) (at i : ℕ) : Type 0 where
   pub inside : i ≤ length piece
   pub same : length out ≡ length first
-  pub room : at + 40 * (length piece - i) ≤ length first
+  pub room : at + reply-limit * (length piece - i) ≤ length first
   pub line-is : line-after line (drop i piece) ≡ line-after start piece
   pub count : at + length (replies line (drop i piece)) ≡ length (replies start piece)
   pub holds : sets out at (replies line (drop i piece)) ≡ sets first 0 (replies start piece)
 
-pub left-start : (start : Line) (first piece : List ℕ) → 40 * length piece ≤ length first → Left start first piece first start 0 0
+pub left-start : (start : Line) (first piece : List ℕ) → reply-limit * length piece ≤ length first → Left start first piece first start 0 0
 left-start start first piece h =
     record { inside = omega arith; same = refl; room = omega arith; line-is = refl; count = omega arith; holds = refl }
 
@@ -73,7 +74,7 @@ unfolding replies
 next-reply s b bs = refl
 
 module _ (start : Line) (first piece out : List ℕ) (line : Line) (at i : ℕ) (l : Left start first piece out line at i) where
-  pub left-room : i < length piece → at + 40 ≤ length out
+  pub left-room : i < length piece → at + reply-limit ≤ length out
   left-room h = omega (arith, l .room, l .same)
 
   module _ (h : i < length piece) (b : ℕ) (e : b ≡ getD piece i 0) where
@@ -87,7 +88,8 @@ module _ (start : Line) (first piece out : List ℕ) (line : Line) (at i : ℕ) 
     unfolding text
     split = ap (replies line) now-left ∙ next-reply line b (drop (i + 1) piece)
 
-    pub left-more : (t : Line) (r : ℕ) (result : List ℕ) → (t ≡ after line b) × (r ≡ at + length (said line b)) × (result ≡ sets out at (said line b)) → Left start first piece result t r (i + 1)
+    pub left-more : (t : Line) (r : ℕ) (result : List ℕ) → (t ≡ after line b) × (r ≡ at + length (said line b)) × (result ≡ sets out at (said line b))
+        → Left start first piece result t r (i + 1)
     unfolding text
     left-more t r result q =
         rw (q .0, q .1, q .2)
@@ -108,24 +110,24 @@ module _ (start : Line) (first piece out : List ℕ) (line : Line) (at i : ℕ) 
       (rw d at (l .line-is), omega (arith, p), rw d at (l .holds))
 
 -- ---- the room that the replies take
-pub replies-length : (s : Line) (bs : List ℕ) → length (replies s bs) ≤ 40 * length bs
+replies-length : (s : Line) (bs : List ℕ) → length (replies s bs) ≤ reply-limit * length bs
 unfolding replies
 replies-length s [] = omega arith
 replies-length s (b ∷ bs) =
     omega (arith, replies-length (after s b) bs, said-length s b, length-append (said s b) (replies (after s b) bs))
 
-unless-length : (w : Reading) → length (unless-empty w) ≤ 40
+unless-length : (w : Reading) → length (unless-empty w) ≤ reply-limit
 unless-length (Three y m d) = reply-length (Three y m d)
-unless-length (Bad f) = either (eqb f 1) [] (reply (Bad f)) 40 (lit≤ tt) (reply-length (Bad f))
+unless-length (Bad f) = either (eqb f fault-empty) [] (reply (Bad f)) reply-limit (lit≤ tt) (reply-length (Bad f))
 
-pub last-length : (s : Line) → length (last-reply s) ≤ 40
+last-length : (s : Line) → length (last-reply s) ≤ reply-limit
 unfolding last-reply
 last-length s = unless-length (reading s)
 
-pub replies-fit : (s : Line) (bs : List ℕ) (at room : ℕ) → at ≡ length (replies s bs) → 40 * length bs ≤ room → at ≤ room
+pub replies-fit : (s : Line) (bs : List ℕ) (at room : ℕ) → at ≡ length (replies s bs) → reply-limit * length bs ≤ room → at ≤ room
 replies-fit s bs at room e h = omega (arith, replies-length s bs)
 
-pub last-fits : (s : Line) (n : ℕ) → n ≡ length (last-reply s) → n ≤ 40
+pub last-fits : (s : Line) (n : ℕ) → n ≡ length (last-reply s) → n ≤ reply-limit
 last-fits s n e = omega (arith, last-length s)
 
 pub taken : (n : ℕ) (l : List ℕ) → n ≤ length l → n ≡ length (take n l)

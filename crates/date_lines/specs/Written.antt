@@ -1,0 +1,42 @@
+-- The words of the theorems in proofs/Theorems: lines and numbers as they are written.
+use mathlib.Core.Path.{_≡_}
+use mathlib.Core.Bool.{Bool, true, false}
+use mathlib.Core.List.{List, [], _∷_}
+use Prim.Native.Nat.{ℕ, _+_, _*_, _-_, _≤_}
+use Rattle.date_lines.specs.Lines.{line-feed, minus-sign, zero-digit, nine-digit, greatest}
+
+-- Bytes without a line feed.
+abbrev pub NoFeed : List ℕ → Type 0
+NoFeed [] = Unit {0}
+NoFeed (b ∷ bs) = (b ≡ line-feed → ⊥) × NoFeed bs
+
+-- Bytes that are digits.
+abbrev pub Digits : List ℕ → Type 0
+Digits [] = Unit {0}
+Digits (b ∷ ds) = (zero-digit ≤ b) × (b ≤ nine-digit) × Digits ds
+
+-- The number that they are, after v.
+unfoldable pub value : ℕ → List ℕ → ℕ
+value v [] = v
+value v (b ∷ ds) = value (10 * v + (b - zero-digit)) ds
+
+-- A number as it is written: a minus or none, a first digit, and more; one of 64 bits.
+pub record Decimal (minus : Bool) (first : ℕ) (more : List ℕ) : Type 0 where
+  pub digits : Digits (first ∷ more)
+  pub small : value 0 (first ∷ more) ≤ greatest minus
+
+-- The bytes of a number.
+abbrev pub written : Bool → List ℕ → List ℕ
+written true ds = minus-sign ∷ ds
+written false ds = ds
+
+-- The two lines of the rules, `1582 10 4` and `1582 10 10`, each with its line feed, and their replies, `2299160` and `refused 1`.
+abbrev pub example-lines : List ℕ
+example-lines =
+    49 ∷ 53 ∷ 56 ∷ 50 ∷ 32 ∷ 49 ∷ 48 ∷ 32 ∷ 52 ∷ 10
+    ∷ 49 ∷ 53 ∷ 56 ∷ 50 ∷ 32 ∷ 49 ∷ 48 ∷ 32 ∷ 49 ∷ 48 ∷ 10 ∷ []
+
+abbrev pub example-replies : List ℕ
+example-replies =
+    50 ∷ 50 ∷ 57 ∷ 57 ∷ 49 ∷ 54 ∷ 48 ∷ 10
+    ∷ 114 ∷ 101 ∷ 102 ∷ 117 ∷ 115 ∷ 101 ∷ 100 ∷ 32 ∷ 49 ∷ 10 ∷ []
