@@ -6,13 +6,13 @@ ghost use Prim.Native.Nat.{_≤_};
 use arith::signed::natural_or;
 use arith::signed::wide;
 use calendar::InstantAnswer;
-use sunlist::ListAnswer;
-use units::Instant;
 use command_line::Contents;
 use command_line::Figure;
 use command_line::explain;
 use command_line::number_argument;
 use command_line::read_file;
+use sunlist::ListAnswer;
+use units::Instant;
 
 // A number below a hundred as two digits.
 fn two_digits(n: u64) {

@@ -3,11 +3,9 @@ ghost use mathlib.Core.Path.{_≡_};
 ghost use Prim.Native.Nat.{_≤_, _^_};
 ghost use lib.IntN.{natAbs};
 ghost use Rattle.place.specs.Mount.{degrees as degrees-of, astronomical-units, mount-place};
-ghost use Rattle.units.specs.Refusals.{number};
 ghost use Rattle.place.specs.machine.Sizes.{Small};
 use crate::Equatorial;
 use crate::MountPlace;
-use units::Refusal;
 
 // From hundredths of an arcsecond.
 fn degrees(k: i64) -> f64
@@ -37,25 +35,5 @@ pub fn figures(p: Equatorial) -> MountPlace
         right_ascension,
         declination,
         distance,
-    }
-}
-
-// Document 01's number of a refusal.
-pub fn number_of(r: Refusal) -> u64
-    ensures { λ n. ⌜ n ≡ number r ⌝ }
-{
-    match r {
-        Refusal::NoSuchDate(_) => 1,
-        Refusal::PastLimit(_) => 2,
-        Refusal::BadByte(_) => 3,
-        Refusal::OverLimit(_) => 4,
-        Refusal::TotalOverLimit(_) => 5,
-        Refusal::TooCoarse(_) => 6,
-        Refusal::NoRoom(_) => 7,
-        Refusal::EndedEarly(_) => 8,
-        Refusal::ByteAfterEnd(_) => 9,
-        Refusal::NotShortest(_) => 10,
-        Refusal::NotUsable(_) => 11,
-        Refusal::BadWindow => 12,
     }
 }

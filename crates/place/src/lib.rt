@@ -9,7 +9,6 @@ mod steps;
 
 use crate::bodies::sighting;
 use crate::doubles::figures;
-use crate::doubles::number_of;
 use crate::steps::apparent;
 use crate::steps::equatorial;
 use units::Instant;
@@ -89,7 +88,7 @@ pub fn mount_place(planet: &[u8], earth: &[u8], t: Instant) -> Mount
 {
     let p = apparent_place(planet, earth, t);
     match p {
-        PlaceAnswer::NoPlace(r) => Mount::Refused(number_of(r)),
+        PlaceAnswer::NoPlace(r) => Mount::Refused(r.number()),
         PlaceAnswer::Place(e) => Mount::At(figures(e)),
     }
 }

@@ -11,16 +11,16 @@ use arith::signed::natural_or;
 use arith::signed::wide;
 use calendar::InstantAnswer;
 use calendar::instant_of_date;
-use place::Equatorial;
-use place::PlaceAnswer;
-use place::apparent_place;
-use units::Instant;
 use command_line::Contents;
 use command_line::Figure;
 use command_line::explain;
 use command_line::number_argument;
 use command_line::print_signed;
 use command_line::read_file;
+use place::Equatorial;
+use place::PlaceAnswer;
+use place::apparent_place;
+use units::Instant;
 
 // A number with a decimal point: n over unit, which is a power of ten.
 fn print_decimals(below: bool, n: u64, unit: u64)

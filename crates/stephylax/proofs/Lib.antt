@@ -1,3 +1,2 @@
--- The marked figures of document 01, and the laws of the flattened answers.
+-- The marked cases of the rules are right.
 pub mod Figures
-mod Flat

@@ -1,2 +1,2 @@
--- The C interface: what each function answers.
-pub mod Answers
+-- The marked cases of the rules. What the functions of the C interface answer is in the crate answers.
+pub mod Marked

@@ -10,25 +10,23 @@ ghost use Rattle.printer.specs.Printer.{printed, printed-out};
 ghost use Rattle.series.specs.Sums.{coordinates-answer};
 ghost use Rattle.sunlist.specs.SunList.{sun-list, sun-list-out};
 ghost use Rattle.text.specs.Reader.{begun, run, ended, told, whole};
-ghost use Rattle.stephylax.specs.Answers.{day-shown, date-shown, instant-shown, moment-shown, checked-shown, text-shown, printed-shown, list-shown, coordinates-shown, place-shown, mount-shown};
-
-mod answers;
-
-use crate::answers::Doubles;
-use crate::answers::Moment;
-use crate::answers::One;
-use crate::answers::Three;
-use crate::answers::of_checked;
-use crate::answers::of_coordinates;
-use crate::answers::of_date;
-use crate::answers::of_day;
-use crate::answers::of_instant;
-use crate::answers::of_list;
-use crate::answers::of_moment;
-use crate::answers::of_mount;
-use crate::answers::of_place;
-use crate::answers::of_printed;
-use crate::answers::of_text;
+ghost use Rattle.answers.specs.Answers.{day-shown, date-shown, instant-shown, moment-shown, checked-shown, text-shown};
+ghost use Rattle.answers.specs.Answers.{printed-shown, list-shown, coordinates-shown, place-shown, mount-shown};
+use answers::Doubles;
+use answers::Moment;
+use answers::One;
+use answers::Three;
+use answers::of_checked;
+use answers::of_coordinates;
+use answers::of_date;
+use answers::of_day;
+use answers::of_instant;
+use answers::of_list;
+use answers::of_moment;
+use answers::of_mount;
+use answers::of_place;
+use answers::of_printed;
+use answers::of_text;
 use text::Reader;
 use units::Instant;
 
@@ -63,7 +61,8 @@ pub extern "C" fn stephylax_date_of_instant(t: i64) -> Moment
 // The whole text in one call, then its end.
 #[no_mangle]
 pub extern "C" fn stephylax_read_text(text: &[u8], packed: &mut [u8]) -> One
-    ensures { λ r. ⌜ (r ≡ text-shown (told (whole (now (text .entry)) (now (packed .entry)) .reader))) × (now (packed .exit) ≡ whole (now (text .entry)) (now (packed .entry)) .out) ⌝ }
+    ensures { λ r. ⌜ (r ≡ text-shown (told (whole (now (text .entry)) (now (packed .entry)) .reader)))
+        × (now (packed .exit) ≡ whole (now (text .entry)) (now (packed .entry)) .out) ⌝ }
 {
     of_text(text::read(text, packed))
 }
@@ -77,7 +76,8 @@ pub extern "C" fn stephylax_text_start() -> Reader
 
 #[no_mangle]
 pub extern "C" fn stephylax_text_piece(state: Reader, text: &[u8], packed: &mut [u8]) -> Reader
-    ensures { λ r. ⌜ (r ≡ run state (now (packed .entry)) (now (text .entry)) .reader) × (now (packed .exit) ≡ run state (now (packed .entry)) (now (text .entry)) .out) ⌝ }
+    ensures { λ r. ⌜ (r ≡ run state (now (packed .entry)) (now (text .entry)) .reader)
+        × (now (packed .exit) ≡ run state (now (packed .entry)) (now (text .entry)) .out) ⌝ }
 {
     text::piece(state, text, packed)
 }
@@ -105,7 +105,8 @@ pub extern "C" fn stephylax_check(packed: &[u8]) -> One
 
 #[no_mangle]
 pub extern "C" fn stephylax_print(packed: &[u8], text: &mut [u8]) -> One
-    ensures { λ r. ⌜ (r ≡ printed-shown (printed (parse (now (packed .entry))) (now (text .entry)))) × (now (text .exit) ≡ printed-out (parse (now (packed .entry))) (now (text .entry))) ⌝ }
+    ensures { λ r. ⌜ (r ≡ printed-shown (printed (parse (now (packed .entry))) (now (text .entry))))
+        × (now (text .exit) ≡ printed-out (parse (now (packed .entry))) (now (text .entry))) ⌝ }
 {
     of_printed(printer::print(packed, text))
 }
@@ -140,7 +141,10 @@ pub extern "C" fn stephylax_sun_list(
     keep_out: i64,
     runs: &mut [u64],
 ) -> One
-    ensures { λ r. ⌜ (r ≡ list-shown (sun-list (now (planet .entry)) (now (earth .entry)) (record { ms = t0 }) minutes «keep_out» (length (now (runs .entry))))) × (now (runs .exit) ≡ sun-list-out (now (planet .entry)) (now (earth .entry)) (record { ms = t0 }) minutes «keep_out» (now (runs .entry))) ⌝ }
+    ensures { λ r. ⌜ (r ≡ list-shown
+        (sun-list (now (planet .entry)) (now (earth .entry)) (record { ms = t0 }) minutes «keep_out» (length (now (runs .entry)))))
+        × (now (runs .exit)
+        ≡ sun-list-out (now (planet .entry)) (now (earth .entry)) (record { ms = t0 }) minutes «keep_out» (now (runs .entry))) ⌝ }
 {
     of_list(sunlist::sun_list(planet, earth, Instant { ms: t0 }, minutes, keep_out, runs))
 }

@@ -1,3 +1,3 @@
--- Document 01: "Units and rounding" (the constants) and "Refusals" (number and figure of each).
+-- The constants of the rules, and the number and the figure of each refusal.
 pub mod Units
 pub mod Refusals

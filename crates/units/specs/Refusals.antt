@@ -1,10 +1,13 @@
--- Document 01, "Refusals and what they leave": the number of each refusal and the figure that comes with it.
+-- RULES, "Refusals and what they leave": the number of each refusal and the figure that comes with it.
 use Prim.Native.Nat.{ℕ}
 use lib.IntN.{ℤ, pos}
+use Rattle.units.specs.declared.Figure.{Figure}
+use Rattle.units.specs.declared.Figure.the-variants.{Count, Time}
 use Rattle.units.specs.declared.Refusal.{Refusal}
-use Rattle.units.specs.declared.Refusal.the-variants.{NoSuchDate, PastLimit, BadByte, OverLimit, TotalOverLimit, TooCoarse, NoRoom, EndedEarly, ByteAfterEnd, NotShortest, NotUsable, BadWindow}
+use Rattle.units.specs.declared.Refusal.the-variants.{NoSuchDate, PastLimit, BadByte, OverLimit, TotalOverLimit, TooCoarse}
+use Rattle.units.specs.declared.Refusal.the-variants.{NoRoom, EndedEarly, ByteAfterEnd, NotShortest, NotUsable, BadWindow}
 
-unfoldable pub number : Refusal → ℕ
+abbrev pub number : Refusal → ℕ
 number (NoSuchDate field) = 1
 number (PastLimit t) = 2
 number (BadByte at) = 3
@@ -18,7 +21,7 @@ number (NotShortest at) = 10
 number (NotUsable minute) = 11
 number BadWindow = 12
 
-unfoldable pub figure : Refusal → ℤ
+abbrev pub figure : Refusal → ℤ
 figure (NoSuchDate field) = pos field
 figure (PastLimit t) = t .ms
 figure (BadByte at) = pos at
@@ -31,3 +34,8 @@ figure (ByteAfterEnd at) = pos at
 figure (NotShortest at) = pos at
 figure (NotUsable minute) = pos minute
 figure BadWindow = pos 0
+
+-- A figure of the code as a whole number; the instant of refusal 2 may be negative.
+abbrev pub whole : Figure → ℤ
+whole (Count n) = pos n
+whole (Time t) = t .ms

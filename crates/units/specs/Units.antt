@@ -1,4 +1,4 @@
--- Document 01, "Units and rounding". Each constant is named once, here.
+-- RULES, "Units and rounding": each constant by its name. src/lib.rt has the same names.
 use Prim.Native.Nat.{ℕ, _*_}
 use mathlib.Core.Bool.{Bool}
 use lib.IntN.{ℤ, natAbs}
@@ -8,7 +8,7 @@ use lib.Dec.{leb}
 abbrev pub U : ℕ
 U = 1000000000
 
--- Parts ("10^-11 radian or AU") in a radian or an AU.
+-- Parts (10^-11 radian or AU) in a radian or an AU.
 abbrev pub parts : ℕ
 parts = 100000000000
 
@@ -34,16 +34,13 @@ quarter = 15707963267949
 abbrev pub turn : ℕ
 turn = 4 * quarter
 
-abbrev pub angle-scale : ℕ
-angle-scale = 10000000000000
-
 abbrev pub angle-per-part : ℕ
 angle-per-part = 100
 
 abbrev pub angle-step : ℕ
 angle-step = 10000
 
--- "Series": the limits of a term a, b, c, in parts: |a| below 100,000; b from 0, below 10; |c| below 1,000,000.
+-- RULES, "Series, as text and packed": what |a|, b and |c| of a term stay below, in parts.
 abbrev pub a-limit : ℕ
 a-limit = 100000 * parts
 
@@ -70,8 +67,8 @@ powers = 6
 abbrev pub block-count : ℕ
 block-count = 3 * powers
 
--- "Not too coarse": a term that is not constant counts 14|a| + 10^9, times 2^i in power i; 32*10^9 is added once to a
--- coordinate, and the sum is at most 2*10^14.
+-- The coarseness of a coordinate: a term that is not constant weighs `coarse-share` for each part of |a| and U, doubled with each power;
+-- a coordinate begins with `coarse-base`, and the sum is at most `coarse-limit`.
 abbrev pub coarse-share : ℕ
 coarse-share = 14
 

@@ -1,4 +1,7 @@
-// What every crate above shares: the constants of document 01, the instant, the coordinates of a body, and the refusals.
+// What every crate above shares: the constants of the rules, the instant, the coordinates of a body, and the refusals.
+ghost use mathlib.Core.Path.{_≡_};
+ghost use Rattle.units.specs.Units.{in-limit};
+ghost use Rattle.units.specs.Refusals.{number, figure, whole};
 
 // specs/Units.antt has the same constants under the same names.
 
@@ -8,39 +11,75 @@ pub const U: u64 = 1000000000;
 // Parts (10^-11 radian or AU) in a radian or an AU.
 pub const PARTS: u64 = 100000000000;
 
-// T in milliseconds, and the greatest |tau| and |t|.
+// T, a millennium in milliseconds.
 pub const MILLENNIUM: u64 = 31557600000000;
+
+// The greatest |tau|.
 pub const TAU_LIMIT: u64 = 2;
+
+// The greatest |t|, in milliseconds.
 pub const T_LIMIT: u64 = TAU_LIMIT * MILLENNIUM;
 
-// The quarter and the turn in 10^-13 radian, how many of these a part has, and the step to the working angle w.
+// A quarter turn, in 10^-13 radian.
 pub const QUARTER: u64 = 15707963267949;
+
+// A whole turn, likewise.
 pub const TURN: u64 = 4 * QUARTER;
+
+// How many 10^-13 radian a part has.
 pub const ANGLE_PER_PART: u64 = 100;
+
+// The step from an angle to the working angle w.
 pub const ANGLE_STEP: u64 = 10000;
 
 // The limits of a term's a, b and c, in parts.
 pub const A_LIMIT: u64 = 100000 * PARTS;
+
 pub const B_LIMIT: u64 = 10 * PARTS;
+
 pub const C_LIMIT: u64 = 1000000 * PARTS;
 
-// The terms of a block and of a series, and the total |a| of a block: at most so many.
+// The most terms that a block has.
 pub const BLOCK_LIMIT: u64 = 4096;
+
+// The most terms that a series has.
 pub const SERIES_LIMIT: u64 = 8192;
+
+// The greatest total |a| of a block.
 pub const TOTAL_LIMIT: u64 = 100000 * PARTS;
 
-// The blocks of a coordinate, one for each power, and of a series.
+// The blocks of a coordinate, one for each power.
 pub const POWERS: u64 = 6;
+
+// The blocks of a series.
 pub const BLOCK_COUNT: u64 = 3 * POWERS;
 
 // The coarseness rule: the share of a part of |a|, what a coordinate begins with, and the limit.
 pub const COARSE_SHARE: u64 = 14;
+
 pub const COARSE_BASE: u64 = 32 * U;
+
 pub const COARSE_LIMIT: u64 = 200000000000000;
 
 // An instant of TD: whole milliseconds from 2000-01-01 12h, negative before.
 pub struct Instant {
     pub ms: i64,
+}
+
+// The last instant, in milliseconds.
+const LATEST: i64 = T_LIMIT as i64;
+
+// The first one.
+const EARLIEST: i64 = -LATEST;
+
+// Whether an instant is within its limit.
+pub fn in_limit(t: Instant) -> bool
+    ensures { λ r. ⌜ r ≡ in-limit (t .ms) ⌝ }
+{
+    if t.ms < EARLIEST {
+        return false;
+    }
+    t.ms <= LATEST
 }
 
 // L, B and R of a body at an instant, in parts (10^-11 radian or AU). A longitude keeps its whole turns.
@@ -50,7 +89,12 @@ pub struct Coordinates {
     pub radius: i64,
 }
 
-// Why a call gives no answer. specs/Refusals.antt has document 01's number and figure of each case.
+// Why a call gives no answer, in the order of its numbers. One more refusal wants, and nothing else:
+// - its case here, and an arm in `number` and in `figure` below (whose proof has a `cc` for each arm that has a figure);
+// - a line in both definitions of specs/Refusals.antt;
+// - its words, in `write_words` of the crate command_line;
+// - a line in the table of include/stephylax.h;
+// - its case in the host's enum, host/src/refusal.rs.
 pub enum Refusal {
     // 1: the first field of a date that does not exist, 1 year, 2 month, 3 day, 4 ms; 5 a day number.
     NoSuchDate(u64),
@@ -76,4 +120,50 @@ pub enum Refusal {
     NotUsable(u64),
     // 12: keep-out or minutes outside their range.
     BadWindow,
+}
+
+// What comes with a refusal: a count (of bytes, of fields, of minutes), or an instant.
+pub enum Figure {
+    Count(u64),
+    Time(Instant),
+}
+
+impl Refusal {
+    pub fn number(self) -> u64
+        ensures { λ n. ⌜ n ≡ number self ⌝ }
+    {
+        match self {
+            Refusal::NoSuchDate(_) => 1,
+            Refusal::PastLimit(_) => 2,
+            Refusal::BadByte(_) => 3,
+            Refusal::OverLimit(_) => 4,
+            Refusal::TotalOverLimit(_) => 5,
+            Refusal::TooCoarse(_) => 6,
+            Refusal::NoRoom(_) => 7,
+            Refusal::EndedEarly(_) => 8,
+            Refusal::ByteAfterEnd(_) => 9,
+            Refusal::NotShortest(_) => 10,
+            Refusal::NotUsable(_) => 11,
+            Refusal::BadWindow => 12,
+        }
+    }
+
+    pub fn figure(self) -> Figure
+        ensures { λ f. ⌜ whole f ≡ figure self ⌝ }
+    {
+        match self {
+            Refusal::NoSuchDate(field) => Figure::Count(field),
+            Refusal::PastLimit(t) => Figure::Time(t),
+            Refusal::BadByte(at) => Figure::Count(at as u64),
+            Refusal::OverLimit(at) => Figure::Count(at as u64),
+            Refusal::TotalOverLimit(at) => Figure::Count(at as u64),
+            Refusal::TooCoarse(at) => Figure::Count(at as u64),
+            Refusal::NoRoom(length) => Figure::Count(length as u64),
+            Refusal::EndedEarly(length) => Figure::Count(length as u64),
+            Refusal::ByteAfterEnd(at) => Figure::Count(at as u64),
+            Refusal::NotShortest(at) => Figure::Count(at as u64),
+            Refusal::NotUsable(minute) => Figure::Count(minute),
+            Refusal::BadWindow => Figure::Count(0),
+        }
+    }
 }

@@ -10,8 +10,8 @@ apparent-place-requires c κs = search needs
 enum-known-p : tie.Need-enum-known-p
 enum-known-p c = search needs
 
-number-of-requires : tie.Need-number-of-requires
-number-of-requires c κs = search needs
+number-requires : tie.Need-number-requires
+number-requires c κs = search needs
 
 enum-known-p-2 : tie.Need-enum-known-p-2
 enum-known-p-2 c = search needs
@@ -20,7 +20,7 @@ figures-requires : tie.Need-figures-requires
 figures-requires c κs = let g = c .before in let q = g .before .before in let s = q .before .before .before in figures-ask (s .args .planet .now) (s .args .earth .now) (s .args .t) (q .apparent-place .result) (q .apparent-place .ensures) _ (g .p2 .given .1)
 
 returns : tie.Need-returns
-returns c = let g = c .before .before in let q = g .before .before in let s = q .before .before .before in mount-refused (s .args .planet .now) (s .args .earth .now) (s .args .t) (q .apparent-place .result) (q .apparent-place .ensures) _ (c .number-of .result) (g .p .given .1) (c .number-of .ensures)
+returns c = let g = c .before .before in let q = g .before .before in let s = q .before .before .before in mount-refused (s .args .planet .now) (s .args .earth .now) (s .args .t) (q .apparent-place .result) (q .apparent-place .ensures) _ (c .number .result) (g .p .given .1) (c .number .ensures)
 
 returns-2 : tie.Need-returns-2
 returns-2 c = let g = c .before .before in let q = g .before .before in let s = q .before .before .before in mount-at (s .args .planet .now) (s .args .earth .now) (s .args .t) (q .apparent-place .result) (q .apparent-place .ensures) _ (c .figures .result) (g .p2 .given .1) (c .figures .ensures)
@@ -31,7 +31,7 @@ mount-place-spec =
     (tie.spec
     apparent-place-requires
     enum-known-p
-    number-of-requires
+    number-requires
     enum-known-p-2
     figures-requires
     returns

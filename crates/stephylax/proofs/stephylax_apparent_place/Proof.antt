@@ -1,7 +1,7 @@
 -- `stephylax::stephylax_apparent_place` meets its contract. Assumes nothing.
 use mathlib.Core.Path.{ap, _∙_}
 use Rattle.arith.proofs.Signs.{back}
-use Rattle.stephylax.specs.Answers.{place-shown}
+use Rattle.answers.specs.Answers.{place-shown}
 use borrow.Author.Needs.{needs}
 use Rattle.stephylax.proofs.stephylax_apparent_place.Statement.{statement}
 use Rattle.stephylax.proofs.stephylax_apparent_place.Tie as tie
@@ -13,7 +13,10 @@ of-place-requires : tie.Need-of-place-requires
 of-place-requires c κs = search needs
 
 returns : tie.Need-returns
-returns c = let s = c .before .before .before .before in c .of-place .ensures ∙ ap place-shown (rw (back (s .args .t) (s .fits .t)) at (c .before .apparent-place .ensures))
+returns c =
+    let s = c .before .before .before .before in
+    let a = rw (back (s .args .t) (s .fits .t)) at (c .before .apparent-place .ensures) in
+    c .of-place .ensures ∙ ap place-shown a
 
 pub stephylax-apparent-place-spec : {M : Type 1} → statement M
 stephylax-apparent-place-spec =

@@ -1,6 +1,6 @@
 -- `stephylax::stephylax_check` meets its contract. Assumes nothing.
 use mathlib.Core.Path.{ap, _∙_}
-use Rattle.stephylax.specs.Answers.{checked-shown}
+use Rattle.answers.specs.Answers.{checked-shown}
 use borrow.Author.Needs.{needs}
 use Rattle.stephylax.proofs.stephylax_check.Statement.{statement}
 use Rattle.stephylax.proofs.stephylax_check.Tie as tie

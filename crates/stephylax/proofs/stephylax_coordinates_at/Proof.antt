@@ -1,7 +1,7 @@
 -- `stephylax::stephylax_coordinates_at` meets its contract. Assumes nothing.
 use mathlib.Core.Path.{ap, _∙_}
 use Rattle.arith.proofs.Signs.{back}
-use Rattle.stephylax.specs.Answers.{coordinates-shown}
+use Rattle.answers.specs.Answers.{coordinates-shown}
 use borrow.Author.Needs.{needs}
 use Rattle.stephylax.proofs.stephylax_coordinates_at.Statement.{statement}
 use Rattle.stephylax.proofs.stephylax_coordinates_at.Tie as tie
@@ -13,7 +13,10 @@ of-coordinates-requires : tie.Need-of-coordinates-requires
 of-coordinates-requires c κs = search needs
 
 returns : tie.Need-returns
-returns c = let s = c .before .before .before in c .of-coordinates .ensures ∙ ap coordinates-shown (rw (back (s .args .t) (s .fits .t)) at (c .before .coordinates-at .ensures))
+returns c =
+    let s = c .before .before .before in
+    let a = rw (back (s .args .t) (s .fits .t)) at (c .before .coordinates-at .ensures) in
+    c .of-coordinates .ensures ∙ ap coordinates-shown a
 
 pub stephylax-coordinates-at-spec : {M : Type 1} → statement M
 stephylax-coordinates-at-spec =

@@ -1,7 +1,7 @@
 -- `stephylax::stephylax_date_of_day` meets its contract. Assumes nothing.
 use mathlib.Core.Path.{ap, _∙_}
 use Rattle.arith.proofs.Signs.{back}
-use Rattle.stephylax.specs.Answers.{date-shown}
+use Rattle.answers.specs.Answers.{date-shown}
 use borrow.Author.Needs.{needs}
 use Rattle.stephylax.proofs.stephylax_date_of_day.Statement.{statement}
 use Rattle.stephylax.proofs.stephylax_date_of_day.Tie as tie
@@ -13,7 +13,10 @@ of-date-requires : tie.Need-of-date-requires
 of-date-requires c κs = search needs
 
 returns : tie.Need-returns
-returns c = let s = c .before .before in c .of-date .ensures ∙ ap date-shown (rw (back (s .args .number) (s .fits .number)) at (c .before .date-of-day .ensures))
+returns c =
+    let s = c .before .before in
+    let a = rw (back (s .args .number) (s .fits .number)) at (c .before .date-of-day .ensures) in
+    c .of-date .ensures ∙ ap date-shown a
 
 pub stephylax-date-of-day-spec : {M : Type 1} → statement M
 stephylax-date-of-day-spec = tie.close (tie.spec date-of-day-requires of-date-requires returns)

@@ -1,7 +1,7 @@
 -- `stephylax::stephylax_date_of_instant` meets its contract. Assumes nothing.
 use mathlib.Core.Path.{ap, _∙_}
 use Rattle.arith.proofs.Signs.{back}
-use Rattle.stephylax.specs.Answers.{moment-shown}
+use Rattle.answers.specs.Answers.{moment-shown}
 use borrow.Author.Needs.{needs}
 use Rattle.stephylax.proofs.stephylax_date_of_instant.Statement.{statement}
 use Rattle.stephylax.proofs.stephylax_date_of_instant.Tie as tie
@@ -13,7 +13,10 @@ of-moment-requires : tie.Need-of-moment-requires
 of-moment-requires c κs = search needs
 
 returns : tie.Need-returns
-returns c = let s = c .before .before in c .of-moment .ensures ∙ ap moment-shown (rw (back (s .args .t) (s .fits .t)) at (c .before .date-of-instant .ensures))
+returns c =
+    let s = c .before .before in
+    let a = rw (back (s .args .t) (s .fits .t)) at (c .before .date-of-instant .ensures) in
+    c .of-moment .ensures ∙ ap moment-shown a
 
 pub stephylax-date-of-instant-spec : {M : Type 1} → statement M
 stephylax-date-of-instant-spec =

@@ -1,6 +1,6 @@
 -- `stephylax::stephylax_print` meets its contract. Assumes nothing.
 use mathlib.Core.Path.{ap, _∙_}
-use Rattle.stephylax.specs.Answers.{printed-shown}
+use Rattle.answers.specs.Answers.{printed-shown}
 use borrow.Author.Needs.{needs}
 use Rattle.stephylax.proofs.stephylax_print.Statement.{statement}
 use Rattle.stephylax.proofs.stephylax_print.Tie as tie

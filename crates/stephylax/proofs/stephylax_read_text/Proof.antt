@@ -1,6 +1,6 @@
 -- `stephylax::stephylax_read_text` meets its contract. Assumes nothing.
 use mathlib.Core.Path.{ap, _∙_}
-use Rattle.stephylax.specs.Answers.{text-shown}
+use Rattle.answers.specs.Answers.{text-shown}
 use borrow.Author.Needs.{needs}
 use Rattle.stephylax.proofs.stephylax_read_text.Statement.{statement}
 use Rattle.stephylax.proofs.stephylax_read_text.Tie as tie

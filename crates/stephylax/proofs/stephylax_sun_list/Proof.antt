@@ -1,7 +1,7 @@
 -- `stephylax::stephylax_sun_list` meets its contract. Assumes nothing.
 use mathlib.Core.Path.{ap, _∙_}
 use Rattle.arith.proofs.Signs.{back}
-use Rattle.stephylax.specs.Answers.{list-shown}
+use Rattle.answers.specs.Answers.{list-shown}
 use borrow.Author.Needs.{needs}
 use Rattle.stephylax.proofs.stephylax_sun_list.Statement.{statement}
 use Rattle.stephylax.proofs.stephylax_sun_list.Tie as tie
@@ -16,7 +16,14 @@ same-length : tie.Need-same-length
 same-length c = search needs
 
 returns : tie.Need-returns
-returns c = let s = c .before .before .before .before .before .before .before .before in let r = rw (back (s .args .t0) (s .fits .t0), back (s .args .minutes) (s .fits .minutes), back (s .args .keep-out) (s .fits .keep-out)) at (c .before .before .before .sun-list .ensures) in (c .of-list .ensures ∙ ap list-shown (r .0), r .1)
+returns c =
+    let s = c .before .before .before .before .before .before .before .before in
+    let r = rw (
+      back (s .args .t0) (s .fits .t0),
+      back (s .args .minutes) (s .fits .minutes),
+      back (s .args .keep-out) (s .fits .keep-out),
+    ) at (c .before .before .before .sun-list .ensures) in
+    (c .of-list .ensures ∙ ap list-shown (r .0), r .1)
 
 pub stephylax-sun-list-spec : {M : Type 1} → statement M
 stephylax-sun-list-spec = tie.close (tie.spec sun-list-requires of-list-requires same-length returns)

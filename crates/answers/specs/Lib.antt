@@ -1,0 +1,2 @@
+-- What each function of the C interface answers.
+pub mod Answers

@@ -1,0 +1,279 @@
+// Each answer of the library as C has it, in a struct of numbers: `refusal` is 0 or the refusal's number, `figure` what comes with a refusal;
+// what an answer does not use is 0. All of this is for the crate stephylax.
+ghost use mathlib.Core.Path.{_≡_};
+ghost use Rattle.units.specs.Refusals.{figure};
+ghost use Rattle.answers.specs.Answers.{clip, clipped, one-refused, one-counted, moment-refused, three-refused};
+ghost use Rattle.answers.specs.Answers.{day-shown, date-shown, instant-shown, moment-shown, checked-shown, text-shown};
+ghost use Rattle.answers.specs.Answers.{printed-shown, list-shown, coordinates-shown, place-shown, mount-shown};
+use calendar::DateAnswer;
+use calendar::DayAnswer;
+use calendar::InstantAnswer;
+use calendar::MomentAnswer;
+use packed::Checked;
+use place::Mount;
+use place::PlaceAnswer;
+use printer::Printed;
+use series::CoordinatesAnswer;
+use sunlist::ListAnswer;
+use text::Outcome;
+use units::Figure;
+use units::Refusal;
+
+// stephylax_day, _instant, _written and _checked: one number.
+#[repr(C)]
+pub struct One {
+    pub refusal: u64,
+    pub figure: i64,
+    pub value: i64,
+}
+
+// stephylax_date.
+#[repr(C)]
+pub struct Moment {
+    pub refusal: u64,
+    pub figure: i64,
+    pub year: i64,
+    pub month: i64,
+    pub day: i64,
+    pub ms: i64,
+}
+
+// stephylax_coordinates and stephylax_place.
+#[repr(C)]
+pub struct Three {
+    pub refusal: u64,
+    pub figure: i64,
+    pub first: i64,
+    pub second: i64,
+    pub third: i64,
+}
+
+// stephylax_mount.
+#[repr(C)]
+pub struct Doubles {
+    pub refusal: u64,
+    pub first: f64,
+    pub second: f64,
+    pub third: f64,
+}
+
+// The greatest signed number.
+const GREATEST: u64 = i64::MAX as u64;
+
+// A number as a signed one; past the greatest, which no memory counts to, the greatest.
+fn clip(n: u64) -> i64
+    ensures { λ r. ⌜ r ≡ clip n ⌝ }
+{
+    if n <= GREATEST {
+        return n as i64;
+    }
+    i64::MAX
+}
+
+// The figure of a refusal.
+fn clipped_figure(r: Refusal) -> i64
+    ensures { λ z. ⌜ z ≡ clipped (figure r) ⌝ }
+{
+    let f = r.figure();
+    match f {
+        Figure::Count(n) => clip(n),
+        Figure::Time(t) => t.ms,
+    }
+}
+
+fn refused_one(r: Refusal) -> One
+    ensures { λ o. ⌜ o ≡ one-refused r ⌝ }
+{
+    let refusal = r.number();
+    let figure = clipped_figure(r);
+    One {
+        refusal,
+        figure,
+        value: 0,
+    }
+}
+
+// A count or a length.
+fn counted(n: u64) -> One
+    ensures { λ o. ⌜ o ≡ one-counted n ⌝ }
+{
+    let value = clip(n);
+    One {
+        refusal: 0,
+        figure: 0,
+        value,
+    }
+}
+
+fn refused_moment(r: Refusal) -> Moment
+    ensures { λ m. ⌜ m ≡ moment-refused r ⌝ }
+{
+    let refusal = r.number();
+    let figure = clipped_figure(r);
+    Moment {
+        refusal,
+        figure,
+        year: 0,
+        month: 0,
+        day: 0,
+        ms: 0,
+    }
+}
+
+fn refused_three(r: Refusal) -> Three
+    ensures { λ t. ⌜ t ≡ three-refused r ⌝ }
+{
+    let refusal = r.number();
+    let figure = clipped_figure(r);
+    Three {
+        refusal,
+        figure,
+        first: 0,
+        second: 0,
+        third: 0,
+    }
+}
+
+pub fn of_day(a: DayAnswer) -> One
+    ensures { λ r. ⌜ r ≡ day-shown a ⌝ }
+{
+    match a {
+        DayAnswer::Day(n) => One {
+            refusal: 0,
+            figure: 0,
+            value: n,
+        },
+        DayAnswer::NoDay(r) => refused_one(r),
+    }
+}
+
+pub fn of_date(a: DateAnswer) -> Moment
+    ensures { λ m. ⌜ m ≡ date-shown a ⌝ }
+{
+    match a {
+        DateAnswer::On(d) => Moment {
+            refusal: 0,
+            figure: 0,
+            year: d.year,
+            month: d.month,
+            day: d.day,
+            ms: 0,
+        },
+        DateAnswer::NoDate(r) => refused_moment(r),
+    }
+}
+
+pub fn of_instant(a: InstantAnswer) -> One
+    ensures { λ r. ⌜ r ≡ instant-shown a ⌝ }
+{
+    match a {
+        InstantAnswer::At(t) => One {
+            refusal: 0,
+            figure: 0,
+            value: t.ms,
+        },
+        InstantAnswer::NoInstant(r) => refused_one(r),
+    }
+}
+
+pub fn of_moment(a: MomentAnswer) -> Moment
+    ensures { λ m. ⌜ m ≡ moment-shown a ⌝ }
+{
+    match a {
+        MomentAnswer::Moment(d, ms) => Moment {
+            refusal: 0,
+            figure: 0,
+            year: d.year,
+            month: d.month,
+            day: d.day,
+            ms,
+        },
+        MomentAnswer::NoMoment(r) => refused_moment(r),
+    }
+}
+
+pub fn of_checked(a: Checked) -> One
+    ensures { λ r. ⌜ r ≡ checked-shown a ⌝ }
+{
+    match a {
+        Checked::Terms(n) => counted(n),
+        Checked::NoSeries(r) => refused_one(r),
+    }
+}
+
+pub fn of_text(a: Outcome) -> One
+    ensures { λ r. ⌜ r ≡ text-shown a ⌝ }
+{
+    match a {
+        Outcome::More(n) => counted(n as u64),
+        Outcome::Accepted(n) => counted(n as u64),
+        Outcome::Refused(r) => refused_one(r),
+    }
+}
+
+pub fn of_printed(a: Printed) -> One
+    ensures { λ r. ⌜ r ≡ printed-shown a ⌝ }
+{
+    match a {
+        Printed::Length(n) => counted(n as u64),
+        Printed::NoText(r) => refused_one(r),
+    }
+}
+
+pub fn of_list(a: ListAnswer) -> One
+    ensures { λ r. ⌜ r ≡ list-shown a ⌝ }
+{
+    match a {
+        ListAnswer::Runs(n) => counted(n),
+        ListAnswer::NoList(r) => refused_one(r),
+    }
+}
+
+pub fn of_coordinates(a: CoordinatesAnswer) -> Three
+    ensures { λ t. ⌜ t ≡ coordinates-shown a ⌝ }
+{
+    match a {
+        CoordinatesAnswer::At(c) => Three {
+            refusal: 0,
+            figure: 0,
+            first: c.longitude,
+            second: c.latitude,
+            third: c.radius,
+        },
+        CoordinatesAnswer::NoCoordinates(r) => refused_three(r),
+    }
+}
+
+pub fn of_place(a: PlaceAnswer) -> Three
+    ensures { λ t. ⌜ t ≡ place-shown a ⌝ }
+{
+    match a {
+        PlaceAnswer::Place(p) => Three {
+            refusal: 0,
+            figure: 0,
+            first: p.right_ascension,
+            second: p.declination,
+            third: p.distance,
+        },
+        PlaceAnswer::NoPlace(r) => refused_three(r),
+    }
+}
+
+pub fn of_mount(a: Mount) -> Doubles
+    ensures { λ d. ⌜ d ≡ mount-shown a ⌝ }
+{
+    match a {
+        Mount::At(p) => Doubles {
+            refusal: 0,
+            first: p.right_ascension,
+            second: p.declination,
+            third: p.distance,
+        },
+        Mount::Refused(number) => Doubles {
+            refusal: number,
+            first: 0.0,
+            second: 0.0,
+            third: 0.0,
+        },
+    }
+}
