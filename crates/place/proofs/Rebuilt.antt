@@ -28,7 +28,7 @@ use Rattle.nutation.specs.Nutation.{nutation-angle, obliquity-angle}
 use Rattle.place.specs.declared.Apparent.{Apparent}
 use Rattle.place.specs.declared.Equatorial.{Equatorial}
 use Rattle.place.specs.Apparent.{rebuilt, turned, apparent, equatorial}
-use Rattle.place.specs.machine.Sizes.{reach, length-reach, equator-reach}
+use Rattle.place.specs.machine.Reach.{reach, length-reach, equator-reach}
 use Rattle.place.proofs.Turned.{turned-size}
 
 -- ---- the range of a direction and of a latitude

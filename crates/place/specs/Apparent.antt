@@ -1,25 +1,17 @@
 -- Document 01, "Places": the geocentric vector and D of usable places, the light time, and the vector turned to the true equator.
-use mathlib.Core.Bool.{cond}
 use Prim.Native.Nat.{ℕ}
 use lib.IntN.{ℤ, pos, _+ℤ_, _-ℤ_, _*ℤ_}
 use Rattle.integers.specs.Division.{rounded}
 use Rattle.units.specs.Units.{U}
 use Rattle.units.specs.declared.Instant.{Instant}
-use Rattle.units.specs.declared.Coordinates.{Coordinates}
 use Rattle.cosine.specs.Cosine.{cosine, sine}
 use Rattle.rectangular.specs.declared.Vector.{Vector}
-use Rattle.rectangular.specs.Vectors.{geocentric, length}
-use Rattle.rectangular.specs.Rectangular.{rectangular, place, distance, places-usable}
+use Rattle.rectangular.specs.Vectors.{length}
+use Rattle.rectangular.specs.Rectangular.{rectangular}
 use Rattle.direction.specs.Direction.{steps-angle, direction, latitude}
 use Rattle.nutation.specs.Nutation.{nutation-angle, obliquity-angle}
-use Rattle.place.specs.declared.Sight.{Sight}
-use Rattle.place.specs.declared.Sight.the-variants.{Usable, Unusable}
 use Rattle.place.specs.declared.Apparent.{Apparent}
 use Rattle.place.specs.declared.Equatorial.{Equatorial}
-
--- Planet and Earth at one instant: the geocentric vector and D, where they are usable.
-unfoldable pub sight : Coordinates → Coordinates → Sight
-sight planet earth = cond (places-usable planet earth) (Usable (record { vector = geocentric (place planet) (place earth); distance = distance planet earth })) Unusable
 
 -- "Light time in ms: rounded 499,004,781,984 D/10^17."
 unfoldable pub light-time : ℕ → ℤ

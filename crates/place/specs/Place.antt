@@ -8,13 +8,14 @@ use Rattle.units.specs.declared.Refusal.the-variants.{PastLimit, NotUsable}
 use Rattle.limits.specs.declared.Term.{Term}
 use Rattle.packed.specs.Series.{Parsed, accepted, refused, parse}
 use Rattle.series.specs.Sums.{coordinates}
-use Rattle.place.specs.declared.Sight.{Sight}
-use Rattle.place.specs.declared.Sight.the-variants.{Usable, Unusable}
+use Rattle.rectangular.specs.declared.Sight.{Sight}
+use Rattle.rectangular.specs.declared.Sight.the-variants.{Usable, Unusable}
+use Rattle.rectangular.specs.Sight.{sight}
 use Rattle.place.specs.declared.Sighting.{Sighting}
 use Rattle.place.specs.declared.Sighting.the-variants.{Seen, NoSight}
 use Rattle.place.specs.declared.PlaceAnswer.{PlaceAnswer}
 use Rattle.place.specs.declared.PlaceAnswer.the-variants.{Place, NoPlace}
-use Rattle.place.specs.Apparent.{sight, earlier, apparent, equatorial}
+use Rattle.place.specs.Apparent.{earlier, apparent, equatorial}
 
 -- Both bodies at an instant.
 unfoldable pub sight-at : (planet earth : List (List Term)) → Instant → Sight

@@ -4,7 +4,7 @@ ghost use Prim.Native.Nat.{_≤_, _^_};
 ghost use lib.IntN.{natAbs};
 ghost use Rattle.place.specs.Mount.{degrees as degrees-of, astronomical-units, mount-place};
 ghost use Rattle.units.specs.Refusals.{number};
-ghost use Rattle.place.specs.machine.Sizes.{Small};
+ghost use Rattle.place.specs.machine.Reach.{Small};
 use crate::Equatorial;
 use crate::MountPlace;
 use units::Refusal;

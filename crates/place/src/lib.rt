@@ -12,20 +12,14 @@ use crate::doubles::figures;
 use crate::doubles::number_of;
 use crate::steps::apparent;
 use crate::steps::equatorial;
+use rectangular::Vector;
 use units::Instant;
 use units::Refusal;
-use rectangular::Vector;
 
 // The geocentric vector of a planet, in parts, and its length D.
 pub struct Geocentric {
     pub vector: Vector,
     pub distance: u64,
-}
-
-// Planet and Earth at one instant: usable or not.
-pub enum Sight {
-    Usable(Geocentric),
-    Unusable,
 }
 
 // What is seen at t: the geocentric vector at t less the light time, with D at t; or the refusal.

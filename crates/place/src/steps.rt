@@ -4,12 +4,10 @@ ghost use Prim.Native.Nat.{_<_, _≤_, _^_};
 ghost use lib.IntN.{pos, natAbs};
 ghost use Rattle.rectangular.specs.machine.Components.{Components};
 ghost use Rattle.units.specs.Units.{t-limit};
-ghost use Rattle.place.specs.Apparent.{sight as sight-of, light-time, earlier as earlier-of, rebuilt, turned, apparent as apparent-of, equatorial as equatorial-of};
-ghost use Rattle.place.specs.machine.Sizes.{reach, equator-reach};
+ghost use Rattle.place.specs.Apparent.{light-time, earlier as earlier-of, rebuilt, turned, apparent as apparent-of, equatorial as equatorial-of};
+ghost use Rattle.place.specs.machine.Reach.{reach, equator-reach};
 use crate::Apparent;
 use crate::Equatorial;
-use crate::Geocentric;
-use crate::Sight;
 use arith::muldiv::mul_div_round_wide;
 use arith::muldiv::scale;
 use arith::residue::residue;
@@ -21,35 +19,10 @@ use direction::direction_of;
 use direction::latitude_of;
 use direction::units_angle;
 use nutation::angles_at;
-use units::Coordinates;
-use units::Instant;
 use rectangular::Vector;
 use rectangular::from_angles;
-use rectangular::geocentric;
 use rectangular::length;
-use rectangular::place;
-use rectangular::usable_distance;
-use rectangular::usable_radius;
-
-// Both R are tested before the vectors are worked.
-pub fn sight(planet: Coordinates, earth: Coordinates) -> Sight
-    ensures { λ r. ⌜ r ≡ sight-of planet earth ⌝ }
-{
-    if !usable_radius(planet.radius) {
-        return Sight::Unusable;
-    }
-    if !usable_radius(earth.radius) {
-        return Sight::Unusable;
-    }
-    let e = place(earth);
-    let p = place(planet);
-    let vector = geocentric(p, e);
-    let distance = length(vector);
-    if !usable_distance(planet.radius, earth.radius, distance) {
-        return Sight::Unusable;
-    }
-    Sight::Usable(Geocentric { vector, distance })
-}
+use units::Instant;
 
 // The light time of a distance, in ms.
 fn light(distance: u64) -> i64

@@ -1,6 +1,6 @@
 -- `place::steps::equatorial` meets its contract. Assumes nothing.
 use lib.Dec.{lit<}
-use Rattle.place.specs.machine.Sizes.{equator-reach}
+use Rattle.place.specs.machine.Reach.{equator-reach}
 use Rattle.place.proofs.Rebuilt.{directions-ask, latitudes-ask, equatorial-is}
 use borrow.Author.Needs.{needs}
 use Rattle.place.proofs.steps.equatorial.Statement.{statement}

@@ -3,7 +3,7 @@ use native.Mathlib.Omega.{arith}
 use lib.Dec.{lit<}
 use Rattle.arith.proofs.Signs.{back}
 use Rattle.rectangular.proofs.Places.{smaller}
-use Rattle.place.specs.machine.Sizes.{reach, equator-reach}
+use Rattle.place.specs.machine.Reach.{reach, equator-reach}
 use Rattle.place.proofs.Rebuilt.{directions-ask, latitudes-ask, latitude-angle-asks, direction-angle-asks, sum-fits, angles-ask, rebuilt-is}
 use borrow.Author.Needs.{needs}
 use Rattle.place.proofs.steps.rebuild.Statement.{statement}
