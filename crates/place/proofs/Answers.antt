@@ -34,7 +34,8 @@ use Rattle.place.specs.Place.{sight-at, taken-again, taken, of-series, s
 use Rattle.place.specs.Mount.{mount-place, mount, mount-answer}
 use Rattle.place.specs.machine.Reach.{reach, equator-reach, Clear, Small}
 use Rattle.place.proofs.Sights.{sight-clear}
-use Rattle.place.proofs.Rebuilt.{direction-le, latitude-le, at-equator}
+use Rattle.place.proofs.Directions.{direction-le, latitude-le}
+use Rattle.place.proofs.Rebuilt.{at-equator}
 
 -- ---- what is seen is within its sizes, and so is its instant
 

@@ -9,12 +9,17 @@ use crate::Equatorial;
 use crate::MountPlace;
 use units::Refusal;
 
+// specs/Mount.antt has the same divisors as whole numbers: hundredths of an arcsecond in a degree, parts in an AU.
+const HUNDREDTHS_PER_DEGREE: f64 = 360000.0;
+
+const PARTS_PER_AU: f64 = 1e11;
+
 // From hundredths of an arcsecond.
 fn degrees(k: i64) -> f64
     requires { ⌜ natAbs k ≤ 2 ^ 52 ⌝ }
     ensures { λ r. ⌜ r ≡ degrees-of k ⌝ }
 {
-    k as f64 / 360000.0
+    k as f64 / HUNDREDTHS_PER_DEGREE
 }
 
 // From parts.
@@ -22,7 +27,7 @@ fn units_of_distance(d: i64) -> f64
     requires { ⌜ natAbs d ≤ 2 ^ 52 ⌝ }
     ensures { λ r. ⌜ r ≡ astronomical-units d ⌝ }
 {
-    d as f64 / 1e11
+    d as f64 / PARTS_PER_AU
 }
 
 // Both angles and the distance of a place.
@@ -40,7 +45,7 @@ pub fn figures(p: Equatorial) -> MountPlace
     }
 }
 
-// Document 01's number of a refusal.
+// The number of a refusal (RULES, "Refusals and what they leave").
 pub fn number_of(r: Refusal) -> u64
     ensures { λ n. ⌜ n ≡ number r ⌝ }
 {

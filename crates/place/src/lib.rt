@@ -1,4 +1,4 @@
-// The apparent equatorial place of a planet from two packed series, and the mount's answer: document 01, "Places".
+// The apparent equatorial place of a planet from two packed series, and the mount's answer: RULES, "Places".
 ghost use mathlib.Core.Path.{_≡_};
 ghost use Rattle.place.specs.Place.{place-answer};
 ghost use Rattle.place.specs.Mount.{mount-answer};
