@@ -20,8 +20,9 @@ use Rattle.nutation.specs.Nutation.{nutation-angle, obliquity-angle}
 use Rattle.place.specs.declared.Apparent.{Apparent}
 use Rattle.place.specs.declared.Equatorial.{Equatorial}
 use Rattle.place.specs.declared.Geocentric.{Geocentric}
-use Rattle.place.specs.declared.Sight.{Sight}
-use Rattle.place.specs.declared.Sight.the-variants.{Usable, Unusable}
+use Rattle.rectangular.specs.declared.View.{View}
+use Rattle.rectangular.specs.declared.Sight.{Sight}
+use Rattle.rectangular.specs.declared.Sight.the-variants.{Usable, Unusable}
 use Rattle.place.specs.declared.Sighting.{Sighting}
 use Rattle.place.specs.declared.Sighting.the-variants.{Seen, NoSight}
 use Rattle.place.specs.declared.MountPlace.{MountPlace}
@@ -31,9 +32,10 @@ use Rattle.place.specs.declared.PlaceAnswer.the-variants.{Place, NoPlace
 use Rattle.place.specs.Apparent.{earlier, apparent, equatorial}
 use Rattle.place.specs.Place.{sight-at, taken-again, taken, of-series, sighting, of-sighting, place-answer}
 use Rattle.place.specs.Mount.{mount-place, mount, mount-answer}
-use Rattle.place.specs.machine.Sizes.{reach, equator-reach, Clear, Small}
+use Rattle.place.specs.machine.Reach.{reach, equator-reach, Clear, Small}
 use Rattle.place.proofs.Sights.{sight-clear}
-use Rattle.place.proofs.Rebuilt.{direction-le, latitude-le, at-equator}
+use Rattle.place.proofs.Directions.{direction-le, latitude-le}
+use Rattle.place.proofs.Rebuilt.{at-equator}
 
 -- ---- what is seen is within its sizes, and so is its instant
 
@@ -43,34 +45,40 @@ same-seen g h e = cc
 not-seen : (r : Refusal) (g : Geocentric) → NoSight r ≡ Seen g → ⊥
 not-seen r g e = let z : _≡_ {A = ℕ} 0 1 = cc in omega arith
 
-again-clear : (d : ℕ) (s : Sight) (g : Geocentric) → ((h : Geocentric) → s ≡ Usable h → Clear h) → d < 2 ^ 46 → taken-again d s ≡ Seen g → Clear g
+again-clear : (d : ℕ) (s : Sight) (g : Geocentric) → ((v : View) → s ≡ Usable v → Clear (v .vector) (v .distance)) → d < 2 ^ 46 → taken-again d s ≡ Seen g
+    → Clear (g .vector) (g .distance)
 unfolding taken-again
-again-clear d (Usable h) g f l e = subst Clear (same-seen _ g e) (record { vector-in = f h refl .vector-in; distance-in = l })
+again-clear d (Usable v) g f l e =
+    subst (λ (h : Geocentric). Clear (h .vector) (h .distance)) (same-seen _ g e) (record { vector-in = f v refl .vector-in; distance-in = l })
 again-clear d Unusable g f l e = absurd (not-seen _ g e)
 
-taken-clear : (at : Instant → Sight) (t : Instant) (s : Sight) (g : Geocentric) → ((u : Instant) (h : Geocentric) → at u ≡ Usable h → Clear h) → ((h : Geocentric) → s ≡ Usable h → Clear h) → taken at t s ≡ Seen g → Clear g
-unfolding taken
-taken-clear at t (Usable h) g f k e = either (in-limit (earlier t (h .distance) .ms)) e
-  where
-    either : (b : Bool) → cond b (taken-again (h .distance) (at (earlier t (h .distance)))) (NoSight (PastLimit (earlier t (h .distance)))) ≡ Seen g → Clear g
-    either true e = again-clear (h .distance) (at (earlier t (h .distance))) g (f (earlier t (h .distance))) (k h refl .distance-in) e
-    either false e = absurd (not-seen _ g e)
-taken-clear at t Unusable g f k e = absurd (not-seen _ g e)
+-- Where every usable sight is clear, what is taken twice is.
+module _ (at : Instant → Sight) (f : (u : Instant) (v : View) → at u ≡ Usable v → Clear (v .vector) (v .distance)) where
+  taken-clear : (t : Instant) (s : Sight) (g : Geocentric) → ((v : View) → s ≡ Usable v → Clear (v .vector) (v .distance)) → taken at t s ≡ Seen g
+      → Clear (g .vector) (g .distance)
+  unfolding taken
+  taken-clear t (Usable v) g k e = either (in-limit (earlier t (v .distance) .ms)) e
+    where
+      either : (b : Bool) → cond b (taken-again (v .distance) (at (earlier t (v .distance)))) (NoSight (PastLimit (earlier t (v .distance)))) ≡ Seen g
+          → Clear (g .vector) (g .distance)
+      either true e = again-clear (v .distance) (at (earlier t (v .distance))) g (f (earlier t (v .distance))) (k v refl .distance-in) e
+      either false e = absurd (not-seen _ g e)
+  taken-clear t Unusable g k e = absurd (not-seen _ g e)
 
-at-clear : (P E : List (List Term)) (t : Instant) (h : Geocentric) → sight-at P E t ≡ Usable h → Clear h
+at-clear : (P E : List (List Term)) (t : Instant) (v : View) → sight-at P E t ≡ Usable v → Clear (v .vector) (v .distance)
 unfolding sight-at
-at-clear P E t h e = sight-clear (coordinates (t .ms) P) (coordinates (t .ms) E) h e
+at-clear P E t v e = sight-clear (coordinates (t .ms) P) (coordinates (t .ms) E) v e
 
-series-clear : (p q : Parsed) (t : Instant) (g : Geocentric) → of-series p q t ≡ Seen g → Clear g
+series-clear : (p q : Parsed) (t : Instant) (g : Geocentric) → of-series p q t ≡ Seen g → Clear (g .vector) (g .distance)
 unfolding of-series
 series-clear (refused r) q t g e = absurd (not-seen r g e)
 series-clear (accepted P) (refused r) t g e = absurd (not-seen r g e)
-series-clear (accepted P) (accepted E) t g e = taken-clear (sight-at P E) t (sight-at P E t) g (at-clear P E) (at-clear P E t) e
+series-clear (accepted P) (accepted E) t g e = taken-clear (sight-at P E) (at-clear P E) t (sight-at P E t) g (at-clear P E t) e
 
 -- A sighting was asked for within the limit of time, and is clear.
 pub record Good (t : Instant) (g : Geocentric) : Type 0 where
   pub in-time : natAbs (t .ms) ≤ t-limit
-  pub clear : Clear g
+  pub clear : Clear (g .vector) (g .distance)
 
 pub seen-good : (planet earth : List ℕ) (t : Instant) (g : Geocentric) → sighting planet earth t ≡ Seen g → Good t g
 unfolding sighting

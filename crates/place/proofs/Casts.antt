@@ -5,11 +5,12 @@ use native.Mathlib.Omega.{arith}
 use lib.Dec.{T, le→leb, lt→ltb}
 use lib.IntN.{ℤ, pos, negsuc, natAbs}
 use lib.Ieee.{Float, binary64, ofInt, ofBits, div, inFloat}
+use Rattle.units.specs.Units.{parts}
 use Rattle.arith.proofs.Cells.{Cell, cell}
-use Rattle.place.specs.Mount.{degrees, astronomical-units, mount-place}
+use Rattle.place.specs.Mount.{hundredths-per-degree, degrees, astronomical-units, mount-place}
 use Rattle.place.specs.declared.Equatorial.{Equatorial}
 use Rattle.place.specs.declared.MountPlace.{MountPlace}
-use Rattle.place.specs.machine.Sizes.{Small}
+use Rattle.place.specs.machine.Reach.{Small}
 
 exact : (k : ℤ) → natAbs k ≤ 2 ^ 52 → T (inFloat binary64 k)
 unfolding inFloat
@@ -20,7 +21,7 @@ pub cast-asks : (k : ℤ) → natAbs k ≤ 2 ^ 52 → T (inFloat binary64 (Cell 
 cast-asks k h = subst (λ (z : ℤ). T (inFloat binary64 z)) (sym (cell k (omega arith))) (exact k h)
 
 -- 360000.0 and 1e11, by their bits.
-divisor-of-degrees : ofBits binary64 4689928365371555840 ≡ ofInt binary64 (pos 360000)
+divisor-of-degrees : ofBits binary64 4689928365371555840 ≡ ofInt binary64 (pos hundredths-per-degree)
 unfolding ofBits ofInt
 divisor-of-degrees = refl
 
@@ -28,7 +29,7 @@ pub degrees-are : (k : ℤ) → natAbs k ≤ 2 ^ 52 → div binary64 (ofInt bina
 unfolding degrees
 degrees-are k h = rw (cell k (omega arith), divisor-of-degrees)
 
-divisor-of-distances : ofBits binary64 4771362005757984768 ≡ ofInt binary64 (pos 100000000000)
+divisor-of-distances : ofBits binary64 4771362005757984768 ≡ ofInt binary64 (pos parts)
 unfolding ofBits ofInt
 divisor-of-distances = refl
 

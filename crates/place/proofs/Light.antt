@@ -8,21 +8,21 @@ use mir.Val.{SFits}
 use Rattle.integers.specs.Division.{rounded, floor}
 use Rattle.integers.proofs.Order.{natAbs-sub, natAbs-*, fits}
 use Rattle.arith.proofs.Ranges.{rounded-within}
-use Rattle.units.specs.Units.{t-limit}
+use Rattle.units.specs.Units.{parts, t-limit}
 use Rattle.units.specs.declared.Instant.{Instant}
 use Rattle.arith.proofs.Cells.{Cell, cell}
-use Rattle.place.specs.Apparent.{light-time, earlier}
+use Rattle.place.specs.Apparent.{light-ns, ns-per-ms, light-time, earlier}
 
-light-is : (d : ℕ) → rounded (pos 499004781984 *ℤ pos d) (10000000 * 10000000000) ≡ light-time d
+light-is : (d : ℕ) → rounded (pos light-ns *ℤ pos d) (10000000 * 10000000000) ≡ light-time d
 unfolding light-time
 light-is d = refl
 
 -- Below 2^46 parts it is less than 2^30 ms.
 light-in : (d : ℕ) → d < 2 ^ 46 → natAbs (light-time d) ≤ 2 ^ 30
 unfolding light-time
-light-in d h = rounded-within (pos 499004781984 *ℤ pos d) 100000000000000000 (2 ^ 30) (omega arith) (rw (natAbs-* (pos 499004781984) (pos d)) (omega arith))
+light-in d h = rounded-within (pos light-ns *ℤ pos d) (ns-per-ms * parts) (2 ^ 30) (omega arith) (rw (natAbs-* (pos light-ns) (pos d)) (omega arith))
 
-pub light-told : (d : ℕ) (z : ℤ) → d < 2 ^ 46 → z ≡ rounded (pos 499004781984 *ℤ pos d) (10000000 * 10000000000) → Cell z ≡ light-time d
+pub light-told : (d : ℕ) (z : ℤ) → d < 2 ^ 46 → z ≡ rounded (pos light-ns *ℤ pos d) (10000000 * 10000000000) → Cell z ≡ light-time d
 light-told d z h e = let p : z ≡ light-time d = e ∙ light-is d in cell z (subst (λ (w : ℤ). natAbs w < 2 ^ 63) (sym p) (let k = light-in d h in omega arith)) ∙ p
 
 module _ (t : Instant) (d : ℕ) (h : natAbs (t .ms) ≤ t-limit) (l : d < 2 ^ 46) (z : ℤ) (e : z ≡ light-time d) where
@@ -45,7 +45,7 @@ module _ (t : Instant) (d : ℕ) (h : natAbs (t .ms) ≤ t-limit) (l : d < 2 ^ 4
       let q : Cell w ≡ t .ms -ℤ light-time d = cell w (subst (λ (x : ℤ). natAbs x < 2 ^ 63) (sym p) difference-in) ∙ p in
       rw q
 
--- Document 01's figure, "D = 105,919,798,623: 528,545 ms", and the light times of the least and the greatest usable D.
+-- A marked figure of the rules, and the light times of the least usable D and of 128 AU.
 pub light-times : (light-time 105919798623 ≡ pos 528545) × (light-time 10000000000 ≡ pos 49900) × (light-time 12800000000000 ≡ pos 63872612)
 unfolding light-time rounded floor
 light-times = (refl, refl, refl)

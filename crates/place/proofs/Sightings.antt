@@ -13,14 +13,15 @@ use Rattle.units.specs.declared.Refusal.the-variants.{PastLimit, NotUsable}
 use Rattle.limits.specs.declared.Term.{Term}
 use Rattle.packed.specs.Series.{Parsed, accepted, refused, parse}
 use Rattle.series.specs.Sums.{coordinates}
-use Rattle.place.specs.declared.Geocentric.{Geocentric}
-use Rattle.place.specs.declared.Sight.{Sight}
-use Rattle.place.specs.declared.Sight.the-variants.{Usable, Unusable}
+use Rattle.rectangular.specs.declared.Sight.{Sight}
+use Rattle.rectangular.specs.declared.Sight.the-variants.{Usable, Unusable}
 use Rattle.place.specs.declared.Sighting.{Sighting}
 use Rattle.place.specs.declared.Sighting.the-variants.{Seen, NoSight}
-use Rattle.place.specs.Apparent.{sight, earlier}
+use Rattle.rectangular.specs.declared.View.{View}
+use Rattle.rectangular.specs.Sight.{sight}
+use Rattle.place.specs.Apparent.{earlier}
 use Rattle.place.specs.Place.{sight-at, taken-again, taken, of-series, sighting}
-use Rattle.place.specs.machine.Sizes.{Clear}
+use Rattle.place.specs.machine.Reach.{Clear}
 use Rattle.place.proofs.Sights.{sight-clear}
 
 -- Both bodies at one instant.
@@ -30,7 +31,7 @@ unfolding sight-at
 both-is t P E p e r k l m = m ∙ ap₂ sight k l
 
 -- The second sight.
-pub again-usable : (d : ℕ) (s : Sight) (g : Geocentric) → s ≡ Usable g → Seen (record { vector = g .vector; distance = d }) ≡ taken-again d s
+pub again-usable : (d : ℕ) (s : Sight) (g : View) → s ≡ Usable g → Seen (record { vector = g .vector; distance = d }) ≡ taken-again d s
 unfolding taken-again
 again-usable d s g e = rw e
 
@@ -44,11 +45,11 @@ module _ (P E : List (List Term)) (t : Instant) (s : Sight) (ps : s ≡ sight-at
   unfolding taken
   first-unusable e = let f : sight-at P E t ≡ Unusable = sym ps ∙ e in rw f
 
-  module _ (g : Geocentric) (e : s ≡ Usable g) where
+  module _ (g : View) (e : s ≡ Usable g) where
     usable : sight-at P E t ≡ Usable g
     usable = sym ps ∙ e
 
-    pub first-clear : Clear g
+    pub first-clear : Clear (g .vector) (g .distance)
     unfolding sight-at
     first-clear = sight-clear (coordinates (t .ms) P) (coordinates (t .ms) E) g usable
 

@@ -1,42 +1,40 @@
--- Document 01, "Places": the geocentric vector and D of usable places, the light time, and the vector turned to the true equator.
-use mathlib.Core.Bool.{cond}
-use Prim.Native.Nat.{ℕ}
+-- From a geocentric vector to the apparent place (RULES, "Places"): the light time, nutation and obliquity, right ascension and declination.
+use Prim.Native.Nat.{ℕ, _*_}
 use lib.IntN.{ℤ, pos, _+ℤ_, _-ℤ_, _*ℤ_}
 use Rattle.integers.specs.Division.{rounded}
-use Rattle.units.specs.Units.{U}
+use Rattle.units.specs.Units.{U, parts}
 use Rattle.units.specs.declared.Instant.{Instant}
-use Rattle.units.specs.declared.Coordinates.{Coordinates}
 use Rattle.cosine.specs.Cosine.{cosine, sine}
 use Rattle.rectangular.specs.declared.Vector.{Vector}
-use Rattle.rectangular.specs.Vectors.{geocentric, length}
-use Rattle.rectangular.specs.Rectangular.{rectangular, place, distance, places-usable}
+use Rattle.rectangular.specs.Vectors.{length}
+use Rattle.rectangular.specs.Rectangular.{rectangular}
 use Rattle.direction.specs.Direction.{steps-angle, direction, latitude}
 use Rattle.nutation.specs.Nutation.{nutation-angle, obliquity-angle}
-use Rattle.place.specs.declared.Sight.{Sight}
-use Rattle.place.specs.declared.Sight.the-variants.{Usable, Unusable}
 use Rattle.place.specs.declared.Apparent.{Apparent}
 use Rattle.place.specs.declared.Equatorial.{Equatorial}
 
--- Planet and Earth at one instant: the geocentric vector and D, where they are usable.
-unfoldable pub sight : Coordinates → Coordinates → Sight
-sight planet earth = cond (places-usable planet earth) (Usable (record { vector = geocentric (place planet) (place earth); distance = distance planet earth })) Unusable
+-- The nanoseconds that light takes for an AU, and the light time of D parts, in milliseconds.
+abbrev pub light-ns : ℕ
+light-ns = 499004781984
 
--- "Light time in ms: rounded 499,004,781,984 D/10^17."
+abbrev pub ns-per-ms : ℕ
+ns-per-ms = 1000000
+
 unfoldable pub light-time : ℕ → ℤ
-light-time d = rounded (pos 499004781984 *ℤ pos d) 100000000000000000
+light-time d = rounded (pos light-ns *ℤ pos d) (ns-per-ms * parts)
 
--- "Planet and Earth are both taken again at t less that, once."
+-- The instant at which both bodies are taken again.
 unfoldable pub earlier : Instant → ℕ → Instant
 earlier t d = record { ms = t .ms -ℤ light-time d }
 
--- "The direction and latitude of the geocentric vector at the earlier instant become angles; the longitude angle adds the nutation's angle.
--- The vector is rebuilt with its own length as heliocentric vectors are from L, B, R".
+-- The direction and the latitude of a vector as angles, the nutation's angle added to the first; and from them, with its own length, a vector again.
 unfoldable pub rebuilt : (nutation : ℤ) → Vector → Vector
-rebuilt nutation v = rectangular (pos (length v)) (steps-angle (latitude (v .x) (v .y) (v .z))) (steps-angle (pos (direction (v .x) (v .y))) +ℤ nutation)
+rebuilt nutation v =
+    rectangular (pos (length v)) (steps-angle (latitude (v .x) (v .y) (v .z))) (steps-angle (pos (direction (v .x) (v .y))) +ℤ nutation)
 
--- "then turned: X stays, Y becomes Y cos - Z sin, Z becomes Y sin + Z cos of the true obliquity, each product rounded over U."
-unfoldable pub turned : (obliquity : ℤ) → Vector → Vector
-turned e v = record {
+-- An ecliptic vector turned about X to the true equator.
+unfoldable pub to-equator : (obliquity : ℤ) → Vector → Vector
+to-equator e v = record {
   x = v .x;
   y = rounded (v .y *ℤ cosine e) U -ℤ rounded (v .z *ℤ sine e) U;
   z = rounded (v .y *ℤ sine e) U +ℤ rounded (v .z *ℤ cosine e) U;
@@ -45,11 +43,11 @@ turned e v = record {
 -- The apparent equatorial X, Y, Z of a geocentric vector, with the angles of the nutation in longitude and of the true obliquity, all at the asked t.
 unfoldable pub apparent : Instant → Vector → Apparent
 apparent t v = record {
-  vector = turned (obliquity-angle (t .ms)) (rebuilt (nutation-angle (t .ms)) v);
+  vector = to-equator (obliquity-angle (t .ms)) (rebuilt (nutation-angle (t .ms)) v);
   nutation = nutation-angle (t .ms);
   obliquity = obliquity-angle (t .ms);
 }
 
--- "Right ascension and declination are its direction and latitude." The distance is given with it.
+-- Right ascension and declination of an equatorial vector, with the distance that is answered beside them.
 unfoldable pub equatorial : Vector → ℕ → Equatorial
 equatorial v d = record { «right_ascension» = pos (direction (v .x) (v .y)); declination = latitude (v .x) (v .y) (v .z); distance = pos d }

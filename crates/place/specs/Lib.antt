@@ -1,4 +1,4 @@
--- Document 01, "Places": from two series and an instant to the apparent place, and to the mount's answer.
+-- From two series and an instant to the apparent place (RULES, "Places"), and to the mount's answer.
 pub mod Apparent
 pub mod Place
 pub mod Mount

@@ -1,8 +1,9 @@
--- Document 01, "Places": "The mount takes an answer that is either three doubles or a refusal number."
+-- The mount's answer (RULES, "Places"): three doubles, or the number of a refusal.
 use mathlib.Core.List.{List}
 use Prim.Native.Nat.{ℕ}
 use lib.IntN.{ℤ, pos}
 use lib.Ieee.{Float, binary64, ofInt, div}
+use Rattle.units.specs.Units.{parts}
 use Rattle.units.specs.declared.Instant.{Instant}
 use Rattle.units.specs.Refusals.{number}
 use Rattle.place.specs.declared.Equatorial.{Equatorial}
@@ -13,15 +14,22 @@ use Rattle.place.specs.declared.PlaceAnswer.{PlaceAnswer}
 use Rattle.place.specs.declared.PlaceAnswer.the-variants.{Place, NoPlace}
 use Rattle.place.specs.Place.{place-answer}
 
--- "Degrees are one division of the whole number by 360000.0, AU one by 1e11, each rounded once."
+-- One division of doubles, rounded once; both numbers are exact as doubles before it.
+abbrev pub hundredths-per-degree : ℕ
+hundredths-per-degree = 360000
+
 unfoldable pub degrees : ℤ → Float
-degrees k = div binary64 (ofInt binary64 k) (ofInt binary64 (pos 360000))
+degrees k = div binary64 (ofInt binary64 k) (ofInt binary64 (pos hundredths-per-degree))
 
 unfoldable pub astronomical-units : ℤ → Float
-astronomical-units n = div binary64 (ofInt binary64 n) (ofInt binary64 (pos 100000000000))
+astronomical-units n = div binary64 (ofInt binary64 n) (ofInt binary64 (pos parts))
 
 unfoldable pub mount-place : Equatorial → MountPlace
-mount-place p = record { «right_ascension» = degrees (p .«right_ascension»); declination = degrees (p .declination); distance = astronomical-units (p .distance) }
+mount-place p = record {
+  «right_ascension» = degrees (p .«right_ascension»);
+  declination = degrees (p .declination);
+  distance = astronomical-units (p .distance);
+}
 
 unfoldable pub mount : PlaceAnswer → Mount
 mount (Place p) = At (mount-place p)

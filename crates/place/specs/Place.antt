@@ -1,4 +1,4 @@
--- Document 01, "Places" and "Refusals": "For a place: 2, planet series, Earth series, 11, then 2 and 11 at the earlier instant."
+-- The answered place (RULES, "Places" and "Refusals and what they leave"): both bodies at t and at the earlier instant, and the refusals in their order.
 use mathlib.Core.Bool.{cond}
 use mathlib.Core.List.{List}
 use Prim.Native.Nat.{ℕ}
@@ -8,19 +8,20 @@ use Rattle.units.specs.declared.Refusal.the-variants.{PastLimit, NotUsable}
 use Rattle.limits.specs.declared.Term.{Term}
 use Rattle.packed.specs.Series.{Parsed, accepted, refused, parse}
 use Rattle.series.specs.Sums.{coordinates}
-use Rattle.place.specs.declared.Sight.{Sight}
-use Rattle.place.specs.declared.Sight.the-variants.{Usable, Unusable}
+use Rattle.rectangular.specs.declared.Sight.{Sight}
+use Rattle.rectangular.specs.declared.Sight.the-variants.{Usable, Unusable}
+use Rattle.rectangular.specs.Sight.{sight}
 use Rattle.place.specs.declared.Sighting.{Sighting}
 use Rattle.place.specs.declared.Sighting.the-variants.{Seen, NoSight}
 use Rattle.place.specs.declared.PlaceAnswer.{PlaceAnswer}
 use Rattle.place.specs.declared.PlaceAnswer.the-variants.{Place, NoPlace}
-use Rattle.place.specs.Apparent.{sight, earlier, apparent, equatorial}
+use Rattle.place.specs.Apparent.{earlier, apparent, equatorial}
 
 -- Both bodies at an instant.
 unfoldable pub sight-at : (planet earth : List (List Term)) → Instant → Sight
 sight-at planet earth t = sight (coordinates (t .ms) planet) (coordinates (t .ms) earth)
 
--- With the sight at the earlier instant: its vector, and D at t. "The answer's distance is the first D."
+-- With the sight at the earlier instant: its vector, and D as it was at t.
 unfoldable pub taken-again : ℕ → Sight → Sighting
 taken-again d (Usable g) = Seen (record { vector = g .vector; distance = d })
 taken-again d Unusable = NoSight (NotUsable 0)

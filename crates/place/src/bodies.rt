@@ -8,18 +8,18 @@ ghost use Rattle.packed.specs.machine.Table.{table-blocks};
 ghost use Rattle.series.specs.machine.Table.{Table};
 ghost use Rattle.place.specs.Place.{sight-at, taken-again, taken as taken-at, of-series, sighting as sighting-of};
 use crate::Geocentric;
-use crate::Sight;
 use crate::Sighting;
 use crate::steps::earlier;
-use crate::steps::sight;
 use packed::Checked;
-use series::sums::in_limit;
+use rectangular::Sight;
+use rectangular::from_earth::sight;
 use series::table::TABLE_ROWS;
 use series::table::Table;
 use series::table::coordinates;
 use series::table::fill;
 use units::Instant;
 use units::Refusal;
+use units::in_limit;
 
 // Planet and Earth at an instant, from their term tables.
 fn both_at(planet: &Table, earth: &Table, t: Instant) -> Sight

@@ -3,16 +3,21 @@ ghost use mathlib.Core.Path.{_≡_};
 ghost use Prim.Native.Nat.{_≤_, _^_};
 ghost use lib.IntN.{natAbs};
 ghost use Rattle.place.specs.Mount.{degrees as degrees-of, astronomical-units, mount-place};
-ghost use Rattle.place.specs.machine.Sizes.{Small};
+ghost use Rattle.place.specs.machine.Reach.{Small};
 use crate::Equatorial;
 use crate::MountPlace;
+
+// specs/Mount.antt has the same divisors as whole numbers: hundredths of an arcsecond in a degree, parts in an AU.
+const HUNDREDTHS_PER_DEGREE: f64 = 360000.0;
+
+const PARTS_PER_AU: f64 = 1e11;
 
 // From hundredths of an arcsecond.
 fn degrees(k: i64) -> f64
     requires { ⌜ natAbs k ≤ 2 ^ 52 ⌝ }
     ensures { λ r. ⌜ r ≡ degrees-of k ⌝ }
 {
-    k as f64 / 360000.0
+    k as f64 / HUNDREDTHS_PER_DEGREE
 }
 
 // From parts.
@@ -20,7 +25,7 @@ fn units_of_distance(d: i64) -> f64
     requires { ⌜ natAbs d ≤ 2 ^ 52 ⌝ }
     ensures { λ r. ⌜ r ≡ astronomical-units d ⌝ }
 {
-    d as f64 / 1e11
+    d as f64 / PARTS_PER_AU
 }
 
 // Both angles and the distance of a place.

@@ -1,4 +1,4 @@
-// The apparent equatorial place of a planet from two packed series, and the mount's answer: document 01, "Places".
+// The apparent equatorial place of a planet from two packed series, and the mount's answer: RULES, "Places".
 ghost use mathlib.Core.Path.{_≡_};
 ghost use Rattle.place.specs.Place.{place-answer};
 ghost use Rattle.place.specs.Mount.{mount-answer};
@@ -11,20 +11,14 @@ use crate::bodies::sighting;
 use crate::doubles::figures;
 use crate::steps::apparent;
 use crate::steps::equatorial;
+use rectangular::Vector;
 use units::Instant;
 use units::Refusal;
-use rectangular::Vector;
 
 // The geocentric vector of a planet, in parts, and its length D.
 pub struct Geocentric {
     pub vector: Vector,
     pub distance: u64,
-}
-
-// Planet and Earth at one instant: usable or not.
-pub enum Sight {
-    Usable(Geocentric),
-    Unusable,
 }
 
 // What is seen at t: the geocentric vector at t less the light time, with D at t; or the refusal.

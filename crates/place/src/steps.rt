@@ -3,13 +3,13 @@ ghost use mathlib.Core.Path.{_≡_};
 ghost use Prim.Native.Nat.{_<_, _≤_, _^_};
 ghost use lib.IntN.{pos, natAbs};
 ghost use Rattle.rectangular.specs.machine.Components.{Components};
-ghost use Rattle.units.specs.Units.{t-limit};
-ghost use Rattle.place.specs.Apparent.{sight as sight-of, light-time, earlier as earlier-of, rebuilt, turned, apparent as apparent-of, equatorial as equatorial-of};
-ghost use Rattle.place.specs.machine.Sizes.{reach, equator-reach};
+ghost use Rattle.integers.specs.Division.{modulo};
+ghost use Rattle.units.specs.Units.{turn, t-limit};
+ghost use Rattle.direction.specs.Direction.{turn-steps, steps-angle};
+ghost use Rattle.place.specs.Apparent.{light-time, earlier as earlier-of, rebuilt, to-equator as to-equator-of, apparent as apparent-of, equatorial as equatorial-of};
+ghost use Rattle.place.specs.machine.Reach.{reach, equator-reach};
 use crate::Apparent;
 use crate::Equatorial;
-use crate::Geocentric;
-use crate::Sight;
 use arith::muldiv::mul_div_round_wide;
 use arith::muldiv::scale;
 use arith::residue::residue;
@@ -21,42 +21,33 @@ use direction::direction_of;
 use direction::latitude_of;
 use direction::units_angle;
 use nutation::angles_at;
-use units::Coordinates;
-use units::Instant;
 use rectangular::Vector;
 use rectangular::from_angles;
-use rectangular::geocentric;
 use rectangular::length;
-use rectangular::place;
-use rectangular::usable_distance;
-use rectangular::usable_radius;
+use units::Instant;
+use units::PARTS;
+use units::TURN;
 
-// Both R are tested before the vectors are worked.
-pub fn sight(planet: Coordinates, earth: Coordinates) -> Sight
-    ensures { λ r. ⌜ r ≡ sight-of planet earth ⌝ }
-{
-    if !usable_radius(planet.radius) {
-        return Sight::Unusable;
-    }
-    if !usable_radius(earth.radius) {
-        return Sight::Unusable;
-    }
-    let e = place(earth);
-    let p = place(planet);
-    let vector = geocentric(p, e);
-    let distance = length(vector);
-    if !usable_distance(planet.radius, earth.radius, distance) {
-        return Sight::Unusable;
-    }
-    Sight::Usable(Geocentric { vector, distance })
-}
+// The same constants stand in specs/Apparent.antt and, for TURN_STEPS, in the specs of direction.
+
+// Light takes LIGHT_NS nanoseconds for an AU. The divisor, nanoseconds to a millisecond times parts to an AU, comes as two factors.
+const LIGHT_NS: u64 = 499004781984;
+
+const NS_PER_MS: u64 = 1000000;
+
+const LIGHT_STEP: u64 = 10000000;
+
+const LIGHT_REST: u64 = NS_PER_MS * PARTS / LIGHT_STEP;
+
+// Hundredths of an arcsecond in a turn.
+const TURN_STEPS: u64 = 129600000;
 
 // The light time of a distance, in ms.
 fn light(distance: u64) -> i64
     requires { ⌜ distance < 2 ^ 46 ⌝ }
     ensures { λ r. ⌜ r ≡ light-time distance ⌝ }
 {
-    mul_div_round_wide(499004781984, distance, 10000000, 10000000000)
+    mul_div_round_wide(LIGHT_NS, distance, LIGHT_STEP, LIGHT_REST)
 }
 
 // The instant at which light left that is seen at t from a distance.
@@ -69,9 +60,9 @@ pub fn earlier(t: Instant, distance: u64) -> Instant
 }
 
 // A vector turned to the true equator, by the cosine and the sine of the obliquity.
-fn turn(v: Vector, obliquity: u64) -> Vector
+fn to_equator(v: Vector, obliquity: u64) -> Vector
     requires { ⌜ Components (2 ^ 61) v × (obliquity < 2 ^ 63) ⌝ }
-    ensures { λ r. ⌜ r ≡ turned (pos obliquity) v ⌝ }
+    ensures { λ r. ⌜ r ≡ to-equator-of (pos obliquity) v ⌝ }
 {
     let e = cosine_sine(obliquity);
     let yc = scale(v.y, e.cos);
@@ -83,6 +74,14 @@ fn turn(v: Vector, obliquity: u64) -> Vector
     Vector { x: v.x, y, z }
 }
 
+// The angle of k hundredths of an arcsecond, less its whole turns.
+fn angle_of(k: i64) -> u64
+    requires { ⌜ natAbs k ≤ turn-steps ⌝ }
+    ensures { λ r. ⌜ r ≡ modulo (steps-angle k) turn ⌝ }
+{
+    residue(units_angle(k, TURN_STEPS), TURN)
+}
+
 // A vector rebuilt from its direction and latitude, the nutation's angle added to the longitude.
 fn rebuild(v: Vector, nutation: i64) -> Vector
     requires { ⌜ Components reach v ⌝ }
@@ -90,20 +89,20 @@ fn rebuild(v: Vector, nutation: i64) -> Vector
 {
     let k = direction_of(v.x, v.y);
     let h = latitude_of(v.x, v.y, v.z);
-    let b = residue(units_angle(h, 129600000), 62831853071796);
-    let a = residue(units_angle(k, 129600000), 62831853071796);
-    let n = residue(nutation, 62831853071796);
+    let b = angle_of(h);
+    let a = angle_of(k);
+    let n = residue(nutation, TURN);
     let r = wide(length(v));
-    from_angles(r, b, (a + n) % 62831853071796)
+    from_angles(r, b, (a + n) % TURN)
 }
 
-// Rebuilt and turned, by the angles of the nutation in longitude and of the true obliquity.
-fn to_equator(v: Vector, nutation: i64, obliquity: i64) -> Vector
+// Rebuilt and turned to the equator, by the angles of the nutation in longitude and of the true obliquity.
+fn apparent_vector(v: Vector, nutation: i64, obliquity: i64) -> Vector
     requires { ⌜ Components reach v ⌝ }
-    ensures { λ r. ⌜ r ≡ turned obliquity (rebuilt nutation v) ⌝ }
+    ensures { λ r. ⌜ r ≡ to-equator-of obliquity (rebuilt nutation v) ⌝ }
 {
     let w = rebuild(v, nutation);
-    turn(w, residue(obliquity, 62831853071796))
+    to_equator(w, residue(obliquity, TURN))
 }
 
 // The apparent equatorial vector of a geocentric one, with the nutation and the obliquity that it was turned by.
@@ -112,7 +111,7 @@ pub fn apparent(t: Instant, v: Vector) -> Apparent
     ensures { λ r. ⌜ r ≡ apparent-of t v ⌝ }
 {
     let a = angles_at(t.ms);
-    let vector = to_equator(v, a.nutation, a.obliquity);
+    let vector = apparent_vector(v, a.nutation, a.obliquity);
     Apparent {
         vector,
         nutation: a.nutation,

@@ -4,7 +4,7 @@
 // and in the library's own whole numbers; or a refusal, its number, words and figure.
 ghost use Prim.Native.Nat.{_<_, _≤_, _^_};
 ghost use lib.IntN.{natAbs};
-ghost use Rattle.place.specs.machine.Sizes.{Small};
+ghost use Rattle.place.specs.machine.Reach.{Small};
 use arith::signed::abs;
 use arith::signed::is_neg;
 use arith::signed::natural_or;

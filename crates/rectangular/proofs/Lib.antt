@@ -2,4 +2,4 @@
 pub mod Places
 pub mod Usable
 pub mod Radii
-pub mod Seen
+pub mod Sights

@@ -1,4 +1,5 @@
--- Document 01, "Places", first paragraph.
+-- Places in rectangular coordinates (RULES, "Places"), and a planet seen from Earth.
 pub mod Vectors
 pub mod Rectangular
+pub mod Sight
 pub mod machine

@@ -20,7 +20,7 @@ use Rattle.cosine.proofs.Within.{the-turn}
 use Rattle.cosine.proofs.Ranges.{Unit-fraction, In-U, cosine-unit, sine-unit, cosine-range, sine-range, even-large}
 use Rattle.cosine.proofs.Longitude.{Near-longitude, Q1-cosine, Q1-sine}
 use Rattle.separation.specs.Exact.{cosᶠ, sinᶠ}
-use Rattle.separation.specs.Near.{tolerance, angle-limit}
+use Rattle.separation.specs.machine.Near.{tolerance, angle-limit}
 use Rattle.separation.proofs.Places.{Far, One-far}
 use Rattle.separation.proofs.Whole.{Near}
 use Rattle.separation.proofs.Apart.{apart-bd}

@@ -5,10 +5,11 @@ use mathlib.Core.Bool.{true}
 use Prim.Native.Nat.{ℕ, _+_, _≤_}
 use lib.IntN.{pos}
 use Rattle.units.specs.declared.Coordinates.{Coordinates}
-use Rattle.rectangular.specs.Rectangular.{places-usable}
+use Rattle.rectangular.specs.Sight.{places-usable}
+use Rattle.separation.specs.Arcminutes.{least-keep-out, greatest-keep-out}
 use Rattle.separation.specs.Exact.{Exact-coordinates, Within-arcminutes}
 use Rattle.separation.specs.Listed.{listed}
-use Rattle.separation.specs.Near.{tolerance, Near-coordinates}
+use Rattle.separation.specs.machine.Near.{tolerance, Near-coordinates}
 use Rattle.separation.proofs.Whole.{Near⁵, five-of}
 use Rattle.separation.proofs.Apart.{apart-bd}
 use Rattle.separation.proofs.Angles.{cosine-near, sine-near}
@@ -28,9 +29,9 @@ near c e h = record {
 
 -- Of any two bodies whose working places are usable, and any keep-out k that the list takes:
 pub within-is-listed : (planet earth : Coordinates) (planet* earth* : Exact-coordinates) → Near-coordinates planet planet* → Near-coordinates earth earth* → places-usable planet earth ≡ true
-    → (k : ℕ) → 60 ≤ k → k ≤ 2700 → Within-arcminutes k planet* earth* → listed k planet earth ≡ true
+    → (k : ℕ) → least-keep-out ≤ k → k ≤ greatest-keep-out → Within-arcminutes k planet* earth* → listed k planet earth ≡ true
 within-is-listed planet earth planet* earth* hp he ok k h l t = exact-then-listed planet earth planet* earth* (near planet planet* hp) (near earth earth* he) ok k h l t
 
 pub listed-is-within : (planet earth : Coordinates) (planet* earth* : Exact-coordinates) → Near-coordinates planet planet* → Near-coordinates earth earth* → places-usable planet earth ≡ true
-    → (k : ℕ) → 60 ≤ k → k ≤ 2700 → listed k planet earth ≡ true → Within-arcminutes (k + 2) planet* earth*
+    → (k : ℕ) → least-keep-out ≤ k → k ≤ greatest-keep-out → listed k planet earth ≡ true → Within-arcminutes (k + 2) planet* earth*
 listed-is-within planet earth planet* earth* hp he ok k h l t = listed-then-exact planet earth planet* earth* (near planet planet* hp) (near earth earth* he) ok k h l t

@@ -1,24 +1,26 @@
 -- The two halves for working coordinates and exact ones, given that the figures made of them are near. Assumes nothing.
 use mathlib.Core.Path.{_≡_, refl, sym, subst}
 use mathlib.Core.List.{[], _∷_}
-use mathlib.Core.Bool.{Bool, true, _&&_}
-use Prim.Native.Nat.{ℕ, _+_, _*_, _-_, _/_, _≤_}
+use mathlib.Core.Bool.{Bool, true}
+use Prim.Native.Nat.{ℕ, _+_, _-_, _≤_}
 use native.Mathlib.Omega.{arith}
-use lib.Dec.{T, leb}
-use lib.IntN.{ℤ, pos, _+ℤ_, _*ℤ_}
-use lib.Signed.{leZ}
+use lib.Dec.{T, le→leb}
+use lib.IntN.{ℤ, pos, _*ℤ_}
 use Rattle.integers.specs.Order.{_≼_, _≺_}
 use Rattle.integers.proofs.Auto.{polys, cert<!, gap, gap<, _⊞_}
 use Rattle.integers.proofs.Order.{product-pos}
-use Rattle.units.specs.Units.{parts, angle-per-part}
+use Rattle.units.specs.Units.{angle-per-part}
 use Rattle.units.specs.declared.Coordinates.{Coordinates}
 use Rattle.cosine.specs.Cosine.{cosine, sine}
 use Rattle.rectangular.specs.declared.Vector.{Vector}
-use Rattle.rectangular.specs.Vectors.{sun, squared, length, unit, radius-usable, usable}
-use Rattle.rectangular.specs.Rectangular.{rectangular, place, distance, places-usable}
+use Rattle.rectangular.specs.Vectors.{sun, squared, length, unit}
+use Rattle.rectangular.specs.Rectangular.{rectangular, place}
+use Rattle.rectangular.specs.Sight.{distance, places-usable}
+use Rattle.rectangular.proofs.Usable.{radius-least, usable-places}
+use Rattle.separation.specs.Arcminutes.{least-keep-out, greatest-keep-out}
 use Rattle.separation.specs.Exact.{Exact-coordinates, exact-sun, exact-geocentric, cosine-of-arcminutes, Within-arcminutes}
 use Rattle.separation.specs.Listed.{squared-separation, threshold, listed}
-use Rattle.integers.proofs.Tests.{is-true, and-left, and-right}
+use Rattle.integers.proofs.Tests.{is-true}
 use Rattle.separation.proofs.Form.{dot, sub}
 use Rattle.separation.proofs.Row.{Row}
 use Rattle.separation.proofs.Halves.{exact-listed, listed-exact}
@@ -48,24 +50,15 @@ placed-is c = refl
 true-T : (b : Bool) → b ≡ true → T b
 true-T b e = subst (λ (a : Bool). T a) (sym e) tt
 
-radius-least : (r : ℤ) → T (radius-usable r) → pos 10000000000 ≼ r
-unfolding radius-usable
-radius-least r t = record { le = and-left (leZ (pos (parts / 10)) r) (leZ r (pos (64 * parts))) t }
-
 usable-of : (p e : Coordinates) → places-usable p e ≡ true → Usable (figures p) (figures e) (length (sub (placed (figures p)) (placed (figures e))))
-unfolding places-usable usable distance figures placed place rectangular
+unfolding distance figures placed place rectangular
 usable-of p e h =
-    let D = distance p e in
-    let d = leb (parts / 10) D in
-    let s = leZ (p .radius +ℤ e .radius) (pos (16 * D)) in
-    let t = true-T (radius-usable (p .radius) && (radius-usable (e .radius) && (d && s))) h in
-    let t′ = and-right (radius-usable (p .radius)) (radius-usable (e .radius) && (d && s)) t in
-    let t″ = and-right (radius-usable (e .radius)) (d && s) t′ in
+    let u = usable-places p e h in
     record {
-      planet-far = radius-least (p .radius) (and-left (radius-usable (p .radius)) (radius-usable (e .radius) && (d && s)) t);
-      earth-far = radius-least (e .radius) (and-left (radius-usable (e .radius)) (d && s) t′);
-      apart = record { le = and-left d s t″ };
-      ratio = record { le = and-right d s t″ };
+      planet-far = radius-least (p .radius) (u .planet-radius);
+      earth-far = radius-least (e .radius) (u .earth-radius);
+      apart = record { le = le→leb _ _ (u .far) };
+      ratio = u .in-reach;
     }
 
 abbrev Near-sun : ℕ → Coordinates → Coordinates → Type 0
@@ -135,7 +128,7 @@ module _ (p e : Coordinates) (p* e* : Exact-coordinates) (hp : Near⁵ (figures 
   over-G : Over³ W (exact-geocentric p* e*) G
   over-G = geocentric-over W p* e* (whole-place Q P) (whole-place Q E) (place-over Q p* held-planet) (place-over Q e* held-earth)
 
-  lower-pos : (k : ℕ) → 60 ≤ k → k ≤ 2702 → pos 0 ≺ cosine-of-arcminutes k .lower
+  lower-pos : (k : ℕ) → least-keep-out ≤ k → k ≤ greatest-keep-out + 2 → pos 0 ≺ cosine-of-arcminutes k .lower
   lower-pos k h l =
       let c = cosine-of-arcminutes k in
       let r = table k h l in
@@ -147,20 +140,20 @@ module _ (p e : Coordinates) (p* e* : Exact-coordinates) (hp : Near⁵ (figures 
   abbrev v : Vector
   v = unit (sub (placed (figures p)) (placed (figures e)))
 
-  pub exact-then-listed : (k : ℕ) → 60 ≤ k → k ≤ 2700 → Within-arcminutes k p* e* → listed k p e ≡ true
+  pub exact-then-listed : (k : ℕ) → least-keep-out ≤ k → k ≤ greatest-keep-out → Within-arcminutes k p* e* → listed k p e ≡ true
   exact-then-listed k h l t =
       listed-of k p e
       (exact-listed u v S G (unit-sun Q (figures p) (figures e) P E sky) (unit-seen Q (figures p) (figures e) P E sky) (close Q (figures p) (figures e) P E sky)
       (cosine-of-arcminutes k) (witness k) (threshold k) (threshold (k - 2)) (table k h (omega arith))
       (to-whole k (lower-pos k h (omega arith)) W W₀ (exact-sun e*) (exact-geocentric p* e*) S G over-S over-G t))
 
-  row-after : (k : ℕ) → 60 ≤ k → k ≤ 2700 → Row (cosine-of-arcminutes (k + 2)) (witness (k + 2)) (threshold (k + 2)) (threshold k)
+  row-after : (k : ℕ) → least-keep-out ≤ k → k ≤ greatest-keep-out → Row (cosine-of-arcminutes (k + 2)) (witness (k + 2)) (threshold (k + 2)) (threshold k)
   row-after k h l = subst (λ (m : ℕ). Row (cosine-of-arcminutes (k + 2)) (witness (k + 2)) (threshold (k + 2)) (threshold m)) (same k) (table (k + 2) (omega arith) (omega arith))
     where
       same : (k : ℕ) → k + 2 - 2 ≡ k
       same k = omega arith
 
-  pub listed-then-exact : (k : ℕ) → 60 ≤ k → k ≤ 2700 → listed k p e ≡ true → Within-arcminutes (k + 2) p* e*
+  pub listed-then-exact : (k : ℕ) → least-keep-out ≤ k → k ≤ greatest-keep-out → listed k p e ≡ true → Within-arcminutes (k + 2) p* e*
   listed-then-exact k h l t =
       of-whole (k + 2) (lower-pos (k + 2) (omega arith) (omega arith)) W W₀ (exact-sun e*) (exact-geocentric p* e*) S G over-S over-G
       (listed-exact u v S G (unit-sun Q (figures p) (figures e) P E sky) (unit-seen Q (figures p) (figures e) P E sky) (close Q (figures p) (figures e) P E sky)

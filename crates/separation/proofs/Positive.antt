@@ -9,6 +9,7 @@ use Rattle.integers.proofs.Order.{product-pos}
 use Rattle.units.specs.Units.{parts}
 use Rattle.cosine.specs.Reference.{two-pi}
 use Rattle.cosine.proofs.Ranges.{cosine-unit, sine-unit}
+use Rattle.separation.specs.Arcminutes.{arcminutes}
 use Rattle.separation.specs.Exact.{Exact-coordinates, Vectorᶠ, cosᶠ, sinᶠ, exact-place, exact-sun, exact-geocentric, dotᶠ, cosine-of-arcminutes}
 
 abbrev pub Positive : Fraction → Type 0
@@ -88,7 +89,7 @@ positive-dot a b h k =
 
 pub positive-arcminutes : (k : ℕ) → Positive (cosine-of-arcminutes k)
 unfolding cosine-of-arcminutes
-positive-arcminutes k = cosine-unit (pos (k * two-pi)) (21600 * 10 ^ 30) (omega arith) .positive
+positive-arcminutes k = cosine-unit (pos (k * two-pi)) (arcminutes * 10 ^ 30) (omega arith) .positive
 
 -- The three scalar products and both sides of the comparison, for a planet and Earth.
 pub record Positive-test (k : ℕ) (sun planet : Vectorᶠ) : Type 0 where

@@ -16,6 +16,7 @@ use Rattle.cosine.proofs.Lists.{low-by-quarter}
 use Rattle.cosine.proofs.Horner.{low, up}
 use Rattle.cosine.proofs.Part.{C-up, C-low, S-up, S-low, f-up, f-low}
 use Rattle.cosine.proofs.Nested.{nested, reference-is}
+use Rattle.separation.specs.Arcminutes.{arcminutes, least-keep-out, greatest-keep-out}
 use Rattle.separation.specs.Exact.{cosine-of-arcminutes}
 use Rattle.separation.specs.Listed.{threshold}
 use Rattle.separation.proofs.Row.{eps, Row}
@@ -23,15 +24,15 @@ use Rattle.integers.proofs.Tests.{and-left, and-right, all, all-at}
 
 -- U times the sine of k arcminutes, and a 500th more: a witness, of which only the row's bound is used.
 unfoldable pub witness : ℕ → ℤ
-witness k = let j = sine (rounded (pos (k * turn)) 21600) in j +ℤ floor j 500
+witness k = let j = sine (rounded (pos (k * turn)) arcminutes) in j +ℤ floor j 500
 
 -- The reference cosine by its nested series, which is quicker to compute than the plain one.
 unfoldable quick : ℕ → Fraction
-quick k = let n = pos (k * two-pi) in let N = 21600 * 10 ^ 30 in nested (modulo (ref-q n N +ℤ pos 0) 4) (ref-r n N) (pos four *ℤ pos N)
+quick k = let n = pos (k * two-pi) in let N = arcminutes * 10 ^ 30 in nested (modulo (ref-q n N +ℤ pos 0) 4) (ref-r n N) (pos four *ℤ pos N)
 
 quick-is : (k : ℕ) → quick k ≡ cosine-of-arcminutes k
 unfolding quick cosine-of-arcminutes
-quick-is k = reference-is (pos (k * two-pi)) (21600 * 10 ^ 30)
+quick-is k = reference-is (pos (k * two-pi)) (arcminutes * 10 ^ 30)
 
 -- ---- One row: six comparisons.
 
@@ -86,7 +87,7 @@ test₃ : T (all row-at 843 1860)
 unfolding floor rounded modulo q-of r-of w-of y-of horner even-part odd-part cosine-by sine-by working-sine sine ref-q ref-r low-by-quarter low up C-up C-low S-up S-low f-up f-low quick threshold witness sines reached cleared range limits row row-at
 test₃ = tt
 
-passed : (k : ℕ) → 60 ≤ k → k ≤ 2702 → T (row-at k)
+passed : (k : ℕ) → least-keep-out ≤ k → k ≤ greatest-keep-out + 2 → T (row-at k)
 passed k h l = go (decLe 960 k) (decLe 1860 k)
   where
     go : Dec (960 ≤ k) → Dec (1860 ≤ k) → T (row-at k)
@@ -94,6 +95,6 @@ passed k h l = go (decLe 960 k) (decLe 1860 k)
     go (yes g) (no f) = all-at row-at 900 960 k test₂ g (omega arith)
     go (no e) (no f) = all-at row-at 900 60 k test₁ h (omega arith)
 
-pub table : (k : ℕ) → 60 ≤ k → k ≤ 2702 → Row (cosine-of-arcminutes k) (witness k) (threshold k) (threshold (k - 2))
+pub table : (k : ℕ) → least-keep-out ≤ k → k ≤ greatest-keep-out + 2 → Row (cosine-of-arcminutes k) (witness k) (threshold k) (threshold (k - 2))
 unfolding row-at
 table k h l = subst (λ (c : Fraction). Row c (witness k) (threshold k) (threshold (k - 2))) (quick-is k) (row-of (quick k) (witness k) (threshold k) (threshold (k - 2)) (passed k h l))

@@ -1,4 +1,5 @@
--- Document 01, "Sun list": the exact test, and when a minute is listed.
+-- The exact test, and when a minute is listed (RULES, "Sun list").
+pub mod Arcminutes
 pub mod Exact
 pub mod Listed
-pub mod Near
+pub mod machine

@@ -13,9 +13,10 @@ use Rattle.units.specs.declared.Refusal.{Refusal}
 use Rattle.units.specs.declared.Refusal.the-variants.{PastLimit, BadWindow}
 use Rattle.packed.specs.Series.{parse}
 use Rattle.arith.proofs.Cells.{Cell}
+use Rattle.separation.specs.Arcminutes.{greatest-keep-out}
 use Rattle.sunlist.specs.declared.ListAnswer.{ListAnswer}
 use Rattle.sunlist.specs.declared.ListAnswer.the-variants.{NoList}
-use Rattle.sunlist.specs.SunList.{minute, window-fits, Outcome, no-numbers, of-series, outcome, answered, written, sun-list, sun-list-out}
+use Rattle.sunlist.specs.SunList.{minute, most-minutes, window-fits, Outcome, no-numbers, of-series, outcome, answered, written, sun-list, sun-list-out}
 use Rattle.sunlist.specs.machine.Working.{Window}
 use Rattle.sunlist.proofs.Limits.{fits-is, minute-in}
 
@@ -64,7 +65,7 @@ module _ (planet earth : List ℕ) (t0 : Instant) (minutes keep-out : ℤ) (out 
     k-natAbs : k ≡ natAbs keep-out
     k-natAbs = k-is ∙ natural-is keep-out (fits-is minutes keep-out good .keep-out-in .whole)
 
-    pub in-range : (1 ≤ n) × (n ≤ 1440) × (k ≤ 2700)
+    pub in-range : (1 ≤ n) × (n ≤ most-minutes) × (k ≤ greatest-keep-out)
     in-range = let f = fits-is minutes keep-out good in rw (n-natAbs, k-natAbs) (f .minutes-in .least, f .minutes-in .most, f .keep-out-in .most)
 
     pub first-refused : in-limit (t0 .ms) ≡ false → (NoList (PastLimit t0) ≡ sun-list planet earth t0 minutes keep-out (length out)) × (out ≡ sun-list-out planet earth t0 minutes keep-out out)

@@ -6,7 +6,7 @@ pub mod Near
 pub mod Demand
 pub mod Positive
 pub mod Separations
-pub mod Working
+pub mod Deciding
 pub mod Written
 pub mod Filling
 pub mod Tabled

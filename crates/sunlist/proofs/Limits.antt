@@ -15,7 +15,8 @@ use Rattle.integers.proofs.Auto.{polys, cert!, gap, _⊞_}
 use Rattle.integers.proofs.Order.{natAbs-low, natAbs-high, natAbs-le}
 use Rattle.units.specs.Units.{t-limit, in-limit}
 use Rattle.units.specs.declared.Instant.{Instant}
-use Rattle.sunlist.specs.SunList.{minute, window-fits}
+use Rattle.separation.specs.Arcminutes.{least-keep-out, greatest-keep-out}
+use Rattle.sunlist.specs.SunList.{minute-ms, minute, most-minutes, window-fits}
 
 -- A whole number from a to b.
 pub record From (a b : ℕ) (z : ℤ) : Type 0 where
@@ -28,16 +29,16 @@ from a b (pos n) h k = record { whole = refl; least = leb-true a n h; most = leb
 from a b (negsuc n) h k = absurd (false-true h)
 
 pub record Fits (minutes keep-out : ℤ) : Type 0 where
-  pub minutes-in : From 1 1440 minutes
-  pub keep-out-in : From 60 2700 keep-out
+  pub minutes-in : From 1 most-minutes minutes
+  pub keep-out-in : From least-keep-out greatest-keep-out keep-out
 
 pub fits-is : (minutes keep-out : ℤ) → window-fits minutes keep-out ≡ true → Fits minutes keep-out
 unfolding window-fits
 fits-is minutes keep-out e =
-    let h = both (leZ (pos 60) keep-out && leZ keep-out (pos 2700)) (leZ (pos 1) minutes && leZ minutes (pos 1440)) e in
-    let k = both (leZ (pos 60) keep-out) (leZ keep-out (pos 2700)) (h .0) in
-    let m = both (leZ (pos 1) minutes) (leZ minutes (pos 1440)) (h .1) in
-    record { minutes-in = from 1 1440 minutes (m .0) (m .1); keep-out-in = from 60 2700 keep-out (k .0) (k .1) }
+    let h = both (leZ (pos least-keep-out) keep-out && leZ keep-out (pos greatest-keep-out)) (leZ (pos 1) minutes && leZ minutes (pos most-minutes)) e in
+    let k = both (leZ (pos least-keep-out) keep-out) (leZ keep-out (pos greatest-keep-out)) (h .0) in
+    let m = both (leZ (pos 1) minutes) (leZ minutes (pos most-minutes)) (h .1) in
+    record { minutes-in = from 1 most-minutes minutes (m .0) (m .1); keep-out-in = from least-keep-out greatest-keep-out keep-out (k .0) (k .1) }
 
 -- Between two instants that are within the limit.
 between : (t : ℤ) (a b l : ℕ) → natAbs t ≤ l → natAbs (t +ℤ pos b) ≤ l → a ≤ b → natAbs (t +ℤ pos a) ≤ l
@@ -51,4 +52,4 @@ between t a b l h k m =
 
 pub minute-in : (t0 : Instant) (n j : ℕ) → in-limit (t0 .ms) ≡ true → in-limit (minute t0 (n - 1) .ms) ≡ true → j < n → natAbs (minute t0 j .ms) ≤ t-limit
 unfolding in-limit
-minute-in t0 n j h k l = between (t0 .ms) (60000 * j) (60000 * (n - 1)) t-limit (leb-true _ _ h) (leb-true _ _ k) (omega arith)
+minute-in t0 n j h k l = between (t0 .ms) (minute-ms * j) (minute-ms * (n - 1)) t-limit (leb-true _ _ h) (leb-true _ _ k) (omega arith)

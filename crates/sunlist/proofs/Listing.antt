@@ -15,31 +15,32 @@ use Rattle.units.specs.declared.Coordinates.{Coordinates}
 use Rattle.units.specs.declared.Refusal.the-variants.{NotUsable}
 use Rattle.limits.specs.declared.Term.{Term}
 use Rattle.series.specs.Sums.{coordinates}
+use Rattle.separation.specs.Arcminutes.{least-keep-out, greatest-keep-out}
 use Rattle.runs.specs.Runs.{run-numbers}
 use Rattle.sunlist.specs.declared.Decision.{Decision}
 use Rattle.sunlist.specs.declared.ListAnswer.the-variants.{NoList}
 use Rattle.sunlist.specs.Minute.{decide}
-use Rattle.sunlist.specs.SunList.{minute, window-fits, decision-at, first-bad, window-flags, numbers, of-minutes, answered, written}
+use Rattle.sunlist.specs.SunList.{minute, most-minutes, window-fits, decision-at, first-bad, window-flags, numbers, of-minutes, answered, written}
 use Rattle.sunlist.specs.machine.Working.{Window, Filled}
 
 -- ---- fits
 
 module _ (n k : ℕ) where
-  pub angle-low : k < 60 → false ≡ window-fits (pos n) (pos k)
+  pub angle-low : k < least-keep-out → false ≡ window-fits (pos n) (pos k)
   unfolding window-fits
-  angle-low h = rw (lt-leb 60 k h)
+  angle-low h = rw (lt-leb least-keep-out k h)
 
-  pub angle-high : 60 ≤ k → 2700 < k → false ≡ window-fits (pos n) (pos k)
+  pub angle-high : least-keep-out ≤ k → greatest-keep-out < k → false ≡ window-fits (pos n) (pos k)
   unfolding window-fits
-  angle-high g h = rw (le-leb 60 k g, lt-leb k 2700 h)
+  angle-high g h = rw (le-leb least-keep-out k g, lt-leb k greatest-keep-out h)
 
-  pub no-minutes : 60 ≤ k → k ≤ 2700 → n < 1 → false ≡ window-fits (pos n) (pos k)
+  pub no-minutes : least-keep-out ≤ k → k ≤ greatest-keep-out → n < 1 → false ≡ window-fits (pos n) (pos k)
   unfolding window-fits
-  no-minutes g h l = rw (le-leb 60 k g, le-leb k 2700 h, lt-leb 1 n l)
+  no-minutes g h l = rw (le-leb least-keep-out k g, le-leb k greatest-keep-out h, lt-leb 1 n l)
 
-  pub minutes-told : 60 ≤ k → k ≤ 2700 → 1 ≤ n → leb n 1440 ≡ window-fits (pos n) (pos k)
+  pub minutes-told : least-keep-out ≤ k → k ≤ greatest-keep-out → 1 ≤ n → leb n most-minutes ≡ window-fits (pos n) (pos k)
   unfolding window-fits
-  minutes-told g h l = rw (le-leb 60 k g, le-leb k 2700 h, le-leb 1 n l)
+  minutes-told g h l = rw (le-leb least-keep-out k g, le-leb k greatest-keep-out h, le-leb 1 n l)
 
 -- ---- decide_at
 
@@ -68,7 +69,7 @@ module _ (at : ℕ → Decision) (n bad : ℕ) (flags out : List ℕ) (f : Fille
   numbers-are h = let l : n ≤ first-bad at 0 n = subst (λ (b : ℕ). n ≤ b) (f .bad-is) h in rw (le-ltb (first-bad at 0 n) n l, f .flags-are h)
 
 -- The part of the room that the window takes, before it is filled and after.
-pub part-length : (n : ℕ) (room : List ℕ) → n ≤ 1440 → 1440 ≤ length room → n ≡ length (take n room)
+pub part-length : (n : ℕ) (room : List ℕ) → n ≤ most-minutes → most-minutes ≤ length room → n ≡ length (take n room)
 part-length n room h l = sym (length-take-le n room (omega arith))
 
 pub filled-part : (n : ℕ) (flags room : List ℕ) → length flags ≡ n → take n (flags ++ drop n room) ≡ flags

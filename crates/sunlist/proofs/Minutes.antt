@@ -4,7 +4,7 @@ use mathlib.Core.Bool.{Bool, true, false, cond}
 use Prim.Native.Nat.{ℕ, zero, suc, _+_, _≤_, _<_}
 use native.Mathlib.Omega.{arith}
 use Rattle.units.specs.declared.Coordinates.{Coordinates}
-use Rattle.rectangular.specs.Rectangular.{places-usable}
+use Rattle.rectangular.specs.Sight.{places-usable}
 use Rattle.separation.specs.Listed.{listed}
 use Rattle.runs.specs.Runs.{flag, flags}
 use Rattle.runs.proofs.Runs.{Flags-of}

@@ -19,7 +19,7 @@ use Rattle.series.specs.Sums.{running-sum, coordinates, longitude-blocks, latit
 use Rattle.series.proofs.Accepted.{Accepted, accepted-is, in-take, in-drop}
 use Rattle.series.proofs.Promise.{P2, Near-exact}
 use Rattle.series.proofs.Sizes.{running-size}
-use Rattle.separation.specs.Near.{tolerance, angle-limit, Near-coordinates}
+use Rattle.separation.specs.machine.Near.{tolerance, angle-limit, Near-coordinates}
 use Rattle.separation.proofs.Apart.{apart-wider}
 use Rattle.sunlist.specs.Demand.{exact-coordinates}
 

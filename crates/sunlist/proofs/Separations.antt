@@ -1,14 +1,12 @@
 -- The sizes of unit vectors, of their squared separation and of the threshold: all within 64 bits where the places are usable. Assumes nothing.
 use mathlib.Core.Path.{_≡_, sym, ap, _∙_, subst}
-use mathlib.Core.Bool.{true, false, _&&_}
+use mathlib.Core.Bool.{true, false}
 use mathlib.Core.List.{List, [], _∷_}
 use Prim.Native.Nat.{ℕ, _+_, _*_, _/_, _≤_, _<_}
 use native.Mathlib.Omega.{arith}
 use native.Mathlib.Nat.{mul-le-mul}
-use borrow.Author.Tests.{leb-true}
-use lib.Dec.{leb, le→leb, leb→le}
+use lib.Dec.{le→leb, leb→le}
 use lib.IntN.{ℤ, pos, natAbs, _+ℤ_, _-ℤ_, _*ℤ_}
-use lib.Signed.{leZ}
 use Rattle.integers.specs.Order.{_≼_}
 use Rattle.integers.specs.Signs.{sgn, near}
 use Rattle.integers.specs.Division.{rounded}
@@ -16,16 +14,17 @@ use Rattle.integers.proofs.Auto.{polys, cert!, gap, _⊞_, _·_, sqr}
 use Rattle.integers.proofs.Division.{rounded-near}
 use Rattle.integers.proofs.Order.{natAbs-le, natAbs-*}
 use Rattle.arith.proofs.Ranges.{scaled-within}
-use Rattle.units.specs.Units.{U, parts, turn, angle-per-part}
+use Rattle.units.specs.Units.{U, turn, angle-per-part}
 use Rattle.units.specs.declared.Coordinates.{Coordinates}
 use Rattle.cosine.specs.Cosine.{sine}
 use Rattle.rectangular.specs.declared.Vector.{Vector}
-use Rattle.rectangular.specs.Vectors.{geocentric, sun, squared, length, unit, radius-usable, usable}
-use Rattle.rectangular.specs.Rectangular.{rectangular, place, distance, places-usable}
+use Rattle.rectangular.specs.Vectors.{geocentric, sun, squared, length, unit}
+use Rattle.rectangular.specs.Rectangular.{rectangular, place}
+use Rattle.rectangular.specs.Sight.{radius-usable, distance, places-usable}
 use Rattle.rectangular.specs.machine.Components.{Components}
-use Rattle.cosine.proofs.Ranges.{}
 use Rattle.rectangular.proofs.Places.{within-length}
-use Rattle.rectangular.proofs.Usable.{radius-least}
+use Rattle.rectangular.proofs.Usable.{radius-least, usable-places}
+use Rattle.separation.specs.Arcminutes.{arcminutes}
 use Rattle.separation.specs.Listed.{squared-separation, threshold}
 use Rattle.separation.proofs.Form.{dot}
 use Rattle.separation.proofs.Sizes.{Unit³}
@@ -34,19 +33,18 @@ use Rattle.separation.proofs.Places.{placed}
 use Rattle.separation.proofs.Closeness.{sun-long}
 use Rattle.separation.proofs.Angles.{one-far}
 use Rattle.separation.proofs.Joined.{figures}
-use Rattle.integers.proofs.Tests.{both}
 
 -- ---- The threshold.
 
 -- The angle of keep-out k and an arcminute, halved.
 abbrev pub half-angle : ℕ → ℕ
-half-angle k = ((k + 1) * 62831853071796 + 21600) / 43200
+half-angle k = ((k + 1) * turn + arcminutes) / (2 * arcminutes)
 
-half-angle-is : (k : ℕ) → rounded (pos ((k + 1) * turn)) 43200 ≡ pos (half-angle k)
+half-angle-is : (k : ℕ) → rounded (pos ((k + 1) * turn)) (2 * arcminutes) ≡ pos (half-angle k)
 unfolding sgn near
-half-angle-is k = rounded-near false ((k + 1) * turn) 43200 (omega arith) ∙ ap pos (halved ((k + 1) * turn))
+half-angle-is k = rounded-near false ((k + 1) * turn) (2 * arcminutes) (omega arith) ∙ ap pos (halved ((k + 1) * turn))
   where
-    halved : (m : ℕ) → (2 * m + 43200) / (2 * 43200) ≡ (m + 21600) / 43200
+    halved : (m : ℕ) → (2 * m + 2 * arcminutes) / (2 * (2 * arcminutes)) ≡ (m + arcminutes) / (2 * arcminutes)
     halved m = omega arith
 
 pub threshold-is : (k : ℕ) (s : ℤ) → s ≡ sine (pos (half-angle k)) → pos 4 *ℤ (s *ℤ s) ≡ threshold k
@@ -77,20 +75,8 @@ sun-far earth h =
     let s = sun-long (figures earth) r (one-far (pos angle-per-part *ℤ earth .latitude)) (one-far (pos angle-per-part *ℤ earth .longitude)) in
     far _ (cert! (earth .radius ∷ pos (length (sun (place earth))) ∷ []) 99 (gap s ⊞ 47 · gap r) (search polys depth 60 fits 100000) tt)
 
-pub record Usable (planet earth : Coordinates) : Type 0 where
-  pub planet-radius : radius-usable (planet .radius) ≡ true
-  pub earth-radius : radius-usable (earth .radius) ≡ true
-  pub seen-far : U ≤ distance planet earth
-
-pub usable-is : (planet earth : Coordinates) → places-usable planet earth ≡ true → Usable planet earth
-unfolding places-usable usable
-usable-is p e h =
-    let d = leb (parts / 10) (distance p e) in
-    let s = leZ (p .radius +ℤ e .radius) (pos (16 * distance p e)) in
-    let a = both (radius-usable (p .radius)) (radius-usable (e .radius) && (d && s)) h in
-    let b = both (radius-usable (e .radius)) (d && s) (a .1) in
-    let c = leb-true (parts / 10) (distance p e) (both d s (b .1) .0) in
-    record { planet-radius = a .0; earth-radius = b .0; seen-far = omega arith }
+pub seen-far : (planet earth : Coordinates) → places-usable planet earth ≡ true → U ≤ distance planet earth
+seen-far planet earth h = let f = usable-places planet earth h .far in omega arith
 
 -- Two unit vectors are at most twice their length apart.
 pub apart-size : (u v : Vector) → Unit³ u → Unit³ v → natAbs (squared-separation u v) ≤ 4 * (U * U) + 16 * U
@@ -109,5 +95,5 @@ unit-of v h = unit-is v (record { le = le→leb U (length v) h })
 pub separation-size : (planet earth : Coordinates) → places-usable planet earth ≡ true → natAbs (squared-separation (unit (sun (place earth))) (unit (geocentric (place planet) (place earth)))) ≤ 4 * (U * U) + 16 * U
 unfolding distance
 separation-size planet earth h =
-    let w = usable-is planet earth h in
-    apart-size (unit (sun (place earth))) (unit (geocentric (place planet) (place earth))) (unit-of _ (sun-far earth (w .earth-radius))) (unit-of _ (w .seen-far))
+    apart-size (unit (sun (place earth))) (unit (geocentric (place planet) (place earth))) (unit-of _ (sun-far earth (usable-places planet earth h .earth-radius)))
+    (unit-of _ (seen-far planet earth h))

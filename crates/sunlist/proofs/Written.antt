@@ -14,20 +14,20 @@ use Rattle.units.specs.Units.{t-limit}
 use Rattle.units.specs.declared.Refusal.the-variants.{NoRoom}
 use Rattle.arith.proofs.Cells.{Cell, cell}
 use Rattle.sunlist.specs.declared.ListAnswer.the-variants.{Runs, NoList}
-use Rattle.sunlist.specs.SunList.{numbers, answered, written}
+use Rattle.sunlist.specs.SunList.{minute-ms, most-minutes, numbers, answered, written}
 
 -- ---- minute
-module _ (t : ℤ) (j : ℕ) (w : ℤ) (ht : natAbs t ≤ t-limit) (hj : j < 1440) (e : w ≡ pos (60000 * j)) where
-  later : Cell t +ℤ Cell w ≡ t +ℤ pos (60000 * j)
+module _ (t : ℤ) (j : ℕ) (w : ℤ) (ht : natAbs t ≤ t-limit) (hj : j < most-minutes) (e : w ≡ pos (minute-ms * j)) where
+  later : Cell t +ℤ Cell w ≡ t +ℤ pos (minute-ms * j)
   later = ap₂ _+ℤ_ (cell t (omega arith)) (cell w (subst (λ (z : ℤ). natAbs z < 2 ^ 63) (sym e) (omega arith)) ∙ e)
 
-  small : natAbs (t +ℤ pos (60000 * j)) < 2 ^ 63
-  small = let s = natAbs-+ t (pos (60000 * j)) in omega arith
+  small : natAbs (t +ℤ pos (minute-ms * j)) < 2 ^ 63
+  small = let s = natAbs-+ t (pos (minute-ms * j)) in omega arith
 
   pub minute-fits : SFits w64 (Cell t +ℤ Cell w)
-  minute-fits = subst (SFits w64) (sym later) (fits (t +ℤ pos (60000 * j)) small)
+  minute-fits = subst (SFits w64) (sym later) (fits (t +ℤ pos (minute-ms * j)) small)
 
-  pub minute-is : (r : ℤ) → r ≡ Cell t +ℤ Cell w → Cell r ≡ t +ℤ pos (60000 * j)
+  pub minute-is : (r : ℤ) → r ≡ Cell t +ℤ Cell w → Cell r ≡ t +ℤ pos (minute-ms * j)
   minute-is r f = let p = f ∙ later in cell r (subst (λ (z : ℤ). natAbs z < 2 ^ 63) (sym p) small) ∙ p
 
 -- ---- write_runs

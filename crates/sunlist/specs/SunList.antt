@@ -1,4 +1,4 @@
--- Document 01, "Sun list" and "Refusals": the minutes, the window, and what the call answers and leaves in the output.
+-- The Sun list (RULES, "Sun list" and "Refusals and what they leave"): the minutes, the window, and what the call answers and leaves in the output.
 use mathlib.Core.Bool.{Bool, true, false, cond, _&&_}
 use mathlib.Core.List.{List, [], _∷_}
 use Prim.Native.Nat.{ℕ, zero, suc, _*_, _-_}
@@ -14,6 +14,7 @@ use Rattle.units.specs.declared.Refusal.the-variants.{PastLimit, NoRoom, NotUsa
 use Rattle.limits.specs.declared.Term.{Term}
 use Rattle.packed.specs.Series.{Parsed, accepted, refused, parse}
 use Rattle.series.specs.Sums.{coordinates}
+use Rattle.separation.specs.Arcminutes.{least-keep-out, greatest-keep-out}
 use Rattle.runs.specs.Runs.{run-numbers}
 use Rattle.sunlist.specs.declared.Decision.{Decision}
 use Rattle.sunlist.specs.declared.Decision.the-variants.{Listed, Clear, Unusable}
@@ -21,13 +22,20 @@ use Rattle.sunlist.specs.declared.ListAnswer.{ListAnswer}
 use Rattle.sunlist.specs.declared.ListAnswer.the-variants.{Runs, NoList}
 use Rattle.sunlist.specs.Minute.{decide}
 
--- "Minute j is t0 + 60,000j."
-abbrev pub minute : Instant → ℕ → Instant
-minute t0 j = record { ms = t0 .ms +ℤ pos (60000 * j) }
+-- Minute j of a window that begins at t0; a minute in milliseconds.
+abbrev pub minute-ms : ℕ
+minute-ms = 60000
 
--- 12: "keep-out outside 60 to 2,700 arcminutes, or minutes outside 1 to 1,440."
+abbrev pub minute : Instant → ℕ → Instant
+minute t0 j = record { ms = t0 .ms +ℤ pos (minute-ms * j) }
+
+-- The keep-out in arcminutes and the number of minutes are in their ranges; else the refusal is 12.
+abbrev pub most-minutes : ℕ
+most-minutes = 1440
+
 unfoldable pub window-fits : (minutes keep-out : ℤ) → Bool
-window-fits minutes keep-out = (leZ (pos 60) keep-out && leZ keep-out (pos 2700)) && (leZ (pos 1) minutes && leZ minutes (pos 1440))
+window-fits minutes keep-out =
+    (leZ (pos least-keep-out) keep-out && leZ keep-out (pos greatest-keep-out)) && (leZ (pos 1) minutes && leZ minutes (pos most-minutes))
 
 -- Minute j decided, from the blocks of the two series.
 unfoldable pub decision-at : (planet earth : List (List Term)) → Instant → ℕ → ℕ → Decision
@@ -58,7 +66,7 @@ pub data Outcome : Type 0 where
   numbers : List ℕ → Outcome
   no-numbers : Refusal → Outcome
 
--- "11 at the first bad minute"; else "two numbers for each maximal run of listed minutes".
+-- Refusal 11 at the first bad minute; else the first and the last minute of each maximal run of listed ones.
 unfoldable pub of-minutes : (ℕ → Decision) → ℕ → Outcome
 of-minutes at n = cond (ltb (first-bad at 0 n) n) (no-numbers (NotUsable (first-bad at 0 n))) (numbers (run-numbers (window-flags at 0 n)))
 
@@ -67,7 +75,7 @@ of-series (refused r) earth t0 n k = no-numbers r
 of-series (accepted planet) (refused r) t0 n k = no-numbers r
 of-series (accepted planet) (accepted earth) t0 n k = of-minutes (decision-at planet earth t0 k) n
 
--- "12, 2 (first, then last minute), planet, Earth, 11 at the first bad minute."
+-- The refusals in their order: 12, 2 for the first minute, 2 for the last, the planet's series, Earth's, 11.
 unfoldable pub outcome : (planet earth : List ℕ) → Instant → (minutes keep-out : ℤ) → Outcome
 outcome planet earth t0 minutes keep-out =
     cond (window-fits minutes keep-out)
@@ -78,7 +86,7 @@ outcome planet earth t0 minutes keep-out =
     (no-numbers (PastLimit t0)))
     (no-numbers BadWindow)
 
--- Last, 7: "the count answered, and the length that 7 gives, count numbers and not runs." A refusal leaves the output untouched, a success what lies past the numbers.
+-- Last, 7. Both counts are of numbers. A refusal leaves the output untouched, a success what lies past the numbers.
 unfoldable pub answered : ℕ → Outcome → ListAnswer
 answered room (numbers xs) = cond (leb (length xs) room) (Runs (length xs)) (NoList (NoRoom (length xs)))
 answered room (no-numbers r) = NoList r

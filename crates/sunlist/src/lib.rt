@@ -3,8 +3,8 @@ ghost use mathlib.Core.Path.{_≡_};
 ghost use lib.ListN.{length};
 ghost use Rattle.sunlist.specs.SunList.{sun-list, sun-list-out};
 
-mod one_minute;
 mod list;
+mod one_minute;
 mod window;
 
 use crate::list::of_series;

@@ -4,9 +4,9 @@ ghost use mathlib.Core.Bool.{true};
 ghost use Prim.Native.Nat.{_≤_, _<_, _^_};
 ghost use lib.IntN.{natAbs};
 ghost use Rattle.units.specs.Units.{U};
-ghost use Rattle.rectangular.specs.Vectors.{geocentric as geocentric-of};
-ghost use Rattle.rectangular.specs.Rectangular.{place as place-of, distance as distance-of, places-usable};
+ghost use Rattle.rectangular.specs.Sight.{places-usable, view};
 ghost use Rattle.rectangular.specs.machine.Components.{Components};
+ghost use Rattle.separation.specs.Arcminutes.{greatest-keep-out};
 ghost use Rattle.separation.specs.Listed.{squared-separation, threshold as threshold-of};
 ghost use Rattle.sunlist.specs.Minute.{figures as figures-of, decide as decide-of};
 use crate::Decision;
@@ -14,22 +14,28 @@ use crate::Figures;
 use arith::signed::add;
 use arith::signed::mul;
 use cosine::working::sine_at;
-use units::Coordinates;
+use rectangular::Sight;
 use rectangular::Vector;
+use rectangular::View;
+use rectangular::from_earth::sight;
 use rectangular::geocentric;
 use rectangular::length;
-use rectangular::place;
 use rectangular::sun;
 use rectangular::unit;
-use rectangular::usable_distance;
-use rectangular::usable_radius;
+use units::Coordinates;
+use units::TURN;
 
-// Four times the squared sine of half of k arcminutes and one.
+// Arcminutes in a turn, as in separation/specs/Arcminutes.antt, and half arcminutes.
+const ARCMINUTES: u64 = 21600;
+
+const HALF_ARCMINUTES: u64 = 2 * ARCMINUTES;
+
+// Four times the squared sine of half of k + 1 arcminutes, the half angle rounded.
 fn threshold(k: u64) -> i64
-    requires { ⌜ k ≤ 2700 ⌝ }
+    requires { ⌜ k ≤ greatest-keep-out ⌝ }
     ensures { λ r. ⌜ r ≡ threshold-of k ⌝ }
 {
-    let s = sine_at(((k + 1) * 62831853071796 + 21600) / 43200);
+    let s = sine_at(((k + 1) * TURN + ARCMINUTES) / HALF_ARCMINUTES);
     let q = mul(s, s);
     mul(4, q)
 }
@@ -47,48 +53,40 @@ fn separation(u: Vector, v: Vector) -> i64
     add(xy, z)
 }
 
-// The figures of two usable places: e is Earth's, g the geocentric vector and d its length.
-fn figures(planet: Coordinates, earth: Coordinates, e: Vector, g: Vector, d: u64, k: u64) -> Figures
-    requires { ⌜ (k ≤ 2700) × (places-usable planet earth ≡ true) × (e ≡ place-of earth) × (g ≡ geocentric-of (place-of planet) (place-of earth)) × (d ≡ distance-of planet earth) ⌝ }
+// The figures of a minute whose view is usable.
+fn figures(planet: Coordinates, earth: Coordinates, v: View, k: u64) -> Figures
+    requires { ⌜ (k ≤ greatest-keep-out) × (places-usable planet earth ≡ true) × (v ≡ view planet earth) ⌝ }
     ensures { λ r. ⌜ r ≡ figures-of k planet earth ⌝ }
 {
-    let s = sun(e);
-    let u = unit(s, length(s));
-    let v = unit(g, d);
-    let q = separation(u, v);
+    let s = sun(v.earth);
+    let to_sun = unit(s, length(s));
+    let to_planet = unit(v.vector, v.distance);
+    let q = separation(to_sun, to_planet);
     let t = threshold(k);
     Figures {
         separation: q,
         threshold: t,
-        distance: d,
+        distance: v.distance,
         planet: planet.radius,
         earth: earth.radius,
     }
 }
 
-// Listed, clear or not usable, for a keep-out of k arcminutes. Both R are tested before the vectors are worked, and D before 16 D.
+// Listed, clear or not usable, for a keep-out of k arcminutes.
 pub fn decide(planet: Coordinates, earth: Coordinates, k: u64) -> Decision
-    requires { ⌜ k ≤ 2700 ⌝ }
+    requires { ⌜ k ≤ greatest-keep-out ⌝ }
     ensures { λ r. ⌜ r ≡ decide-of k planet earth ⌝ }
 {
-    if !usable_radius(planet.radius) {
-        return Decision::Unusable;
+    match sight(planet, earth) {
+        Sight::Unusable => Decision::Unusable,
+        Sight::Usable(v) => {
+            let f = figures(planet, earth, v, k);
+            let q = f.separation;
+            let t = f.threshold;
+            if q <= t {
+                return Decision::Listed(f);
+            }
+            Decision::Clear(f)
+        }
     }
-    if !usable_radius(earth.radius) {
-        return Decision::Unusable;
-    }
-    let e = place(earth);
-    let p = place(planet);
-    let g = geocentric(p, e);
-    let d = length(g);
-    if !usable_distance(planet.radius, earth.radius, d) {
-        return Decision::Unusable;
-    }
-    let f = figures(planet, earth, e, g, d, k);
-    let q = f.separation;
-    let t = f.threshold;
-    if q <= t {
-        return Decision::Listed(f);
-    }
-    Decision::Clear(f)
 }

@@ -5,7 +5,7 @@ ghost use lib.IntN.{pos, natAbs};
 ghost use lib.ListN.{length};
 ghost use Rattle.units.specs.Units.{t-limit};
 ghost use Rattle.runs.specs.Runs.{run-numbers};
-ghost use Rattle.sunlist.specs.SunList.{window-fits, minute as minute-of, flag-of, numbers, answered, written};
+ghost use Rattle.sunlist.specs.SunList.{most-minutes, window-fits, minute as minute-of, flag-of, numbers, answered, written};
 use crate::Decision;
 use crate::ListAnswer;
 use arith::signed::add;
@@ -13,28 +13,40 @@ use arith::signed::wide;
 use units::Instant;
 use units::Refusal;
 
+// separation/specs/Arcminutes.antt and specs/SunList.antt have the same constants under the same names.
+
+// A keep-out is from LEAST_KEEP_OUT to GREATEST_KEEP_OUT arcminutes.
+const LEAST_KEEP_OUT: u64 = 60;
+
+const GREATEST_KEEP_OUT: u64 = 2700;
+
+// A window has at most MOST_MINUTES minutes, each of MINUTE_MS.
+const MOST_MINUTES: u64 = 1440;
+
+const MINUTE_MS: u64 = 60000;
+
 // Whether a window of n minutes and a keep-out of k arcminutes are within their ranges.
 pub fn fits(n: u64, k: u64) -> bool
     ensures { λ r. ⌜ r ≡ window-fits (pos n) (pos k) ⌝ }
 {
-    if k < 60 {
+    if k < LEAST_KEEP_OUT {
         return false;
     }
-    if 2700 < k {
+    if GREATEST_KEEP_OUT < k {
         return false;
     }
     if n < 1 {
         return false;
     }
-    n <= 1440
+    n <= MOST_MINUTES
 }
 
 // Minute j of a window that begins at t0.
 pub fn minute(t0: Instant, j: u64) -> Instant
-    requires { ⌜ (natAbs (t0 .ms) ≤ t-limit) × (j < 1440) ⌝ }
+    requires { ⌜ (natAbs (t0 .ms) ≤ t-limit) × (j < most-minutes) ⌝ }
     ensures { λ r. ⌜ r ≡ minute-of t0 j ⌝ }
 {
-    let ms = add(t0.ms, wide(60000 * j));
+    let ms = add(t0.ms, wide(MINUTE_MS * j));
     Instant { ms }
 }
 
@@ -51,7 +63,7 @@ pub fn flag(d: Decision) -> u8
 
 // Writes the runs of a window's flags, where they fit.
 pub fn write_runs(window: &[u8], out: &mut [u64]) -> ListAnswer
-    requires { ⌜ length (now window) ≤ 1440 ⌝ }
+    requires { ⌜ length (now window) ≤ most-minutes ⌝ }
     ensures { λ r. ⌜ (r ≡ answered (length (now (out .entry))) (numbers (run-numbers (now (window .entry))))) × (now (out .exit) ≡ written (now (out .entry)) (numbers (run-numbers (now (window .entry))))) ⌝ }
 {
     let n = runs::count(window);

@@ -4,12 +4,13 @@ use native.Mathlib.Omega.{arith}
 use mathlib.Core.Path.{sym, _∙_}
 use borrow.Author.Tests.{not-true, not-false}
 use Rattle.series.proofs.Answering.{within, no-turn}
+use Rattle.sunlist.specs.SunList.{most-minutes}
 use Rattle.sunlist.proofs.Calling.{bad-window, in-range, first-refused, last-refused, window, series-told}
 use borrow.Author.Needs.{needs}
 use Rattle.sunlist.proofs.sun_list.Statement.{statement}
 use Rattle.sunlist.proofs.sun_list.Tie as tie
 
-last-few : (n : ℕ) → 1 ≤ n → n ≤ 1440 → n - 1 < 1440
+last-few : (n : ℕ) → 1 ≤ n → n ≤ most-minutes → n - 1 < most-minutes
 last-few n h l = omega arith
 
 natural-or-requires : tie.Need-natural-or-requires

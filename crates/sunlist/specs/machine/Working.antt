@@ -5,13 +5,14 @@ use Prim.Native.Nat.{ℕ, _≤_, _<_}
 use lib.IntN.{natAbs}
 use Rattle.units.specs.Units.{t-limit}
 use Rattle.units.specs.declared.Instant.{Instant}
+use Rattle.separation.specs.Arcminutes.{greatest-keep-out}
 use Rattle.sunlist.specs.declared.Decision.{Decision}
-use Rattle.sunlist.specs.SunList.{minute, first-bad, window-flags}
+use Rattle.sunlist.specs.SunList.{minute, most-minutes, first-bad, window-flags}
 
 -- A window of n minutes from t0, and a keep-out of k arcminutes.
 pub record Window (t0 : Instant) (n k : ℕ) : Type 0 where
-  pub few : n ≤ 1440
-  pub angle : k ≤ 2700
+  pub few : n ≤ most-minutes
+  pub angle : k ≤ greatest-keep-out
   pub start : natAbs (t0 .ms) ≤ t-limit
   pub within : (j : ℕ) → j < n → natAbs (minute t0 j .ms) ≤ t-limit
 

@@ -1,5 +1,5 @@
 -- `sunlist::one_minute::separation` meets its contract. Assumes nothing.
-use Rattle.sunlist.proofs.Working.{x-fits, y-fits, z-fits, xy-fits, sum-fits, sum-is}
+use Rattle.sunlist.proofs.Deciding.{x-fits, y-fits, z-fits, xy-fits, sum-fits, sum-is}
 use borrow.Author.Needs.{needs}
 use Rattle.sunlist.proofs.one_minute.separation.Statement.{statement}
 use Rattle.sunlist.proofs.one_minute.separation.Tie as tie

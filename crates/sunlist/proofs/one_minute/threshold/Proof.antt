@@ -1,5 +1,5 @@
 -- `sunlist::one_minute::threshold` meets its contract. Assumes nothing.
-use Rattle.sunlist.proofs.Working.{square-fits, four-fits, four-is}
+use Rattle.sunlist.proofs.Deciding.{square-fits, four-fits, four-is}
 use borrow.Author.Needs.{needs}
 use Rattle.sunlist.proofs.one_minute.threshold.Statement.{statement}
 use Rattle.sunlist.proofs.one_minute.threshold.Tie as tie

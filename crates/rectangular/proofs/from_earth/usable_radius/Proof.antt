@@ -1,8 +1,8 @@
--- `rectangular::usable_radius` meets its contract. Assumes nothing.
+-- `rectangular::from_earth::usable_radius` meets its contract. Assumes nothing.
 use Rattle.arith.proofs.Signs.{back}
 use Rattle.rectangular.proofs.Usable.{radius-second, radius-first}
-use Rattle.rectangular.proofs.usable_radius.Statement.{statement}
-use Rattle.rectangular.proofs.usable_radius.Tie as tie
+use Rattle.rectangular.proofs.from_earth.usable_radius.Statement.{statement}
+use Rattle.rectangular.proofs.from_earth.usable_radius.Tie as tie
 
 returns : tie.Need-returns
 returns c = let s = c .before in radius-second (s .args .radius) (back (s .args .radius) (s .fits .radius)) (c .if1 .taken)

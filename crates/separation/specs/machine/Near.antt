@@ -1,11 +1,11 @@
--- How near working coordinates must be to exact ones for the promise of the list.
+-- How near working coordinates must be to exact ones for the promise of the list: its proof asks this of them.
 use Prim.Native.Nat.{ℕ, _*_, _^_, _≤_}
 use lib.IntN.{pos, natAbs}
 use Rattle.integers.specs.Fractions.{wholeᶠ, Apart}
 use Rattle.units.specs.declared.Coordinates.{Coordinates}
 use Rattle.separation.specs.Exact.{Exact-coordinates}
 
--- 2*10^5 parts: twice what "L, B and R are within 10^-6 of the exact sum" says.
+-- In parts: twice the 10^-6 within which L, B and R are promised to lie from their exact sums.
 abbrev pub tolerance : ℕ
 tolerance = 2 * 10 ^ 5
 

@@ -1,4 +1,4 @@
--- A vector turned to the true equator, as the code works it, and its size. Assumes nothing.
+-- A vector to-equator to the true equator, as the code works it, and its size. Assumes nothing.
 use mathlib.Core.Path.{_≡_, sym, ap₂, _∙_, subst}
 use Prim.Native.Nat.{ℕ, _+_, _^_, _≤_, _<_}
 use native.Mathlib.Omega.{arith}
@@ -15,12 +15,12 @@ use Rattle.rectangular.specs.machine.Components.{Components}
 use Rattle.arith.proofs.Cells.{Cell, cell}
 use Rattle.cosine.proofs.Ranges.{cosine-size, sine-size}
 use Rattle.rectangular.proofs.Places.{scaled-size, three}
-use Rattle.place.specs.Apparent.{turned}
+use Rattle.place.specs.Apparent.{to-equator}
 
--- Each turned component is at most the sum of two.
-pub turned-size : (k : ℕ) (e : ℤ) (v : Vector) → Components k v → Components (k + k) (turned e v)
-unfolding turned
-turned-size k e v h =
+-- Each to-equator component is at most the sum of two.
+pub equator-size : (k : ℕ) (e : ℤ) (v : Vector) → Components k v → Components (k + k) (to-equator e v)
+unfolding to-equator
+equator-size k e v h =
     let yc = le-trans (scaled-size (v .y) (cosine e) (cosine-size e)) (h .y-in) in
     let ys = le-trans (scaled-size (v .y) (sine e) (sine-size e)) (h .y-in) in
     let zc = le-trans (scaled-size (v .z) (cosine e) (cosine-size e)) (h .z-in) in
@@ -68,9 +68,9 @@ module _ (v : Vector) (h : Components (2 ^ 61) v) (e : ℕ) (c s : ℤ) (pc : c 
     pub z-asks : SFits w64 (Cell ys +ℤ Cell zc)
     z-asks = subst (SFits w64) (sym z-is) (fits _ z-in-range)
 
-    pub turned-is : (y z : ℤ) → y ≡ Cell yc -ℤ Cell zs → z ≡ Cell ys +ℤ Cell zc → _≡_ {A = Vector} (record { x = Cell (v .x); y = Cell y; z = Cell z }) (turned (pos e) v)
-    unfolding turned
-    turned-is y z ey ez =
+    pub to-equator-is : (y z : ℤ) → y ≡ Cell yc -ℤ Cell zs → z ≡ Cell ys +ℤ Cell zc → _≡_ {A = Vector} (record { x = Cell (v .x); y = Cell y; z = Cell z }) (to-equator (pos e) v)
+    unfolding to-equator
+    to-equator-is y z ey ez =
         let p = ey ∙ y-is in
         let q = ez ∙ z-is in
         three (cell (v .x) (let a = h .x-in in omega arith))

@@ -12,18 +12,24 @@ use Rattle.units.specs.Units.{U}
 use Rattle.units.specs.declared.Coordinates.{Coordinates}
 use Rattle.cosine.specs.Cosine.{sine}
 use Rattle.rectangular.specs.declared.Vector.{Vector}
+use Rattle.rectangular.specs.declared.View.{View}
+use Rattle.rectangular.specs.declared.Sight.{Sight}
+use Rattle.rectangular.specs.declared.Sight.the-variants.{Usable, Unusable as Unusable-sight}
 use Rattle.rectangular.specs.Vectors.{geocentric, sun, squared, length, unit}
-use Rattle.rectangular.specs.Rectangular.{place, distance, places-usable}
+use Rattle.rectangular.specs.Rectangular.{place}
+use Rattle.rectangular.specs.Sight.{greatest-radius, distance, places-usable, view, sight}
 use Rattle.rectangular.specs.machine.Components.{Components}
 use Rattle.arith.proofs.Cells.{Cell, cell}
 use Rattle.cosine.proofs.Ranges.{sine-size}
 use Rattle.rectangular.proofs.Places.{smaller}
 use Rattle.rectangular.proofs.Radii.{geocentric-size, place-in, radius-in}
+use Rattle.rectangular.proofs.Usable.{Usable-places, usable-places}
+use Rattle.rectangular.proofs.Sights.{sight-usable, sight-unusable, view-vector-in}
 use Rattle.separation.specs.Listed.{squared-separation, threshold, listed}
 use Rattle.sunlist.specs.declared.Figures.{Figures}
 use Rattle.sunlist.specs.declared.Decision.the-variants.{Listed, Clear, Unusable}
 use Rattle.sunlist.specs.Minute.{figures, decide}
-use Rattle.sunlist.proofs.Separations.{half-angle, threshold-is, square-size, four-size, unit-size, sun-far, Usable, usable-is, separation-size}
+use Rattle.sunlist.proofs.Separations.{half-angle, threshold-is, square-size, four-size, unit-size, sun-far, seen-far, separation-size}
 
 -- ---- threshold
 
@@ -117,75 +123,112 @@ module _ (u v w : Vector) (hu : Components U u) (hv : Components U v) (hs : natA
 
 -- ---- figures
 
--- What is learnt of planet and Earth on the way to the figures.
-module _ (k : ℕ) (planet earth : Coordinates) (ok : places-usable planet earth ≡ true) (e g : Vector) (d : ℕ) (pe : e ≡ place earth) (pg : g ≡ geocentric (place planet) (place earth)) (pd : d ≡ distance planet earth) where
-  far : Usable planet earth
-  far = usable-is planet earth ok
+-- What is learnt on the way from a usable view to its figures.
+module _ (k : ℕ) (planet earth : Coordinates) (ok : places-usable planet earth ≡ true) (v : View) (pv : v ≡ view planet earth) where
+  radii : Usable-places planet earth
+  radii = usable-places planet earth ok
 
-  pub earth-asks : Components (2 ^ 61) e
-  earth-asks = subst (Components (2 ^ 61)) (sym pe) (smaller 6400000000000 (2 ^ 61) (place earth) (omega arith) (place-in earth (far .earth-radius)))
+  earth-is : v .earth ≡ place earth
+  earth-is = ap (λ (w : View). w .earth) pv
 
-  pub seen-asks : (d ≡ length g) × (0 < d) × Components (2 ^ 45) g
+  vector-is : v .vector ≡ geocentric (place planet) (place earth)
+  vector-is = ap (λ (w : View). w .vector) pv
+
+  distance-is : v .distance ≡ distance planet earth
+  distance-is = ap (λ (w : View). w .distance) pv
+
+  earth-in : (m : ℕ) → greatest-radius ≤ m → Components m (place earth)
+  earth-in m h = smaller greatest-radius m (place earth) h (place-in earth (radii .earth-radius))
+
+  pub earth-asks : Components (2 ^ 61) (v .earth)
+  earth-asks = subst (Components (2 ^ 61)) (sym earth-is) (earth-in (2 ^ 61) (omega arith))
+
+  pub vector-asks : (v .distance ≡ length (v .vector)) × (0 < v .distance) × Components (2 ^ 45) (v .vector)
   unfolding distance
-  seen-asks =
-      (pd ∙ ap length (sym pg), (let f = far .seen-far in omega arith), subst (Components (2 ^ 45)) (sym pg) (smaller (6400000000000 + 6400000000000) (2 ^ 45) _ (omega arith) (geocentric-size 6400000000000 (place planet) (place earth) (place-in planet (far .planet-radius)) (place-in earth (far .earth-radius)))))
+  vector-asks = (
+    distance-is ∙ ap length (sym vector-is),
+    (let f = seen-far planet earth ok in let d = distance-is in omega arith),
+    subst (Components (2 ^ 45)) (sym vector-is) (smaller (greatest-radius + greatest-radius) (2 ^ 45) _ (omega arith) (view-vector-in planet earth ok)),
+  )
 
-  module _ (s : Vector) (ps : s ≡ sun e) where
+  module _ (s : Vector) (ps : s ≡ sun (v .earth)) where
     s-is : s ≡ sun (place earth)
-    s-is = ps ∙ ap sun pe
+    s-is = ps ∙ ap sun earth-is
 
     pub sun-asks : Components (2 ^ 45) s
-    sun-asks = subst (Components (2 ^ 45)) (sym s-is) (sun-size (2 ^ 45) (place earth) (smaller 6400000000000 (2 ^ 45) (place earth) (omega arith) (place-in earth (far .earth-radius))))
+    sun-asks = subst (Components (2 ^ 45)) (sym s-is) (sun-size (2 ^ 45) (place earth) (earth-in (2 ^ 45) (omega arith)))
+
+    sun-long : U ≤ length (sun (place earth))
+    sun-long = sun-far earth (radii .earth-radius)
 
     pub unit-asks : (l : ℕ) → l ≡ length s → (l ≡ length s) × (0 < l) × Components (2 ^ 45) s
-    unit-asks l h = (h, (let f = sun-far earth (far .earth-radius) in let m : l ≡ length (sun (place earth)) = h ∙ ap length s-is in omega arith), sun-asks)
+    unit-asks l h = (h, (let f = sun-long in let m : l ≡ length (sun (place earth)) = h ∙ ap length s-is in omega arith), sun-asks)
 
-    module _ (u v : Vector) (pu : u ≡ unit s) (pv : v ≡ unit g) where
-      u-is : u ≡ unit (sun (place earth))
-      u-is = pu ∙ ap unit s-is
+    -- The unit vectors x to the Sun and y to the planet.
+    module _ (x y : Vector) (px : x ≡ unit s) (py : y ≡ unit (v .vector)) where
+      x-is : x ≡ unit (sun (place earth))
+      x-is = px ∙ ap unit s-is
 
-      v-is : v ≡ unit (geocentric (place planet) (place earth))
-      v-is = pv ∙ ap unit pg
+      y-is : y ≡ unit (geocentric (place planet) (place earth))
+      y-is = py ∙ ap unit vector-is
 
-      apart-is : squared-separation u v ≡ squared-separation (unit (sun (place earth))) (unit (geocentric (place planet) (place earth)))
-      apart-is = ap₂ squared-separation u-is v-is
+      apart-is : squared-separation x y ≡ squared-separation (unit (sun (place earth))) (unit (geocentric (place planet) (place earth)))
+      apart-is = ap₂ squared-separation x-is y-is
 
-      apart-in : natAbs (squared-separation u v) < 2 ^ 63
+      apart-in : natAbs (squared-separation x y) < 2 ^ 63
       apart-in = let h = separation-size planet earth ok in subst (λ (t : ℤ). natAbs t < 2 ^ 63) (sym apart-is) (omega arith)
 
-      pub separation-asks : Components U u × Components U v × (natAbs (squared-separation u v) < 2 ^ 63)
+      pub separation-asks : Components U x × Components U y × (natAbs (squared-separation x y) < 2 ^ 63)
       unfolding distance
       separation-asks = (
-        subst (Components U) (sym u-is) (unit-size _ (let f = sun-far earth (far .earth-radius) in omega arith)),
-        subst (Components U) (sym v-is) (unit-size _ (let f = far .seen-far in omega arith)),
+        subst (Components U) (sym x-is) (unit-size _ (let f = sun-long in omega arith)),
+        subst (Components U) (sym y-is) (unit-size _ (let f = seen-far planet earth ok in omega arith)),
         apart-in,
       )
 
-      pub figures-are : (q t : ℤ) → q ≡ squared-separation u v → t ≡ threshold k
-          → _≡_ {A = Figures} (record { separation = Cell q; threshold = Cell t; distance = d; planet = Cell (planet .radius); earth = Cell (earth .radius) }) (figures k planet earth)
+      pub figures-are : (q t : ℤ) → q ≡ squared-separation x y → t ≡ threshold k
+          → _≡_ {A = Figures} (record { separation = Cell q; threshold = Cell t; distance = v .distance; planet = Cell (planet .radius); earth = Cell (earth .radius) })
+          (figures k planet earth)
       unfolding figures
       figures-are q t pq pt =
-          let a : Cell q ≡ squared-separation (unit (sun (place earth))) (unit (geocentric (place planet) (place earth))) = cell q (subst (λ (z : ℤ). natAbs z < 2 ^ 63) (sym pq) apart-in) ∙ pq ∙ apart-is in
-          let b : Cell t ≡ threshold k = cell t (let h = threshold-size k in subst (λ (z : ℤ). natAbs z < 2 ^ 63) (sym pt) (omega arith)) ∙ pt in
-          rw (a, b, pd, cell (planet .radius) (radius-in (planet .radius) (far .planet-radius)), cell (earth .radius) (radius-in (earth .radius) (far .earth-radius)))
+          let a = cell q (subst (λ (z : ℤ). natAbs z < 2 ^ 63) (sym pq) apart-in) ∙ pq ∙ apart-is in
+          let b = cell t (let h = threshold-size k in subst (λ (z : ℤ). natAbs z < 2 ^ 63) (sym pt) (omega arith)) ∙ pt in
+          let p = cell (planet .radius) (radius-in (planet .radius) (radii .planet-radius)) in
+          let e = cell (earth .radius) (radius-in (earth .radius) (radii .earth-radius)) in
+          rw (a, b, distance-is, p, e)
 
 -- ---- decide
 
-pub refused : (k : ℕ) (planet earth : Coordinates) → places-usable planet earth ≡ false → Unusable ≡ decide k planet earth
-unfolding decide
-refused k planet earth h = rw h
-
--- The answer from the figures of usable places.
-module _ (k : ℕ) (planet earth : Coordinates) (ok : places-usable planet earth ≡ true) (f : Figures) (pf : f ≡ figures k planet earth) (b : Bool)
-    (h : leZ (Cell (f .separation)) (Cell (f .threshold)) ≡ b) (ps : Cell (f .separation) ≡ f .separation) (pt : Cell (f .threshold) ≡ f .threshold) where
-  listed-is : listed k planet earth ≡ b
-  unfolding listed figures
-  listed-is = ap (λ (x : Figures). leZ (x .separation) (x .threshold)) (sym pf) ∙ sym (ap₂ leZ ps pt) ∙ h
-
-  pub listed-told : b ≡ true → Listed f ≡ decide k planet earth
+-- A sight that is not usable.
+module _ (k : ℕ) (planet earth : Coordinates) (s : Sight) (ps : s ≡ sight planet earth) where
+  pub not-decided : s ≡ Unusable-sight → Unusable ≡ decide k planet earth
   unfolding decide
-  listed-told e = let z : listed k planet earth ≡ true = listed-is ∙ e in rw (ok, z, pf)
+  not-decided h = let u : places-usable planet earth ≡ false = sight-unusable planet earth (sym ps ∙ h) in rw u
 
-  pub clear-told : b ≡ false → Clear f ≡ decide k planet earth
-  unfolding decide
-  clear-told e = let z : listed k planet earth ≡ false = listed-is ∙ e in rw (ok, z, pf)
+  -- A usable one: its view v, then its figures f.
+  module _ (v : View) (h : s ≡ Usable v) where
+    pub usable-told : (places-usable planet earth ≡ true) × (v ≡ view planet earth)
+    usable-told = sight-usable planet earth v (sym ps ∙ h)
+
+    module _ (f : Figures) (pf : f ≡ figures k planet earth) (b : Bool) (g : leZ (Cell (f .separation)) (Cell (f .threshold)) ≡ b) where
+      separation-cell : Cell (f .separation) ≡ f .separation
+      unfolding figures
+      separation-cell =
+          let h = separation-size planet earth (usable-told .0) in
+          cell (f .separation) (subst (λ (x : Figures). natAbs (x .separation) < 2 ^ 63) (sym pf) (omega arith))
+
+      threshold-cell : Cell (f .threshold) ≡ f .threshold
+      unfolding figures
+      threshold-cell = let h = threshold-size k in cell (f .threshold) (subst (λ (x : Figures). natAbs (x .threshold) < 2 ^ 63) (sym pf) (omega arith))
+
+      listed-is : listed k planet earth ≡ b
+      unfolding listed figures
+      listed-is = ap (λ (x : Figures). leZ (x .separation) (x .threshold)) (sym pf) ∙ sym (ap₂ leZ separation-cell threshold-cell) ∙ g
+
+      pub listed-told : b ≡ true → Listed f ≡ decide k planet earth
+      unfolding decide
+      listed-told e = let z : listed k planet earth ≡ true = listed-is ∙ e in rw (usable-told .0, z, pf)
+
+      pub clear-told : b ≡ false → Clear f ≡ decide k planet earth
+      unfolding decide
+      clear-told e = let z : listed k planet earth ≡ false = listed-is ∙ e in rw (usable-told .0, z, pf)

@@ -1,0 +1,48 @@
+-- A planet seen from Earth (RULES, "Places"): the distance D, when both places are usable, and what is then seen.
+use mathlib.Core.Bool.{Bool, cond, _&&_}
+use Prim.Native.Nat.{ℕ, _*_, _/_}
+use lib.IntN.{ℤ, pos, _+ℤ_}
+use lib.Dec.{leb}
+use lib.Signed.{leZ}
+use Rattle.units.specs.Units.{parts}
+use Rattle.units.specs.declared.Coordinates.{Coordinates}
+use Rattle.rectangular.specs.declared.View.{View}
+use Rattle.rectangular.specs.declared.Sight.{Sight}
+use Rattle.rectangular.specs.declared.Sight.the-variants.{Usable, Unusable}
+use Rattle.rectangular.specs.Vectors.{geocentric, length}
+use Rattle.rectangular.specs.Rectangular.{place}
+
+-- A usable R is from 0.1 to 64 AU.
+abbrev pub least-radius : ℕ
+least-radius = parts / 10
+
+abbrev pub greatest-radius : ℕ
+greatest-radius = 64 * parts
+
+unfoldable pub radius-usable : ℤ → Bool
+radius-usable r = leZ (pos least-radius) r && leZ r (pos greatest-radius)
+
+-- A usable D is at least 0.1 AU, and 16 D at least the sum of both R.
+abbrev pub least-distance : ℕ
+least-distance = parts / 10
+
+abbrev pub distance-factor : ℕ
+distance-factor = 16
+
+-- The four checks, in the order in which they are made: the planet's R, Earth's R, D, and 16 D.
+unfoldable pub usable : (planet-radius earth-radius : ℤ) (distance : ℕ) → Bool
+usable rp re d = radius-usable rp && (radius-usable re && (leb least-distance d && leZ (rp +ℤ re) (pos (distance-factor * d))))
+
+-- D of a planet and Earth, and whether their places are usable.
+unfoldable pub distance : Coordinates → Coordinates → ℕ
+distance planet earth = length (geocentric (place planet) (place earth))
+
+unfoldable pub places-usable : Coordinates → Coordinates → Bool
+places-usable planet earth = usable (planet .radius) (earth .radius) (distance planet earth)
+
+-- What is seen of a planet from Earth at one instant, where it may be used.
+abbrev pub view : Coordinates → Coordinates → View
+view planet earth = record { earth = place earth; vector = geocentric (place planet) (place earth); distance = distance planet earth }
+
+unfoldable pub sight : Coordinates → Coordinates → Sight
+sight planet earth = cond (places-usable planet earth) (Usable (view planet earth)) Unusable
