@@ -24,28 +24,28 @@ pub minus-is : (a : ℤ) → pos 0 -ℤ a ≡ negℤ a
 minus-is a = +ℤ-idl (negℤ a)
 
 -- by the quarter k: the amplitude takes the sign, and the parity says which part
-turned-value : (k : ℕ) (a s : ℤ) (v : ℕ) → k < 4 → (k < 2 → s ≡ a) → (2 ≤ k → s ≡ negℤ a)
+signed-value : (k : ℕ) (a s : ℤ) (v : ℕ) → k < 4 → (k < 2 → s ≡ a) → (2 ≤ k → s ≡ negℤ a)
     → half-value (k % 2) s v ≡ rounded (a *ℤ cosine-by negℤ k (even-part (pos v -ℤ pos U)) (odd-part (pos v -ℤ pos U))) U
 unfolding half-value even-value odd-value cosine-by
-turned-value zero a s v h f g = ap (λ z. rounded (z *ℤ even-part (pos v -ℤ pos U)) U) (f (omega arith))
-turned-value (suc zero) a s v h f g = ap (λ z. rounded (z *ℤ negℤ (odd-part (pos v -ℤ pos U))) U) (f (omega arith))
-turned-value (suc (suc zero)) a s v h f g =
+signed-value zero a s v h f g = ap (λ z. rounded (z *ℤ even-part (pos v -ℤ pos U)) U) (f (omega arith))
+signed-value (suc zero) a s v h f g = ap (λ z. rounded (z *ℤ negℤ (odd-part (pos v -ℤ pos U))) U) (f (omega arith))
+signed-value (suc (suc zero)) a s v h f g =
     ap (λ z. rounded (z *ℤ even-part (pos v -ℤ pos U)) U) (g (omega arith)) ∙ ap (λ z. rounded z U) (over a (even-part (pos v -ℤ pos U)))
   where
     over : (a e : ℤ) → negℤ a *ℤ e ≡ a *ℤ negℤ e
     over a e = ring! (a ∷ e ∷ []) (search polys depth 60 fits 100000) tt
-turned-value (suc (suc (suc zero))) a s v h f g =
+signed-value (suc (suc (suc zero))) a s v h f g =
     ap (λ z. rounded (z *ℤ negℤ (odd-part (pos v -ℤ pos U))) U) (g (omega arith)) ∙ ap (λ z. rounded z U) (both a (odd-part (pos v -ℤ pos U)))
   where
     both : (a o : ℤ) → negℤ a *ℤ negℤ o ≡ a *ℤ o
     both a o = ring! (a ∷ o ∷ []) (search polys depth 60 fits 100000) tt
-turned-value (suc (suc (suc (suc k)))) a s v h f g = absurd (omega arith)
+signed-value (suc (suc (suc (suc k)))) a s v h f g = absurd (omega arith)
 
 pub worked-is : (a : ℤ) (b : ℕ) (c t s : ℤ) (x q v : ℕ) → modulo (pos x) turn ≡ term-angle b c t → pos q ≡ q-of quarter (pos x) → pos v ≡ pos U +ℤ w-of quarter angle-step (pos x)
     → (q % 4 < 2 → s ≡ a) → (2 ≤ q % 4 → s ≡ negℤ a) → half-value (q % 2) s v ≡ term-value a b c t
 worked-is a b c t s x q v m e f g h =
     ap (λ k. half-value k s v) (parity q)
-    ∙ turned-value (q % 4) a s v (omega arith) g h
+    ∙ signed-value (q % 4) a s v (omega arith) g h
     ∙ ap (λ z. rounded (a *ℤ z) U) (cosine-from x q v e f)
     ∙ value-is a b c t x m
   where

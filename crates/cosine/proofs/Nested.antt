@@ -13,17 +13,17 @@ use Rattle.cosine.proofs.Part.{f-up, f-low}
 use Rattle.cosine.proofs.Work.{working}
 use Rattle.cosine.proofs.Series.{C-up-is, C-low-is, S-up-is, S-low-is}
 
-turned : (q : ℤ) → modulo (q +ℤ pos 3) 4 ≡ (modulo q 4 + 3) % 4
+shifted : (q : ℤ) → modulo (q +ℤ pos 3) 4 ≡ (modulo q 4 + 3) % 4
 unfolding modulo
-turned q = modulo-add q (pos 3) 4 (omega arith)
+shifted q = modulo-add q (pos 3) 4 (omega arith)
 
-pub sine-turned : {A : Type 0} (neg : A → A) (k : ℕ) → k < 4 → (e o : A) → cosine-by neg ((k + 3) % 4) e o ≡ sine-by neg k e o
+pub sine-shift : {A : Type 0} (neg : A → A) (k : ℕ) → k < 4 → (e o : A) → cosine-by neg ((k + 3) % 4) e o ≡ sine-by neg k e o
 unfolding cosine-by sine-by
-sine-turned neg zero h e o = refl
-sine-turned neg (suc zero) h e o = refl
-sine-turned neg (suc (suc zero)) h e o = refl
-sine-turned neg (suc (suc (suc zero))) h e o = refl
-sine-turned neg (suc (suc (suc (suc k)))) h e o = absurd (omega arith)
+sine-shift neg zero h e o = refl
+sine-shift neg (suc zero) h e o = refl
+sine-shift neg (suc (suc zero)) h e o = refl
+sine-shift neg (suc (suc (suc zero))) h e o = refl
+sine-shift neg (suc (suc (suc (suc k)))) h e o = absurd (omega arith)
 
 pub cosine-is : (Q step : ℕ) (X : ℤ) → working (modulo (q-of Q X +ℤ pos 0) 4) (w-of Q step X) ≡ working-cosine Q step X
 unfolding working working-cosine
@@ -32,7 +32,7 @@ cosine-is Q step X = ap (λ q. working (modulo q 4) (w-of Q step X)) (+ℤ-idr (
 pub sine-is : (Q step : ℕ) (X : ℤ) → working (modulo (q-of Q X +ℤ pos 3) 4) (w-of Q step X) ≡ working-sine Q step X
 unfolding working working-sine
 sine-is Q step X =
-    ap (λ k. working k (w-of Q step X)) (turned (q-of Q X)) ∙ sine-turned negℤ (modulo (q-of Q X) 4) (modulo-lt (q-of Q X) 4 (omega arith)) (even-part (w-of Q step X)) (odd-part (w-of Q step X))
+    ap (λ k. working k (w-of Q step X)) (shifted (q-of Q X)) ∙ sine-shift negℤ (modulo (q-of Q X) 4) (modulo-lt (q-of Q X) 4 (omega arith)) (even-part (w-of Q step X)) (odd-part (w-of Q step X))
 
 abbrev pub nested : ℕ → ℤ → ℤ → Fraction
 nested k r N = record { upper = f-up k r N; lower = f-low k N }
@@ -52,6 +52,6 @@ reference-is n N = ap (λ q. nested (modulo q 4) (ref-r n N) (pos F *ℤ pos N))
 pub reference-sine-is : (n : ℤ) (N : ℕ) → nested (modulo (ref-q n N +ℤ pos 3) 4) (ref-r n N) (pos F *ℤ pos N) ≡ reference-sine n N
 unfolding reference-sine
 reference-sine-is n N =
-    ap (λ k. nested k (ref-r n N) (pos F *ℤ pos N)) (turned (ref-q n N))
+    ap (λ k. nested k (ref-r n N) (pos F *ℤ pos N)) (shifted (ref-q n N))
     ∙ plain ((modulo (ref-q n N) 4 + 3) % 4) (ref-r n N) (pos F *ℤ pos N)
-    ∙ sine-turned negᶠ (modulo (ref-q n N) 4) (modulo-lt (ref-q n N) 4 (omega arith)) (even-series (ref-r n N) (pos F *ℤ pos N)) (odd-series (ref-r n N) (pos F *ℤ pos N))
+    ∙ sine-shift negᶠ (modulo (ref-q n N) 4) (modulo-lt (ref-q n N) 4 (omega arith)) (even-series (ref-r n N) (pos F *ℤ pos N)) (odd-series (ref-r n N) (pos F *ℤ pos N))

@@ -11,7 +11,7 @@ use Rattle.integers.proofs.Division.{floor-is, modulo-shift}
 use Rattle.integers.proofs.Order.{≼-nat}
 use Rattle.units.specs.Units.{millennium as T, turn as P, angle-per-part}
 use Rattle.cosine.specs.Terms.{term-angle}
-use Rattle.cosine.specs.machine.Prepared.{Residue}
+use Rattle.cosine.specs.machine.Prepared.{half-millennium, Residue}
 
 pub residue-+ : {n m : ℤ} {q r s t : ℕ} → Residue n q r → Residue m s t → Residue (n +ℤ m) (q + s) (r + t)
 residue-+ {n} {m} {q} {r} {s} {t} a b = record {
@@ -48,16 +48,16 @@ residue-carry {n} {q} {r} a = record {
     law T P k j m e s = ring! (T ∷ P ∷ k ∷ j ∷ m ∷ e ∷ s ∷ []) (search polys depth 60 fits 100000) tt
 
 -- the opposite, and half of T more
-pub residue-rest : {n : ℤ} {q r : ℕ} → q < P → r < T → Residue n q r → Residue (pos 15778800000000 -ℤ n) (62831853071795 - q) (47336400000000 - r)
+pub residue-rest : {n : ℤ} {q r : ℕ} → q < P → r < T → Residue n q r → Residue (pos half-millennium -ℤ n) ((P - 1) - q) ((T + half-millennium) - r)
 residue-rest {n} {q} {r} hq hr a = record {
   turns = negℤ (a .turns) -ℤ pos 1;
-  is = ap (λ z. pos 15778800000000 -ℤ z) (a .is) ∙ law (a .turns) (pos q) (pos r) ∙ ap₂ (λ s t. pos T *ℤ (pos P *ℤ (negℤ (a .turns) -ℤ pos 1) +ℤ s) +ℤ t) (minus 62831853071795 q (omega arith)) (minus 47336400000000 r (omega arith));
+  is = ap (λ z. pos half-millennium -ℤ z) (a .is) ∙ law (a .turns) (pos q) (pos r) ∙ ap₂ (λ s t. pos T *ℤ (pos P *ℤ (negℤ (a .turns) -ℤ pos 1) +ℤ s) +ℤ t) (minus (P - 1) q (omega arith)) (minus (T + half-millennium) r (omega arith));
 }
   where
     minus : (x y : ℕ) → y ≤ x → pos x -ℤ pos y ≡ pos (x - y)
     minus x y h = same (nat x -ᵢ nat y) (nat (x - y)) (omega arith)
 
-    law : (k q r : ℤ) → pos 15778800000000 -ℤ (pos T *ℤ (pos P *ℤ k +ℤ q) +ℤ r) ≡ pos T *ℤ (pos P *ℤ (negℤ k -ℤ pos 1) +ℤ (pos 62831853071795 -ℤ q)) +ℤ (pos 47336400000000 -ℤ r)
+    law : (k q r : ℤ) → pos half-millennium -ℤ (pos T *ℤ (pos P *ℤ k +ℤ q) +ℤ r) ≡ pos T *ℤ (pos P *ℤ (negℤ k -ℤ pos 1) +ℤ (pos (P - 1) -ℤ q)) +ℤ (pos (T + half-millennium) -ℤ r)
     law k q r = ring! (k ∷ q ∷ r ∷ []) (search polys depth 60 fits 100000) tt
 
 -- the same number, written otherwise
@@ -65,7 +65,7 @@ pub residue-as : {n m : ℤ} {q r : ℕ} → n ≡ m → Residue n q r → Resid
 residue-as e a = record { turns = a .turns; is = sym e ∙ a .is }
 
 -- rounded n/T, from n + T/2
-pub rounded-residue : (n : ℤ) (q r : ℕ) (a : Residue (pos 15778800000000 +ℤ n) q r) → rounded n T ≡ pos P *ℤ a .turns +ℤ pos (q + r / T)
+pub rounded-residue : (n : ℤ) (q r : ℕ) (a : Residue (pos half-millennium +ℤ n) q r) → rounded n T ≡ pos P *ℤ a .turns +ℤ pos (q + r / T)
 unfolding rounded
 rounded-residue n q r a =
     let k = a .turns in
@@ -77,12 +77,12 @@ rounded-residue n q r a =
     (cert! ρ 0 (2 · gap≡ (sym (a .is)) ⊞ 2 · gap (≼-nat (T * e) r l)) (search polys depth 60 fits 100000) tt)
     (cert<! ρ 0 (2 · gap≡ (a .is) ⊞ 2 · gap (≼-nat (r + 1) (T * e + T) (omega arith))) (search polys depth 60 fits 100000) tt)
 
--- so the term's angle is q + r/T + 100b, but for whole turns
-pub angle-of : (b : ℕ) (c t : ℤ) (q r : ℕ) → Residue (pos 15778800000000 +ℤ pos angle-per-part *ℤ c *ℤ t) q r → modulo (pos (q + r / T + 100 * b)) P ≡ term-angle b c t
+-- so the term's angle is q + r/T + angle-per-part·b, but for whole turns
+pub angle-of : (b : ℕ) (c t : ℤ) (q r : ℕ) → Residue (pos half-millennium +ℤ pos angle-per-part *ℤ c *ℤ t) q r → modulo (pos (q + r / T + angle-per-part * b)) P ≡ term-angle b c t
 unfolding term-angle
 angle-of b c t q r a =
-    sym (modulo-shift (a .turns) (pos (q + r / T + 100 * b)) P (omega arith))
-    ∙ ap (λ z. modulo z P) (law (pos P *ℤ a .turns) (pos (q + r / T)) (pos (100 * b)) ∙ ap (λ z. pos (angle-per-part * b) +ℤ z) (sym (rounded-residue (pos angle-per-part *ℤ c *ℤ t) q r a)))
+    sym (modulo-shift (a .turns) (pos (q + r / T + angle-per-part * b)) P (omega arith))
+    ∙ ap (λ z. modulo z P) (law (pos P *ℤ a .turns) (pos (q + r / T)) (pos (angle-per-part * b)) ∙ ap (λ z. pos (angle-per-part * b) +ℤ z) (sym (rounded-residue (pos angle-per-part *ℤ c *ℤ t) q r a)))
   where
     law : (x y z : ℤ) → x +ℤ (y +ℤ z) ≡ z +ℤ (x +ℤ y)
     law x y z = ring! (x ∷ y ∷ z ∷ []) (search polys depth 60 fits 100000) tt

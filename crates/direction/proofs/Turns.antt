@@ -8,28 +8,28 @@ use lib.Dec.{T}
 use lib.IntN.{ℤ, pos, negsuc, negℤ, natAbs}
 use Rattle.integers.specs.Signs.{negative, sgn}
 use Rattle.integers.proofs.Order.{natAbs-neg}
-use Rattle.direction.specs.Direction.{quarter-steps, in-quarter, first-quarter, turned-in, direction}
+use Rattle.direction.specs.Direction.{quarter-steps, in-quarter, first-quarter, within-turns, direction}
 
 -- ---- one step of the definition
-no-origin : (x y : ℤ) → 0 < natAbs x + natAbs y → direction x y ≡ turned-in 3 x y
+no-origin : (x y : ℤ) → 0 < natAbs x + natAbs y → direction x y ≡ within-turns 3 x y
 unfolding direction
 no-origin x y h = rw (ne-eqb (natAbs x + natAbs y) 0 (λ e. omega (arith, e))) refl
 
-stop : (t x y : ℕ) → 0 < x → turned-in t (pos x) (pos y) ≡ in-quarter (pos x) (pos y)
-unfolding turned-in first-quarter
+stop : (t x y : ℕ) → 0 < x → within-turns t (pos x) (pos y) ≡ in-quarter (pos x) (pos y)
+unfolding within-turns first-quarter
 stop zero x y h = refl
 stop (suc t) x y h = rw (lt-ltb 0 x h, le-leb 0 y (omega arith)) refl
 
-turn-neg : (t m : ℕ) (y : ℤ) → turned-in (suc t) (negℤ (pos m)) y ≡ quarter-steps + turned-in t y (pos m)
-unfolding turned-in first-quarter
+turn-neg : (t m : ℕ) (y : ℤ) → within-turns (suc t) (negℤ (pos m)) y ≡ quarter-steps + within-turns t y (pos m)
+unfolding within-turns first-quarter
 turn-neg t zero y = refl
 turn-neg t (suc m) y = refl
 
-turn-below : (t n : ℕ) (x : ℤ) → turned-in (suc t) x (negsuc n) ≡ quarter-steps + turned-in t (negsuc n) (negℤ x)
-unfolding turned-in first-quarter
+turn-below : (t n : ℕ) (x : ℤ) → within-turns (suc t) x (negsuc n) ≡ quarter-steps + within-turns t (negsuc n) (negℤ x)
+unfolding within-turns first-quarter
 turn-below t n (pos m) = either (lib.Dec.ltb 0 m)
   where
-    either : (b : Bool) → cond (cond b false false) (in-quarter (pos m) (negsuc n)) (quarter-steps + turned-in t (negsuc n) (negℤ (pos m))) ≡ quarter-steps + turned-in t (negsuc n) (negℤ (pos m))
+    either : (b : Bool) → cond (cond b false false) (in-quarter (pos m) (negsuc n)) (quarter-steps + within-turns t (negsuc n) (negℤ (pos m))) ≡ quarter-steps + within-turns t (negsuc n) (negℤ (pos m))
     either true = refl
     either false = refl
 turn-below t n (negsuc m) = refl

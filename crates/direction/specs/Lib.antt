@@ -1,3 +1,3 @@
--- Document 01, "Places": the angle of a number of units, direction and latitude of a vector.
+-- RULES, "Places": the angle of a number of units, direction and latitude of a vector.
 pub mod Angles
 pub mod Direction

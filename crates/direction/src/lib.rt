@@ -1,4 +1,4 @@
-// Direction and latitude of a vector, in hundredths of an arcsecond, and the angle of a number of units: document 01, "Places".
+// Direction and latitude of a vector, in hundredths of an arcsecond, and the angle of a number of units: RULES, "Places".
 ghost use mathlib.Core.Path.{_≡_};
 ghost use Prim.Native.Nat.{_+_, _-_, _*_, _<_, _≤_, _^_};
 ghost use lib.IntN.{pos, natAbs, _+ℤ_, _*ℤ_};
@@ -14,21 +14,36 @@ use arith::signed::low;
 use arith::signed::of_parts;
 use arith::signed::wide;
 use cosine::working::cosine_sine;
+use units::TURN;
+
+// Hundredths of an arcsecond in a quarter turn, and in a turn.
+const QUARTER_STEPS: u64 = 90 * 3600 * 100;
+pub const TURN_STEPS: u64 = 4 * QUARTER_STEPS;
+
+// A turn is so many angles for each of its steps, and this rest.
+const ANGLES_A_STEP: u64 = TURN / TURN_STEPS;
+const ANGLES_LEFT: u64 = TURN % TURN_STEPS;
+
+// The rest is rounded over twice the steps, as the rules round.
+const TWO_TURNS: u64 = 2 * TURN_STEPS;
+
+// The turn as a signed number.
+const SIGNED_TURN: i64 = TURN as i64;
 
 // The angle of s units, of which a turn has `units`, in 10^-13 radian.
 pub fn units_angle(s: i64, units: u64) -> i64
     requires { ⌜ (0 < units) × (units ≤ 2 ^ 47) × (natAbs s * turn < units * (2 ^ 63 - 1)) ⌝ }
     ensures { λ r. ⌜ r ≡ units-angle units s ⌝ }
 {
-    mul_div_round(s, 62831853071796, units)
+    mul_div_round(s, SIGNED_TURN, units)
 }
 
-// The angle of k hundredths of an arcsecond: P is 484,813 times its 129,600,000 parts and 88,271,796 more.
+// The angle of k hundredths of an arcsecond.
 fn step_angle(k: u64) -> u64
     requires { ⌜ k ≤ turn-steps ⌝ }
     ensures { λ r. ⌜ pos r ≡ steps-angle (pos k) ⌝ }
 {
-    k * 484813 + (2 * (k * 88271796) + 129600000) / 259200000
+    k * ANGLES_A_STEP + (2 * (k * ANGLES_LEFT) + TURN_STEPS) / TWO_TURNS
 }
 
 // Whether x times the sine is at most y times the cosine, at the angle of k.
@@ -46,7 +61,7 @@ fn step_in_quarter(x: u64, y: u64) -> u64
     ensures { λ r. ⌜ (r ≡ in-quarter (pos x) (pos y)) × (r < quarter-steps) ⌝ }
 {
     let mut least: u64 = 0;
-    let mut most: u64 = 32400000;
+    let mut most: u64 = QUARTER_STEPS;
     while 1 < most - least {
         let middle = least + (most - least) / 2;
         if is_not_past(x, y, middle) {
@@ -63,7 +78,7 @@ fn after_turns(turns: u64, x: u64, y: u64) -> i64
     requires { ⌜ (turns < 4) × (x < 2 ^ 47) × (y < 2 ^ 47) ⌝ }
     ensures { λ r. ⌜ r ≡ pos (turns * quarter-steps + in-quarter (pos x) (pos y)) ⌝ }
 {
-    wide(turns * 32400000 + step_in_quarter(x, y))
+    wide(turns * QUARTER_STEPS + step_in_quarter(x, y))
 }
 
 // The direction of (x, y).

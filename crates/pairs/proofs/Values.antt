@@ -1,6 +1,6 @@
 -- The sum of two terms' values fits 64 bits, and is worked from cosines that are U too great. Assumes nothing.
 use mathlib.Core.Path.{_≡_, ap, ap₂, _∙_}
-use Prim.Native.Nat.{ℕ, _≤_, _<_}
+use Prim.Native.Nat.{ℕ, _*_, _≤_, _<_}
 use native.Mathlib.Omega.{arith}
 use lib.IntN.{ℤ, pos, natAbs, _+ℤ_, _-ℤ_, _*ℤ_}
 use mir.Syntax.{w64}
@@ -12,12 +12,12 @@ use Rattle.arith.proofs.Signs.{back}
 use Rattle.arith.proofs.Cells.{Cell}
 use Rattle.arith.proofs.Ranges.{scaled-within}
 use Rattle.units.specs.Units.{U, a-limit}
-use Rattle.cosine.proofs.Natural.{lowered}
+use Rattle.cosine.proofs.Natural.{unbiased}
 
-value-small : (a : ℤ) (c : ℕ) → natAbs a < a-limit → c ≤ 2000000000 → natAbs (rounded (a *ℤ (pos c -ℤ pos U)) U) ≤ a-limit
+value-small : (a : ℤ) (c : ℕ) → natAbs a < a-limit → c ≤ 2 * U → natAbs (rounded (a *ℤ (pos c -ℤ pos U)) U) ≤ a-limit
 value-small a c h k = scaled-within a (pos c -ℤ pos U) U a-limit (omega arith) (omega arith) (natAbs-le (pos c -ℤ pos U) U (less (negᵢ (nat U)) (nat c -ᵢ nat U) (omega arith)) (less (nat c -ᵢ nat U) (nat U) (omega arith)))
 
-pub two-fit : (a b : ℤ) (c d : ℕ) → natAbs a < a-limit → natAbs b < a-limit → c ≤ 2000000000 → d ≤ 2000000000
+pub two-fit : (a b : ℤ) (c d : ℕ) → natAbs a < a-limit → natAbs b < a-limit → c ≤ 2 * U → d ≤ 2 * U
     → SFits w64 (rounded (a *ℤ (pos c -ℤ pos U)) U +ℤ rounded (b *ℤ (pos d -ℤ pos U)) U)
 two-fit a b c d ha hb hc hd =
     let m = natAbs-+ (rounded (a *ℤ (pos c -ℤ pos U)) U) (rounded (b *ℤ (pos d -ℤ pos U)) U) in
@@ -34,4 +34,4 @@ pub two-back : (r a b : ℤ) (c d : ℕ) (z w : ℤ) → SFits w64 r → SFits w
 two-back r a b c d z w h k l e f g =
     back r h ∙ g
     ∙ ap₂ (λ i j. rounded (i *ℤ (pos c -ℤ pos U)) U +ℤ rounded (j *ℤ (pos d -ℤ pos U)) U) (back a k) (back b l)
-    ∙ ap₂ (λ i j. rounded (a *ℤ i) U +ℤ rounded (b *ℤ j) U) (lowered c z e) (lowered d w f)
+    ∙ ap₂ (λ i j. rounded (a *ℤ i) U +ℤ rounded (b *ℤ j) U) (unbiased c z e) (unbiased d w f)

@@ -4,6 +4,7 @@ use Prim.Native.Nat.{ℕ, _+_, _*_}
 use lib.IntN.{pos}
 use Rattle.arith.proofs.Signs.{back, ok}
 use borrow.Author.Needs.{needs}
+use Rattle.direction.specs.Direction.{quarter-steps}
 use Rattle.direction.proofs.after_turns.Statement.{statement}
 use Rattle.direction.proofs.after_turns.Tie as tie
 
@@ -22,7 +23,7 @@ wide-requires c κs = search needs
 returns : tie.Need-returns
 returns c =
     let q = c .before in
-    back (c .wide .result) (ok (c .wide .ok)) ∙ c .wide .ensures ∙ ap (λ (n : ℕ). pos (q .before .args .turns * 32400000 + n)) (q .step-in-quarter .ensures .0)
+    back (c .wide .result) (ok (c .wide .ok)) ∙ c .wide .ensures ∙ ap (λ (n : ℕ). pos (q .before .args .turns * quarter-steps + n)) (q .step-in-quarter .ensures .0)
 
 pub after-turns-spec : {M : Type 1} → statement M
 after-turns-spec =

@@ -1,31 +1,24 @@
+-- `direction::step_angle` meets its contract. Assumes nothing.
 use Rattle.direction.proofs.Steps.{step-is}
 use borrow.Author.Needs.{needs}
 use Rattle.direction.proofs.step_angle.Statement.{statement}
 use Rattle.direction.proofs.step_angle.Tie as tie
-use Rattle.direction.proofs.step_angle.Reads as reads
-use Rattle.direction.proofs.step_angle.Lts as lts
 
--- src/inner.rt:31:5
 mul-result : tie.Need-mul-result
 mul-result c = search needs
 
--- src/inner.rt:31:24
 mul-result-2 : tie.Need-mul-result-2
 mul-result-2 c = search needs
 
--- src/inner.rt:31:19
 mul-result-3 : tie.Need-mul-result-3
 mul-result-3 c = search needs
 
--- src/inner.rt:31:19
 add-result : tie.Need-add-result
 add-result c = search needs
 
--- src/inner.rt:31:5
 add-result-2 : tie.Need-add-result-2
 add-result-2 c = search needs
 
--- src/inner.rt:27:1
 returns : tie.Need-returns
 returns c = step-is (c .args .k)
 

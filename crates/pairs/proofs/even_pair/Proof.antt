@@ -1,7 +1,7 @@
 -- `pairs::even_pair` meets its contract. Assumes nothing.
 use native.Mathlib.Omega.{arith}
 use borrow.Author.Needs.{needs}
-use Rattle.cosine.proofs.Natural.{even-lifted}
+use Rattle.cosine.proofs.Natural.{even-biased}
 use Rattle.pairs.proofs.even_pair.Statement.{statement}
 use Rattle.pairs.proofs.even_pair.Tie as tie
 
@@ -23,8 +23,8 @@ returns c =
     let y = s .before .square-pair in
     let v = s .before .before .args .v in
     let h = s .even-series-pair in (
-      even-lifted (v .one) (y .result .one) (h .result .one) (y .ensures .0) (h .ensures .0),
-      even-lifted (v .two) (y .result .two) (h .result .two) (y .ensures .1) (h .ensures .1),
+      even-biased (v .one) (y .result .one) (h .result .one) (y .ensures .0) (h .ensures .0),
+      even-biased (v .two) (y .result .two) (h .result .two) (y .ensures .1) (h .ensures .1),
       omega arith,
       omega arith,
     )

@@ -12,18 +12,18 @@ use Rattle.pairs.proofs.Values.{value-back, two-fit}
 use Rattle.pairs.proofs.scaled_pair.Statement.{statement}
 use Rattle.pairs.proofs.scaled_pair.Tie as tie
 
-scaled-requires : tie.Need-scaled-requires
-scaled-requires c κs = search needs
+times-cosine-requires : tie.Need-times-cosine-requires
+times-cosine-requires c κs = search needs
 
-scaled-requires-2 : tie.Need-scaled-requires-2
-scaled-requires-2 c κs = search needs
+times-cosine-requires-2 : tie.Need-times-cosine-requires-2
+times-cosine-requires-2 c κs = search needs
 
 -- what `add` is given
-given : (c : tie.After-scaled2) → (let s = c .before .before .args in
-    Cell (c .before .scaled .result) +ℤ Cell (c .scaled2 .result) ≡ rounded (s .a1 *ℤ (pos (s .c .one) -ℤ pos U)) U +ℤ rounded (s .a2 *ℤ (pos (s .c .two) -ℤ pos U)) U)
+given : (c : tie.After-times-cosine2) → (let s = c .before .before .args in
+    Cell (c .before .times-cosine .result) +ℤ Cell (c .times-cosine2 .result) ≡ rounded (s .a1 *ℤ (pos (s .c .one) -ℤ pos U)) U +ℤ rounded (s .a2 *ℤ (pos (s .c .two) -ℤ pos U)) U)
 given c =
-    let x = c .before .scaled in
-    let y = c .scaled2 in
+    let x = c .before .times-cosine in
+    let y = c .times-cosine2 in
     let s = c .before .before in
     ap₂ _+ℤ_ (value-back (x .result) (s .args .a1) (s .args .c .one) (ok (x .ok)) (s .fits .a1) (x .ensures)) (value-back (y .result) (s .args .a2) (s .args .c .two) (ok (y .ok)) (s .fits .a2) (y .ensures))
 
@@ -36,4 +36,4 @@ returns : tie.Need-returns
 returns c = back (c .add .result) (ok (c .add .ok)) ∙ c .add .ensures ∙ given (c .before)
 
 pub scaled-pair-spec : {M : Type 1} → statement M
-scaled-pair-spec = tie.close (tie.spec scaled-requires scaled-requires-2 add-requires returns)
+scaled-pair-spec = tie.close (tie.spec times-cosine-requires times-cosine-requires-2 add-requires returns)

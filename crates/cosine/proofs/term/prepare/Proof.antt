@@ -4,18 +4,19 @@ use mathlib.Core.Path.{_≡_}
 use mir.Syntax.{w64}
 use mir.Val.{toZ, ofZ}
 use borrow.Author.Needs.{needs}
-use Rattle.cosine.proofs.Places.{raised-most, ready}
+use Rattle.units.specs.Units.{t-limit}
+use Rattle.cosine.proofs.Places.{biased-most, ready}
 use Rattle.cosine.proofs.term.prepare.Statement.{statement}
 use Rattle.cosine.proofs.term.prepare.Tie as tie
 
-raised-requires : tie.Need-raised-requires
-raised-requires c κs = search needs
+biased-requires : tie.Need-biased-requires
+biased-requires c κs = search needs
 
 mul-n : tie.Need-mul-n
 mul-n c =
     let s = c .before .before in
     let e : toZ w64 (ofZ w64 (s .args .at .ms)) ≡ s .args .at .ms = search needs in
-    omega (arith, raised-most (s .args .at .ms) 63115200000000 (c .raised .result) (rw e at (c .raised .ensures)), s .pre)
+    omega (arith, biased-most (s .args .at .ms) t-limit (c .biased .result) (rw e at (c .biased .ensures)), s .pre)
 
 add-t10 : tie.Need-add-t10
 add-t10 c = search needs
@@ -43,13 +44,13 @@ returns c =
     let e = c .before .before in
     let d = e .before in
     let b = d .before .before .before in
-    (search needs, ready _ (b .raised .result) _ _ _ _ _ _ _ _ (b .raised .ensures) (d .before .before .times .ensures) (d .before .times2 .ensures) (d .times3 .ensures) (e .times4 .ensures))
+    (search needs, ready _ (b .biased .result) _ _ _ _ _ _ _ _ (b .biased .ensures) (d .before .before .times .ensures) (d .before .times2 .ensures) (d .times3 .ensures) (e .times4 .ensures))
 
 pub prepare-spec : {M : Type 1} → statement M
 prepare-spec =
     tie.close
     (tie.spec
-    raised-requires
+    biased-requires
     mul-n
     add-t10
     times-requires

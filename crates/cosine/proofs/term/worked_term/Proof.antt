@@ -14,11 +14,11 @@ angle-requires c κs = search needs
 quarters-requires : tie.Need-quarters-requires
 quarters-requires c κs = search needs
 
-turned-requires : tie.Need-turned-requires
-turned-requires c κs = search needs
+signed-amplitude-requires : tie.Need-signed-amplitude-requires
+signed-amplitude-requires c κs = search needs
 
-offset-requires : tie.Need-offset-requires
-offset-requires c κs = search needs
+biased-angle-requires : tie.Need-biased-angle-requires
+biased-angle-requires c κs = search needs
 
 returns : tie.Need-returns
 returns c =
@@ -27,15 +27,15 @@ returns c =
     let x = q .before in
     let s = x .before in
     let a = back (s .args .a) (s .fits .a) in
-    let r = back (k .turned .result) (ok (k .turned .ok)) in (
-      worked-is (s .args .a) (s .args .b) (s .args .c) (s .args .p .t) _ (x .angle .result) (q .quarters .result) (c .offset .result)
-          (rw (back (s .args .c) (s .fits .c)) at (x .angle .ensures .0)) (q .quarters .ensures) (c .offset .ensures .0)
-          (λ h. r ∙ k .turned .ensures .0 h ∙ a) (λ h. r ∙ k .turned .ensures .1 h ∙ ap negℤ a),
-      ap natAbs r ∙ k .turned .ensures .2 ∙ ap natAbs a,
+    let r = back (k .signed-amplitude .result) (ok (k .signed-amplitude .ok)) in (
+      worked-is (s .args .a) (s .args .b) (s .args .c) (s .args .p .t) _ (x .angle .result) (q .quarters .result) (c .biased-angle .result)
+          (rw (back (s .args .c) (s .fits .c)) at (x .angle .ensures .0)) (q .quarters .ensures) (c .biased-angle .ensures .0)
+          (λ h. r ∙ k .signed-amplitude .ensures .0 h ∙ a) (λ h. r ∙ k .signed-amplitude .ensures .1 h ∙ ap negℤ a),
+      ap natAbs r ∙ k .signed-amplitude .ensures .2 ∙ ap natAbs a,
       omega arith,
-      record { low = c .offset .ensures .1; high = c .offset .ensures .2 },
+      c .biased-angle .ensures .1,
     )
 
 pub worked-term-spec : {M : Type 1} → statement M
 worked-term-spec =
-    tie.close (tie.spec angle-requires quarters-requires turned-requires offset-requires returns)
+    tie.close (tie.spec angle-requires quarters-requires signed-amplitude-requires biased-angle-requires returns)

@@ -1,4 +1,5 @@
 -- `cosine::working::even_series` meets its contract. Assumes nothing.
+use Prim.Native.Nat.{_*_}
 use borrow.Author.Needs.{needs}
 use Rattle.cosine.proofs.Natural.{six}
 use Rattle.cosine.proofs.working.even_series.Statement.{statement}
@@ -28,8 +29,11 @@ returns c =
     let c₄ = c₅ .before in
     let c₃ = c₄ .before in
     let c₂ = c₃ .before in
-    let c₁ = c₂ .before in
-    (six _ 2 12 30 56 90 132 _ _ _ _ _ _ (c₁ .first .ensures .0) (c₂ .step .ensures .0) (c₃ .step2 .ensures .0) (c₄ .step3 .ensures .0) (c₅ .step4 .ensures .0) (c .step5 .ensures .0), c .step5 .ensures .1)
+    let c₁ = c₂ .before in (
+      six _ (2 * 1) (4 * 3) (6 * 5) (8 * 7) (10 * 9) (12 * 11) _ _ _ _ _ _ (c₁ .first .ensures .0) (c₂ .step .ensures .0) (c₃ .step2 .ensures .0)
+          (c₄ .step3 .ensures .0) (c₅ .step4 .ensures .0) (c .step5 .ensures .0),
+      c .step5 .ensures .1,
+    )
 
 pub even-series-spec : {M : Type 1} → statement M
 even-series-spec = tie.close (tie.spec first-requires step-requires step-requires-2 step-requires-3 step-requires-4 step-requires-5 returns)

@@ -1,4 +1,5 @@
 -- `cosine::working::odd_series` meets its contract. Assumes nothing.
+use Prim.Native.Nat.{_*_}
 use borrow.Author.Needs.{needs}
 use Rattle.cosine.proofs.Natural.{six}
 use Rattle.cosine.proofs.working.odd_series.Statement.{statement}
@@ -28,8 +29,11 @@ returns c =
     let c₄ = c₅ .before in
     let c₃ = c₄ .before in
     let c₂ = c₃ .before in
-    let c₁ = c₂ .before in
-    (six _ 6 20 42 72 110 156 _ _ _ _ _ _ (c₁ .first .ensures .0) (c₂ .step .ensures .0) (c₃ .step2 .ensures .0) (c₄ .step3 .ensures .0) (c₅ .step4 .ensures .0) (c .step5 .ensures .0), c .step5 .ensures .1)
+    let c₁ = c₂ .before in (
+      six _ (2 * 3) (4 * 5) (6 * 7) (8 * 9) (10 * 11) (12 * 13) _ _ _ _ _ _ (c₁ .first .ensures .0) (c₂ .step .ensures .0) (c₃ .step2 .ensures .0)
+          (c₄ .step3 .ensures .0) (c₅ .step4 .ensures .0) (c .step5 .ensures .0),
+      c .step5 .ensures .1,
+    )
 
 pub odd-series-spec : {M : Type 1} → statement M
 odd-series-spec = tie.close (tie.spec first-requires step-requires step-requires-2 step-requires-3 step-requires-4 step-requires-5 returns)

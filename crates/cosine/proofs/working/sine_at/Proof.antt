@@ -2,24 +2,24 @@
 use mathlib.Core.Path.{_∙_}
 use borrow.Author.Needs.{needs}
 use Rattle.arith.proofs.Signs.{back, ok}
-use Rattle.cosine.proofs.Natural.{lowered, sine-from}
+use Rattle.cosine.proofs.Natural.{unbiased, sine-from}
 use Rattle.cosine.proofs.working.sine_at.Statement.{statement}
 use Rattle.cosine.proofs.working.sine_at.Tie as tie
 
 quarters-requires : tie.Need-quarters-requires
 quarters-requires c κs = search needs
 
-offset-requires : tie.Need-offset-requires
-offset-requires c κs = search needs
+biased-angle-requires : tie.Need-biased-angle-requires
+biased-angle-requires c κs = search needs
 
-add-lifted : tie.Need-add-lifted
-add-lifted c = search needs
+add-biased-cosine : tie.Need-add-biased-cosine
+add-biased-cosine c = search needs
 
 square-requires : tie.Need-square-requires
 square-requires c κs = search needs
 
-lifted-requires : tie.Need-lifted-requires
-lifted-requires c κs = search needs
+biased-cosine-requires : tie.Need-biased-cosine-requires
+biased-cosine-requires c κs = search needs
 
 difference-requires : tie.Need-difference-requires
 difference-requires c κs = search needs
@@ -28,17 +28,17 @@ returns : tie.Need-returns
 returns c =
     let l = c .before in
     let v = l .before .before in
-    back (c .difference .result) (ok (c .difference .ok)) ∙ c .difference .ensures ∙ lowered (l .lifted .result) _ (l .lifted .ensures .0)
-    ∙ sine-from (v .before .before .args .x) (v .before .quarters .result) (v .offset .result) (v .before .quarters .ensures) (v .offset .ensures .0)
+    back (c .difference .result) (ok (c .difference .ok)) ∙ c .difference .ensures ∙ unbiased (l .biased-cosine .result) _ (l .biased-cosine .ensures .0)
+    ∙ sine-from (v .before .before .args .x) (v .before .quarters .result) (v .biased-angle .result) (v .before .quarters .ensures) (v .biased-angle .ensures .0)
 
 pub sine-at-spec : {M : Type 1} → statement M
 sine-at-spec =
     tie.close
     (tie.spec
     quarters-requires
-    offset-requires
-    add-lifted
+    biased-angle-requires
+    add-biased-cosine
     square-requires
-    lifted-requires
+    biased-cosine-requires
     difference-requires
     returns)

@@ -1,4 +1,4 @@
--- `cosine::term::raised` meets its contract. Assumes nothing.
+-- `cosine::term::biased` meets its contract. Assumes nothing.
 use mathlib.Core.Path.{_≡_, sym, ap₂, _∙_, subst}
 use lib.IntN.{pos, _+ℤ_}
 use lib.Signed.{_≤ℤ_}
@@ -6,9 +6,9 @@ use mir.Syntax.{w64}
 use mir.Val.{SFits, toZ, ofZ}
 use borrow.Author.Needs.{needs}
 use Rattle.arith.proofs.Signs.{back, ok}
-use Rattle.cosine.proofs.Places.{raised-fits, raised-low}
-use Rattle.cosine.proofs.term.raised.Statement.{statement}
-use Rattle.cosine.proofs.term.raised.Tie as tie
+use Rattle.cosine.proofs.Places.{biased-fits, biased-low}
+use Rattle.cosine.proofs.term.biased.Statement.{statement}
+use Rattle.cosine.proofs.term.biased.Tie as tie
 
 wide-requires : tie.Need-wide-requires
 wide-requires c κs = search needs
@@ -21,13 +21,13 @@ sum : (c : tie.After-add) → toZ w64 (ofZ w64 (c .add .result)) ≡ c .before .
 sum c = back (c .add .result) (ok (c .add .ok)) ∙ c .add .ensures ∙ given (c .before)
 
 add-requires : tie.Need-add-requires
-add-requires c κs = subst (λ z. SFits w64 z) (sym (given c)) (raised-fits (c .before .args .x) (c .before .args .k) (c .before .pre .0) (c .before .pre .1))
+add-requires c κs = subst (λ z. SFits w64 z) (sym (given c)) (biased-fits (c .before .args .x) (c .before .args .k) (c .before .pre .0) (c .before .pre .1))
 
 low-requires : tie.Need-low-requires
-low-requires c κs = subst (λ z. pos 0 ≤ℤ z) (sym (sum c)) (raised-low (c .before .before .args .x) (c .before .before .args .k) (c .before .before .pre .0))
+low-requires c κs = subst (λ z. pos 0 ≤ℤ z) (sym (sum c)) (biased-low (c .before .before .args .x) (c .before .before .args .k) (c .before .before .pre .0))
 
 returns : tie.Need-returns
 returns c = c .low .ensures ∙ sum (c .before)
 
-pub raised-spec : {M : Type 1} → statement M
-raised-spec = tie.close (tie.spec wide-requires add-requires low-requires returns)
+pub biased-spec : {M : Type 1} → statement M
+biased-spec = tie.close (tie.spec wide-requires add-requires low-requires returns)

@@ -1,9 +1,9 @@
--- `cosine::working::lifted` meets its contract. Assumes nothing.
+-- `cosine::working::biased_cosine` meets its contract. Assumes nothing.
 use native.Mathlib.Omega.{arith}
 use borrow.Author.Needs.{needs}
 use Rattle.cosine.proofs.Natural.{in-0, in-1, in-2, in-3, odd-small}
-use Rattle.cosine.proofs.working.lifted.Statement.{statement}
-use Rattle.cosine.proofs.working.lifted.Tie as tie
+use Rattle.cosine.proofs.working.biased_cosine.Statement.{statement}
+use Rattle.cosine.proofs.working.biased_cosine.Tie as tie
 
 even-series-requires : tie.Need-even-series-requires
 even-series-requires c κs = search needs
@@ -55,8 +55,8 @@ returns-4 c =
     let s = c .before .before .before in
     (in-3 (s .args .k) (s .args .v) (s .args .y) _ (omega arith) (s .pre .2) (c .before .odd-series .ensures .0) (c .before .odd-series .ensures .1), omega (arith, odd-small _ (c .before .odd-series .result) (c .before .before .before .pre .1)))
 
-pub lifted-spec : {M : Type 1} → statement M
-lifted-spec =
+pub biased-cosine-spec : {M : Type 1} → statement M
+biased-cosine-spec =
     tie.close
     (tie.spec
     even-series-requires
