@@ -5,7 +5,6 @@ ghost use Rattle.series.specs.Sums.{coordinates-answer};
 pub mod sums;
 pub mod table;
 
-use crate::sums::in_limit;
 use crate::table::TABLE_ROWS;
 use crate::table::Table;
 use crate::table::coordinates;
@@ -14,6 +13,7 @@ use packed::Checked;
 use units::Coordinates;
 use units::Instant;
 use units::Refusal;
+use units::in_limit;
 
 // What `coordinates_at` answers: L, B and R in parts, or the refusal.
 pub enum CoordinatesAnswer {

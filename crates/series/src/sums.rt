@@ -1,4 +1,4 @@
-// The sums over a term table at a prepared instant: of a block, of the powers of a coordinate. For this crate alone, but for in_limit.
+// The sums over a term table at a prepared instant: of a block, of the powers of a coordinate. For this crate alone.
 ghost use mathlib.Core.Path.{_≡_};
 ghost use Prim.Native.Nat.{_+_, _-_, _*_, _≤_, _<_};
 ghost use mathlib.Core.List.{[], _∷_};
@@ -28,13 +28,6 @@ use units::T_LIMIT;
 
 // The blocks of a coordinate.
 pub const COORDINATE_BLOCKS: usize = POWERS as usize;
-
-// Whether an instant is within its limit.
-pub fn in_limit(t: Instant) -> bool
-    ensures { λ r. ⌜ r ≡ within-limit (t .ms) ⌝ }
-{
-    abs(t.ms) <= T_LIMIT
-}
 
 // Where the piece that starts at place i ends.
 fn piece_end(i: usize, to: usize) -> usize

@@ -11,9 +11,9 @@ use crate::list::of_series;
 use crate::window::fits;
 use crate::window::minute;
 use arith::signed::natural_or;
-use series::sums::in_limit;
 use units::Instant;
 use units::Refusal;
+use units::in_limit;
 
 // The figures by which a usable minute is decided: the squared separation of the two unit vectors and the threshold, both in 1/U^2, D and both R (planet, earth) in parts.
 pub struct Figures {
