@@ -1,4 +1,4 @@
-// A line of three numbers, read byte by byte. All of this is for lib.rt.
+// A line of three numbers, read byte by byte. `Line` and `start` are for the program `date` too, the rest is for lib.rt.
 ghost use mathlib.Core.Path.{_≡_};
 ghost use Prim.Native.Nat.{_≤_};
 ghost use Rattle.integers.specs.Signs.{sgn};

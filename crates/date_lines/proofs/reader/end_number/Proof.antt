@@ -22,7 +22,8 @@ waiting-requires-2 c κs = search needs
 
 returns-2 : tie.Need-returns-2
 returns-2 c =
-    let a = c .before .before .before .before .before .before .args in
+    let e = c .before .before .before .before in
+    let a = e .before .before .args in
     let n : toZ w64 (ofZ w64 (a .n)) ≡ a .n = search needs in
     let y : toZ w64 (ofZ w64 (a .s .year)) ≡ a .s .year = search needs in
     rw (c .waiting2 .ensures, n, y, ne-eqb (a .s .count) 0 (λ x. omega (arith, x)), eq-eqb (a .s .count) 1 (omega arith))
@@ -32,7 +33,8 @@ waiting-requires-3 c κs = search needs
 
 returns-3 : tie.Need-returns-3
 returns-3 c =
-    let a = (c .before .before .before .before .before .before) .before .args in
+    let e = c .before .before .before .before .before in
+    let a = e .before .before .args in
     let y : toZ w64 (ofZ w64 (a .s .year)) ≡ a .s .year = search needs in
     let m : toZ w64 (ofZ w64 (a .s .month)) ≡ a .s .month = search needs in
     rw (c .waiting3 .ensures, y, m, ne-eqb (a .s .count) 0 (λ x. omega (arith, x)), ne-eqb (a .s .count) 1 (λ x. omega (arith, x)))

@@ -51,7 +51,8 @@ add-t7 c = search needs
 returns-4 : tie.Need-returns-4
 unfolding at-digit
 returns-4 c =
-    let a = c .before .before .before .before .before .before .args in
+    let e = c .before .before .before in
+    let a = e .before .before .before .args in
     let p : toZ w64 (ofZ w64 (a .s .year)) ≡ a .s .year = search needs in
     let q : toZ w64 (ofZ w64 (a .s .month)) ≡ a .s .month = search needs in
     rw (p, q, le-ltb (a .b) zero-digit (omega arith), le-ltb nine-digit (a .b) (omega arith), le-ltb digit-limit (a .s .value) (omega arith))
