@@ -4,18 +4,16 @@ use mathlib.Core.List.{List}
 use Prim.Native.Nat.{ℕ, zero, suc, _+_, _-_, _^_, _≤_, _<_}
 use native.Mathlib.Omega.{arith}
 use lib.IntN.{ℤ, pos, negℤ, natAbs, _+ℤ_, _-ℤ_, +ℤ-assoc, +ℤ-comm}
-use lib.ListN.{length, getD, set}
+use lib.ListN.{length, set}
 use mir.Syntax.{w64}
 use mir.Val.{SFits}
 use Rattle.arith.proofs.Cells.{Cell}
-use Rattle.units.specs.Units.{U, a-limit, series-limit}
+use Rattle.units.specs.Units.{U, a-limit}
 use Rattle.cosine.specs.Cosine.{even-part, odd-part}
-use Rattle.cosine.specs.machine.Parity.{even-value, odd-value, half-value, InRange}
-use Rattle.cosine.specs.Terms.{term-value}
+use Rattle.cosine.specs.machine.Parity.{even-value, odd-value, half-value}
 use Rattle.cosine.specs.declared.term.Prepared.{Prepared}
 use Rattle.cosine.specs.declared.term.Worked.{Worked}
 use Rattle.limits.specs.declared.Term.{Term}
-use Rattle.limits.specs.Allowed.{BlockFits}
 use Rattle.packed.specs.machine.Table.{term-at, terms-at}
 use Rattle.pieces.specs.declared.Counts.{Counts}
 use Rattle.pieces.specs.Sums.{block-sum}

@@ -4,10 +4,9 @@ use mathlib.Core.List.{List, [], _∷_, _++_}
 use Prim.Native.Nat.{ℕ, zero, suc, _+_, _-_, _^_, _≤_, _<_}
 use native.Mathlib.Omega.{arith}
 use lib.IntN.{ℤ, pos, natAbs, _+ℤ_, +ℤ-assoc, +ℤ-idl, +ℤ-idr}
-use lib.ListN.{length, getD}
+use lib.ListN.{length}
 use Rattle.integers.proofs.Order.{natAbs-+}
-use Rattle.arith.proofs.Cells.{Cell, cell}
-use Rattle.units.specs.Units.{a-limit, b-limit, c-limit, total-limit, series-limit}
+use Rattle.units.specs.Units.{a-limit, total-limit, series-limit}
 use Rattle.cosine.specs.Terms.{term-value}
 use Rattle.limits.specs.declared.Term.{Term}
 use Rattle.limits.specs.Allowed.{TermFits, AllFit, none, more, BlockFits, total-of}

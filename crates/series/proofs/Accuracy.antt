@@ -16,7 +16,7 @@ use Rattle.integers.proofs.Order.{natAbs-low, natAbs-high, ≼-antisym}
 use Rattle.integers.proofs.Division.{rounded-add}
 use Rattle.integers.proofs.Tests.{both}
 use Rattle.integers.proofs.Bounds.{Bd, bd-rounded}
-use Rattle.units.specs.Units.{U, millennium, t-limit, tau-limit, coarse-share}
+use Rattle.units.specs.Units.{U, millennium, t-limit, tau-limit, turn, coarse-share}
 use Rattle.cosine.specs.Cosine.{cosine}
 use Rattle.cosine.specs.Reference.{Within}
 use Rattle.cosine.specs.Terms.{term-angle, term-cosine, term-value, term-reference}
@@ -36,7 +36,7 @@ abbrev u : ℤ
 u = pos U
 
 -- |z| ≤ n both ways
-pub bd-natAbs : (z : ℤ) (n : ℕ) → natAbs z ≤ n → Bd (pos n) z
+bd-natAbs : (z : ℤ) (n : ℕ) → natAbs z ≤ n → Bd (pos n) z
 bd-natAbs z n h = record { low = natAbs-low z n h; high = natAbs-high z n h }
 
 -- ---- a term
@@ -54,7 +54,7 @@ constant-is b c e =
 -- the cosine of a constant term is U
 constant-cosine : (t : ℤ) → term-cosine 0 (pos 0) t ≡ u
 unfolding term-cosine term-angle rounded floor modulo
-constant-cosine t = ap (λ z. cosine (pos (modulo (pos 0 +ℤ rounded z millennium) 62831853071796))) (zero-*ℤ t) ∙ ap head figures
+constant-cosine t = ap (λ z. cosine (pos (modulo (pos 0 +ℤ rounded z millennium) turn))) (zero-*ℤ t) ∙ ap head figures
   where
     head : List ℤ → ℤ
     head [] = pos 0

@@ -32,7 +32,7 @@ unfolding running-sum
 running-none t = refl
 
 -- a step, at the highest power too: there 0 is carried
-pub running-cons : (t : ℤ) (b : List Term) (bs : List (List Term)) → running-sum t (b ∷ bs) ≡ block-sum t b +ℤ rounded (running-sum t bs *ℤ t) millennium
+running-cons : (t : ℤ) (b : List Term) (bs : List (List Term)) → running-sum t (b ∷ bs) ≡ block-sum t b +ℤ rounded (running-sum t bs *ℤ t) millennium
 running-cons t b [] = running-one t b ∙ sym (ap (λ (z : ℤ). block-sum t b +ℤ z) (ap (λ (v : ℤ). rounded (v *ℤ t) millennium) (running-none t) ∙ no-share t millennium (omega arith)) ∙ +ℤ-idr (block-sum t b))
 running-cons t b (c ∷ bs) = running-step t b c bs
 

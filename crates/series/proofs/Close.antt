@@ -8,10 +8,10 @@ use lib.Dec.{lt→ltb}
 use lib.IntN.{ℤ, pos, _+ℤ_, _-ℤ_, _*ℤ_}
 use Rattle.integers.specs.Order.{_≼_, _≺_}
 use Rattle.integers.specs.Fractions.{Fraction, _*ᶠ_, _+ᶠ_, wholeᶠ, overᶠ, powerᶠ}
-use Rattle.integers.proofs.Auto.{polys, ring!, cert!, gap, _⊛_}
+use Rattle.integers.proofs.Auto.{polys, ring!, cert!, _⊛_}
 use Rattle.integers.proofs.Pairs.{nonneg}
 use Rattle.integers.proofs.Order.{≺-≼, product-pos}
-use Rattle.integers.proofs.Bounds.{Bd, bd-*, bd-+, bd-self, bd-as, bd-le, bd-cancel}
+use Rattle.integers.proofs.Bounds.{Bd, bd-*, bd-+, bd-self, bd-as, bd-cancel}
 
 -- 2U·|x·p/q − f| is at most m
 pub record Close (U m p q x : ℤ) (f : Fraction) : Type 0 where
@@ -40,12 +40,6 @@ close-+ U m n p q x y f g h k =
           (ring! (U ∷ p ∷ q ∷ x ∷ y ∷ f .upper ∷ f .lower ∷ g .upper ∷ g .lower ∷ []) (search polys depth 60 fits 100000) tt)
           (bd-+ _ _ _ _ a b);
     }
-
-pub close-le : (U m n p q x : ℤ) (f : Fraction) → pos 0 ≺ q → m ≼ n → Close U m p q x f → Close U n p q x f
-close-le U m n p q x f hq l h = record {
-  lower = h .lower;
-  bound = bd-le _ _ _ (cert! (m ∷ n ∷ q ∷ f .lower ∷ []) 0 (gap l ⊛ (≺-≼ hq ⊛ ≺-≼ (h .lower))) (search polys depth 60 fits 100000) tt) (h .bound);
-}
 
 -- A term: x is a·c/U rounded, c/U within N/U of z, |a| at most A, |p/q| at most w
 pub close-term : (U N A w p q a c x : ℤ) (z : Fraction) → pos 0 ≺ q → pos 0 ≺ z .lower → pos 0 ≼ N → Bd (w *ℤ q) p → Bd A a → Bd U (pos 2 *ℤ (U *ℤ x -ℤ a *ℤ c))

@@ -1,4 +1,4 @@
--- Document 01's figure: one constant term 3.00000000000 in L1, half a millennium before 2000, gives L = -1.5 radian. Assumes nothing.
+-- The figure of RULES, "Working cosine and sums": one constant term 3.00000000000 in L1, half a millennium before 2000, gives L = -1.5 radian. Assumes nothing.
 use mathlib.Core.Path.{_≡_, refl}
 use mathlib.Core.List.{List, [], _∷_}
 use lib.IntN.{pos, negℤ}

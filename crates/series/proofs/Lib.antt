@@ -1,14 +1,17 @@
--- P2 from its ladder: `Promise` states it. `Close`, `Accuracy`: the error of a term, a block and the running sum; `Accepted`: what an accepted series keeps; `Distance`: the error in parts; `Answered`: what an answer says.
+-- The theorems about L, B and R. `Promise` states P2; on the way there, `Close` and `Accuracy` have the error of a term, a block and the
+-- running sum, `Distance` the error in parts, `Accepted` what an accepted series keeps, `Answered` what an answer says of its inputs.
+-- `Figures` has the marked figure, `Positive` that the exact sums are fractions. For the code: `Filled` is about the term table,
+-- `Answering` about the answer, `Blocks`, `Stepping` and `Sizes` about the running sum.
 pub mod Accepted
-pub mod Close
+mod Close
 pub mod Positive
-pub mod Accuracy
+mod Accuracy
 pub mod Sizes
-pub mod Distance
-pub mod Answered
+mod Distance
+mod Answered
 pub mod Promise
 pub mod Figures
-pub mod Blocks
+mod Blocks
 pub mod Filled
 pub mod Answering
 mod Stepping

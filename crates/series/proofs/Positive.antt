@@ -30,7 +30,7 @@ unfolding exact-block _+ᶠ_
 block-lower t i [] = record { lt = tt }
 block-lower t i (x ∷ xs) = product-pos (exact-term t i x .lower) (exact-block t i xs .lower) (term-lower t i x) (block-lower t i xs)
 
-pub sum-lower : (t : ℤ) (i : ℕ) (bs : List (List Term)) → pos 0 ≺ exact-sum t i bs .lower
+sum-lower : (t : ℤ) (i : ℕ) (bs : List (List Term)) → pos 0 ≺ exact-sum t i bs .lower
 unfolding exact-sum _+ᶠ_
 sum-lower t i [] = record { lt = tt }
 sum-lower t i (b ∷ bs) = product-pos (exact-block t i b .lower) (exact-sum t (suc i) bs .lower) (block-lower t i b) (sum-lower t (suc i) bs)

@@ -1,4 +1,4 @@
--- Document 01, "Working cosine and sums": V and L, B, R at t; and what the call answers.
+-- RULES, "Working cosine and sums": the running sum V of a coordinate, L, B and R at t, and what the call answers.
 use mathlib.Core.Bool.{cond}
 use mathlib.Core.List.{List, [], _∷_}
 use Prim.Native.Nat.{ℕ, _*_}
@@ -15,13 +15,13 @@ use Rattle.pieces.specs.Sums.{block-sum}
 use Rattle.series.specs.declared.CoordinatesAnswer.{CoordinatesAnswer}
 use Rattle.series.specs.declared.CoordinatesAnswer.the-variants.{At, NoCoordinates}
 
--- "V = S_5, then for i = 4 to 0, V becomes S_i + rounded V*t/T": V of the blocks of a coordinate from power i on.
+-- V of the blocks of a coordinate, from some power on: the sum of the first, and what is above it carried by t/T.
 unfoldable pub running-sum : ℤ → List (List Term) → ℤ
 running-sum t [] = pos 0
 running-sum t (b ∷ []) = block-sum t b
 running-sum t (b ∷ c ∷ bs) = block-sum t b +ℤ rounded (running-sum t (c ∷ bs) *ℤ t) millennium
 
--- "18 blocks: powers 0 to 5 of longitude L, then of latitude B, then of radius R."
+-- The blocks of each coordinate: powers 0 to 5 of the longitude stand first, then the latitude's, then the radius'.
 unfoldable pub longitude-blocks : List (List Term) → List (List Term)
 longitude-blocks blocks = take powers blocks
 
@@ -38,7 +38,7 @@ coordinates t blocks = record {
   radius = running-sum t (radius-blocks blocks);
 }
 
--- "For L, B, R: 2, series."
+-- An instant past the limit is refused before the series (RULES, "Refusals and what they leave").
 unfoldable pub of-parsed : Instant → Parsed → CoordinatesAnswer
 of-parsed t (accepted blocks) = At (coordinates (t .ms) blocks)
 of-parsed t (refused r) = NoCoordinates r

@@ -17,7 +17,8 @@ use Rattle.packed.specs.Series.{parse, accepted}
 use Rattle.series.specs.declared.CoordinatesAnswer.the-variants.{At, NoCoordinates}
 use Rattle.series.specs.Sums.{running-sum, coordinates, longitude-blocks, latitude-blocks, of-parsed, coordinates-answer}
 use Rattle.series.proofs.Accepted.{Accepted, accepted-is, in-take, in-drop}
-use Rattle.series.proofs.Promise.{P2, Near-exact}
+use Rattle.series.specs.Exact.{Near-exact}
+use Rattle.series.proofs.Promise.{P2}
 use Rattle.series.proofs.Sizes.{running-size}
 use Rattle.separation.specs.machine.Near.{tolerance, angle-limit, Near-coordinates}
 use Rattle.separation.proofs.Apart.{apart-wider}

@@ -1,7 +1,6 @@
 -- `pieces::part_terms` meets its contract: the values in the tables and the terms that are left are the piece's sum. Assumes nothing.
 use Prim.Native.Nat.{_-_}
 use native.Mathlib.Omega.{arith}
-use borrow.Author.Needs.{needs}
 use Rattle.pieces.proofs.Summing.{term-fits}
 use Rattle.pieces.proofs.Parting.{Partly, partly-none, evens-free, odds-free, partly-more, partly-all}
 use Rattle.pieces.proofs.part_terms.Statement.{statement}

@@ -67,7 +67,8 @@ take-terms-requires : tie.Need-take-terms-requires
 take-terms-requires c κs =
     let s = c .before .before .before .before .before .before .before .before .before .before in
     let a = s .args in
-    let o = opened-ready (a .k) (c .before .before .before .before .before .before .n2 .given .0 .0) (a .tally) _ (c .before .open-block .ensures) (s .pre .1) (c .before .before .before .if2 .left) in
+    let n = c .before .before .before .before .before .before .n2 .given .0 .0 in
+    let o = opened-ready (a .k) n (a .tally) _ (c .before .open-block .ensures) (s .pre .1) (c .before .before .before .if2 .left) in
     record {
       small = c .before .before .block-factor .ensures .1;
       total = o .within .total;
@@ -92,7 +93,8 @@ returns-4 c =
     let f = c .before .before .before .block-factor in
     let o = c .before .before .open-block in
     let y = drop (n .1 .0) (a .bytes .now) in
-    let e = block-got (a .k) (a .tally) (a .at) _ (n .0) (n .1 .0) y (read (c .before .before .before .before .before .before) .is) (c .before .before .before .before .before .if1 .left) (c .before .before .before .before .if2 .left) in
+    let fits = c .before .before .before .before in
+    let e = block-got (a .k) (a .tally) (a .at) _ (n .0) (n .1 .0) y (read (fits .before .before) .is) (fits .before .if1 .left) (fits .if2 .left) in
     let r = block-read (a .k) (n .0) (f .result) (n .1 .0) (a .tally) (o .result) y (f .ensures .0) (o .ensures) e in
     (t .ensures .0 ∙ block-walked (a .k) (n .0) (f .result) (n .1 .0) (a .tally) (o .result) y (f .ensures .0) (o .ensures) e, rw r at (t .ensures .1))
 

@@ -30,7 +30,8 @@ element-set-from-table c = search needs
 found : (c : tie.After-known-told2)
     → let a = c .before .before .before .before .before .args in
     let t = c .before .t2 .given .0 in
-    read-term (a .f) (a .tally) (a .at) (drop (a .at) (a .bytes .now)) ≡ got (term-of (t .0) (t .1 .0) (t .1 .1 .0)) (t .1 .1 .1 .0) (drop (t .1 .1 .1 .0) (a .bytes .now))
+    let to = t .1 .1 .1 .0 in
+    read-term (a .f) (a .tally) (a .at) (drop (a .at) (a .bytes .now)) ≡ got (term-of (t .0) (t .1 .0) (t .1 .1 .0)) to (drop to (a .bytes .now))
 found c =
     let a = c .before .before .before .before .before .args in
     was-found _ _ _ _ (term-after (a .bytes .now) (a .f) (a .tally) (a .at)) (sym (c .before .before .before .read-term-at .ensures) ∙ c .before .t2 .given .1)

@@ -5,7 +5,6 @@ use lib.ListN.{getD}
 use Rattle.packed.specs.machine.Table.{table-blocks}
 use Rattle.pieces.specs.Sums.{block-sum}
 use Rattle.series.proofs.Stepping.{inside, sum-asks, sum-is, carried-asks, step-fits, step-is}
-use borrow.Author.Needs.{needs}
 use Rattle.series.proofs.sums.with_block.Statement.{statement}
 use Rattle.series.proofs.sums.with_block.Tie as tie
 

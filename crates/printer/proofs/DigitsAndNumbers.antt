@@ -11,7 +11,7 @@ use lib.Dec.{ltb, lit<}
 use lib.ListN.{length}
 use Rattle.text.specs.Grammar.{AllDigits, numeral, Natural}
 use Rattle.printer.specs.Printer.{last-digits, further, further-digits, first-digit, rest-digits}
-use Rattle.printer.proofs.Figures.{div-power, first-small, further-bound, last-first, length-last}
+use Rattle.printer.proofs.DigitsWritten.{div-power, first-small, further-bound, last-first, length-last}
 
 -- The last n digits, after what stands before them, write the number.
 numeral-append : (v : ℕ) (xs : List ℕ) (d : ℕ) → numeral v (xs ++ d ∷ []) ≡ 10 * numeral v xs + d
@@ -55,7 +55,8 @@ unfolding further
 first-zero zero v h = refl
 first-zero (suc f) v h = go (first-zero f (v / 10)) (decLe 10 v) h
   where
-    go : (v / 10 / 10 ^ further f (v / 10) ≡ 0 → further f (v / 10) ≡ 0) → Dec (10 ≤ v) → v / 10 ^ cond (ltb v 10) 0 (suc (further f (v / 10))) ≡ 0 → cond (ltb v 10) 0 (suc (further f (v / 10))) ≡ 0
+    go : (v / 10 / 10 ^ further f (v / 10) ≡ 0 → further f (v / 10) ≡ 0) → Dec (10 ≤ v) → v / 10 ^ cond (ltb v 10) 0 (suc (further f (v / 10))) ≡ 0
+        → cond (ltb v 10) 0 (suc (further f (v / 10))) ≡ 0
     go rec (yes l) h =
         let k : v / 10 ^ suc (further f (v / 10)) ≡ 0 = rw (le-ltb v 10 l) at h in
         let j : v / 10 / 10 ^ further f (v / 10) ≡ 0 = div-power (further f (v / 10)) v ∙ k in

@@ -15,7 +15,7 @@ use Rattle.text.specs.Grammar.{count, TermLine, Block, term-of-line, terms-of-l
 use Rattle.text.proofs.Series.{length-terms, NoMinus, FromZero, blocks-in}
 use Rattle.printer.specs.Printer.{plain-decimal, plain-term, plain-block}
 use Rattle.printer.proofs.Spacing.{PlainLines, Plain}
-use Rattle.printer.proofs.Reading.{decimal-good, number-good, count-plain, count-good, count-unique, term-plain, term-unique}
+use Rattle.printer.proofs.PlainLines.{decimal-good, number-good, count-plain, count-good, count-unique, term-plain, term-unique}
 
 -- The numbers of the printed lines.
 pub terms-plain : (ts : List Term) → terms-of-lines (map plain-term ts) ≡ ts
@@ -65,7 +65,8 @@ lines-unique : (f : ℕ) (s : Tally) (ls : List TermLine) → AllGood ls → Ter
 unfolding AllGood TermsInLimits PlainLines terms-of-lines
 lines-unique f s [] g l p = refl
 lines-unique f s (x ∷ ls) g l p =
-    ap₂ (λ (y : TermLine) (m : List TermLine). y ∷ m) (term-unique x (g .0) (p .0) (l .0 .from-zero)) (lines-unique f (added f s (term-of-line x)) ls (g .1) (l .1) (p .1))
+    let one = term-unique x (g .0) (p .0) (l .0 .from-zero) in
+    ap₂ (λ (y : TermLine) (m : List TermLine). y ∷ m) one (lines-unique f (added f s (term-of-line x)) ls (g .1) (l .1) (p .1))
 
 pub blocks-unique : (k : ℕ) (s : Tally) (ks : List Block) → GoodBlocks ks → BlocksInLimits k s ks → Plain ks → map plain-block (blocks-of-lines ks) ≡ ks
 unfolding GoodBlocks BlocksInLimits Plain blocks-of-lines plain-block
