@@ -68,3 +68,13 @@ coarse-fits f s a b c = leb (s .coarse + weight f a b c) coarse-limit
 unfoldable pub term-may-come : ℕ → Tally → Term → Bool
 term-may-come f s t =
     a-fits (t .a) && (total-fits s (t .a) && (b-fits (t .b) && (c-fits (t .c) && coarse-fits f s (t .a) (t .b) (t .c))))
+
+-- The refusal of a term that has come whole, or 0: 4 for its numbers, then 5 for the total, then 6 for the coarseness.
+unfoldable pub numbers-fit : Term → Bool
+numbers-fit t = a-fits (t .a) && (b-fits (t .b) && c-fits (t .c))
+
+unfoldable pub term-refusal : ℕ → Tally → Term → ℕ
+term-refusal f s t =
+    cond (numbers-fit t)
+    (cond (total-fits s (t .a)) (cond (coarse-fits f s (t .a) (t .b) (t .c)) 0 6) 5)
+    4

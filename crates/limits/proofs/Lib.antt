@@ -1,0 +1,4 @@
+pub mod Room
+pub mod Weights
+pub mod Passing
+pub mod Magnitudes
