@@ -1,21 +1,28 @@
--- What a caller finds in a table that holds a series: each block between its ends, the ends rising, every term within its limits. Assumes nothing.
-use mathlib.Core.Path.{_≡_, refl, ap, _∙_}
+-- What a caller finds in a table that holds a series: each block between its ends, the ends rising. Assumes nothing.
+use mathlib.Core.Path.{_≡_, refl, sym, ap, _∙_}
 use mathlib.Core.List.{List, [], _∷_}
 use Prim.Native.Nat.{ℕ, zero, suc, _+_, _-_, _≤_, _<_}
 use native.Mathlib.Omega.{arith}
-use lib.IntN.{ℤ}
-use lib.ListN.{length, getD}
+use lib.ListN.{length, getD, drop, List·getD-map}
+use lib.Seq.{getD-drop}
 use Rattle.limits.specs.declared.Term.{Term}
 use Rattle.units.specs.Units.{series-limit, block-count}
-use Rattle.limits.specs.Allowed.{term-count}
-use Rattle.limits.specs.Allowed.{TermFits, AllFit, more, Allowed}
-use Rattle.packed.specs.machine.Tables.{term-at, terms-at, blocks-at, table-blocks, block-ends, Holds}
+use Rattle.limits.specs.Allowed.{term-count, Allowed}
+use Rattle.packed.specs.machine.Table.{first, number-at, terms-at, blocks-at, ends, table-blocks, block-ends, Holds}
 
--- Where block j starts: where the one before it ends.
-abbrev pub block-start : List ℕ → ℕ → ℕ
-block-start ends j = getD (0 ∷ ends) j 0
+-- Where block j starts, which is where the one before it ends, and where it ends.
+abbrev pub block-start : List (List ℕ) → ℕ → ℕ
+block-start rows j = getD (0 ∷ ends rows) j 0
 
--- The ends, from place k on.
+abbrev pub block-end : List (List ℕ) → ℕ → ℕ
+block-end rows j = getD (ends rows) j 0
+
+-- Block j ends where its row in the table says.
+pub end-row : (rows : List (List ℕ)) (j : ℕ) → number-at rows (series-limit + j) 0 ≡ block-end rows j
+unfolding ends
+end-row rows j = rw (← getD-drop series-limit rows j []) (sym (List·getD-map first (drop series-limit rows) j []))
+
+-- The ends, from row k on.
 ends-length : (k : ℕ) (blocks : List (List Term)) → length (block-ends k blocks) ≡ length blocks
 unfolding block-ends
 ends-length k [] = refl
@@ -33,40 +40,25 @@ ends-below k [] j h = absurd (omega arith)
 ends-below k (ts ∷ blocks) zero h = omega arith
 ends-below k (ts ∷ blocks) (suc j) h = let l = ends-below (k + length ts) blocks j (omega arith) in omega arith
 
-block-is : (la : List ℤ) (lb : List ℕ) (lc : List ℤ) (k : ℕ) (ends : List ℕ) (j : ℕ) → j < length ends → getD (blocks-at la lb lc k ends) j [] ≡ terms-at la lb lc (getD (k ∷ ends) j 0) (getD ends j 0 - getD (k ∷ ends) j 0)
+block-is : (rows : List (List ℕ)) (k : ℕ) (es : List ℕ) (j : ℕ) → j < length es → getD (blocks-at rows k es) j [] ≡ terms-at rows (getD (k ∷ es) j 0) (getD es j 0 - getD (k ∷ es) j 0)
 unfolding blocks-at
-block-is la lb lc k [] j h = absurd (omega arith)
-block-is la lb lc k (e ∷ ends) zero h = refl
-block-is la lb lc k (e ∷ ends) (suc j) h = block-is la lb lc e ends j (omega arith)
+block-is rows k [] j h = absurd (omega arith)
+block-is rows k (e ∷ es) zero h = refl
+block-is rows k (e ∷ es) (suc j) h = block-is rows e es j (omega arith)
 
--- The terms between two places.
-fits-at : (la : List ℤ) (lb : List ℕ) (lc : List ℤ) (k n j : ℕ) → AllFit (terms-at la lb lc k n) → j < n → TermFits (term-at la lb lc (k + j))
-unfolding terms-at
-fits-at la lb lc k zero j h l = absurd (omega arith)
-fits-at la lb lc k (suc n) zero (more t h) l = let e : k + 0 ≡ k = omega arith in rw e t
-fits-at la lb lc k (suc n) (suc j) (more t h) l = let e : k + suc j ≡ k + 1 + j = omega arith in rw e (fits-at la lb lc (k + 1) n j h (omega arith))
-
-module _ (la : List ℤ) (lb : List ℕ) (lc : List ℤ) (ends : List ℕ) (blocks : List (List Term)) (holds : Holds la lb lc ends blocks) (allowed : Allowed blocks) (j : ℕ) (h : j < block-count) where
-  -- Block j starts where the one before it ends, and ends at or after its start, within the table.
-  pub rising : block-start ends j ≤ getD ends j 0
+module _ (rows : List (List ℕ)) (blocks : List (List Term)) (holds : Holds rows blocks) (allowed : Allowed blocks) (j : ℕ) (h : j < block-count) where
+  -- Block j ends at or after its start, within the table.
+  pub rising : block-start rows j ≤ block-end rows j
   rising = rw (holds .places) (ends-rise 0 blocks j (rw (allowed .eighteen) h))
 
-  pub within-table : getD ends j 0 ≤ series-limit
+  pub within-table : block-end rows j ≤ series-limit
   within-table =
       let b = ends-below 0 blocks j (rw (allowed .eighteen) h) in
       rw (holds .places) (omega (arith, b, allowed .few))
 
   -- Its terms are those between.
-  pub block-there : getD blocks j [] ≡ terms-at la lb lc (block-start ends j) (getD ends j 0 - block-start ends j)
+  pub block-there : getD blocks j [] ≡ terms-at rows (block-start rows j) (block-end rows j - block-start rows j)
   unfolding table-blocks
   block-there =
-      let n : length ends ≡ block-count = ap length (holds .places) ∙ ends-length 0 blocks ∙ allowed .eighteen in
-      rw (← holds .table) (block-is la lb lc 0 ends j (rw n h))
-
-  -- Each of them is within the limits of a term.
-  pub term-there : (i : ℕ) → block-start ends j ≤ i → i < getD ends j 0 → TermFits (term-at la lb lc i)
-  term-there i p q =
-      let s = block-start ends j in
-      let a : AllFit (terms-at la lb lc s (getD ends j 0 - s)) = rw block-there at (allowed .fits j h .terms) in
-      let e : s + (i - s) ≡ i = omega arith in
-      rw e at (fits-at la lb lc s (getD ends j 0 - s) (i - s) a (omega arith))
+      let n : length (ends rows) ≡ block-count = ap length (holds .places) ∙ ends-length 0 blocks ∙ allowed .eighteen in
+      rw (← holds .table) (block-is rows 0 (ends rows) j (rw n h))

@@ -1,25 +1,28 @@
--- A table whose lists begin with the numbers of the blocks' terms holds the blocks. Assumes nothing.
+-- A table whose rows begin with those of the blocks' terms holds the blocks. Assumes nothing.
 use mathlib.Core.Path.{_≡_, refl, sym, ap, _∙_}
 use mathlib.Core.List.{List, [], _∷_, _++_, map, append-assoc, append-nil}
-use Prim.Native.Nat.{ℕ, zero, suc, _+_, _-_}
+use Prim.Native.Nat.{ℕ, zero, suc, _+_, _-_, _≤_}
+use native.Mathlib.Nat.{add-zero}
 use native.Mathlib.Numerals.{add-one}
 use native.Mathlib.Omega.{arith}
-use lib.IntN.{ℤ, pos}
-use lib.ListN.{length, getD, take, drop, take-append-drop}
+use lib.ListN.{length, getD, take, drop, set, take-append-drop, length-append, length-map, length-drop}
+use lib.Seq.{sets, sets-eq, take-at, length-take-le, drop-set-lt, drop-set-add}
+use Rattle.units.specs.Units.{series-limit, block-count}
+use Rattle.packed_numbers.proofs.Folding.{unfolded-folded}
 use Rattle.limits.specs.declared.Term.{Term}
 use Rattle.limits.specs.Allowed.{term-count}
-use Rattle.packed.specs.machine.Tables.{term-at, terms-at, blocks-at, block-ends, table-blocks}
-use Rattle.packed.specs.machine.Answers.{a-of, b-of, c-of}
+use Rattle.packed.specs.machine.Table.{Sized, first, term-at, terms-at, blocks-at, ends, block-ends, table-blocks}
+use Rattle.packed.specs.machine.Answers.{row-of}
 
--- The numbers of all terms, in order.
-unfoldable pub flat : {X : Type 0} → (Term → X) → List (List Term) → List X
-flat h [] = []
-flat h (ts ∷ blocks) = map h ts ++ flat h blocks
+-- The rows of all terms, in order.
+unfoldable pub all-rows : List (List Term) → List (List ℕ)
+all-rows [] = []
+all-rows (ts ∷ blocks) = map row-of ts ++ all-rows blocks
 
-pub flat-more : {X : Type 0} (h : Term → X) (done : List (List Term)) (ts : List Term) → flat h (done ++ ts ∷ []) ≡ flat h done ++ map h ts
-unfolding flat
-flat-more h [] ts = append-nil (map h ts)
-flat-more h (x ∷ done) ts = rw (flat-more h done ts) (sym (append-assoc (map h x) (flat h done) (map h ts)))
+pub rows-more : (done : List (List Term)) (ts : List Term) → all-rows (done ++ ts ∷ []) ≡ all-rows done ++ map row-of ts
+unfolding all-rows
+rows-more [] ts = append-nil (map row-of ts)
+rows-more (x ∷ done) ts = rw (rows-more done ts) (sym (append-assoc (map row-of x) (all-rows done) (map row-of ts)))
 
 pub count-more : (done : List (List Term)) (ts : List Term) → term-count (done ++ ts ∷ []) ≡ term-count done + length ts
 unfolding term-count
@@ -48,37 +51,57 @@ tail-is (suc k) (y ∷ l) x m e = tail-is k l x m e
 tail-one : {X : Type 0} (k : ℕ) (l : List X) (x : X) (m : List X) → drop k l ≡ x ∷ m → drop (k + 1) l ≡ m
 tail-one k l x m e = rw add-one (tail-is k l x m e)
 
-past : {X : Type 0} (h : Term → X) (k : ℕ) (l : List X) (ts : List Term) (q : List X) → drop k l ≡ map h ts ++ q → drop (k + length ts) l ≡ q
-past h k l [] q e = let z : k + 0 ≡ k = omega arith in rw z e
-past h k l (t ∷ ts) q e =
+past : (k : ℕ) (rows : List (List ℕ)) (ts : List Term) (q : List (List ℕ)) → drop k rows ≡ map row-of ts ++ q → drop (k + length ts) rows ≡ q
+past k rows [] q e = let z : k + 0 ≡ k = omega arith in rw z e
+past k rows (t ∷ ts) q e =
     let z : k + suc (length ts) ≡ k + 1 + length ts = omega arith in
-    rw z (past h (k + 1) l ts q (tail-one k l (h t) (map h ts ++ q) e))
+    rw z (past (k + 1) rows ts q (tail-one k rows (row-of t) (map row-of ts ++ q) e))
 
-module _ (la : List ℤ) (lb : List ℕ) (lc : List ℤ) where
-  terms-law : (ts : List Term) (k : ℕ) (qa : List ℤ) (qb : List ℕ) (qc : List ℤ) → drop k la ≡ map a-of ts ++ qa → drop k lb ≡ map b-of ts ++ qb → drop k lc ≡ map c-of ts ++ qc → terms-at la lb lc k (length ts) ≡ ts
-  unfolding terms-at term-at
-  terms-law [] k qa qb qc ea eb ec = refl
-  terms-law (t ∷ ts) k qa qb qc ea eb ec =
-      let ha = head-is k la (t .a) (pos 0) _ ea in
-      let hb = head-is k lb (t .b) 0 _ eb in
-      let hc = head-is k lc (t .c) (pos 0) _ ec in
-      rw (ha, hb, hc) (ap (λ (l : List Term). t ∷ l) (terms-law ts (k + 1) qa qb qc (tail-one k la (t .a) _ ea) (tail-one k lb (t .b) _ eb) (tail-one k lc (t .c) _ ec)))
+module _ (rows : List (List ℕ)) where
+  terms-law : (ts : List Term) (k : ℕ) (q : List (List ℕ)) → drop k rows ≡ map row-of ts ++ q → terms-at rows k (length ts) ≡ ts
+  unfolding terms-at term-at row-of
+  terms-law [] k q e = refl
+  terms-law (t ∷ ts) k q e =
+      rw (head-is k rows (row-of t) [] _ e, unfolded-folded (t .a), unfolded-folded (t .c))
+      (ap (λ (l : List Term). t ∷ l) (terms-law ts (k + 1) q (tail-one k rows (row-of t) _ e)))
 
-  blocks-law : (blocks : List (List Term)) (k : ℕ) (qa : List ℤ) (qb : List ℕ) (qc : List ℤ) → drop k la ≡ flat a-of blocks ++ qa → drop k lb ≡ flat b-of blocks ++ qb → drop k lc ≡ flat c-of blocks ++ qc → blocks-at la lb lc k (block-ends k blocks) ≡ blocks
-  unfolding blocks-at block-ends flat
-  blocks-law [] k qa qb qc ea eb ec = refl
-  blocks-law (ts ∷ blocks) k qa qb qc ea eb ec =
-      let fa = ea ∙ append-assoc (map a-of ts) (flat a-of blocks) qa in
-      let fb = eb ∙ append-assoc (map b-of ts) (flat b-of blocks) qb in
-      let fc = ec ∙ append-assoc (map c-of ts) (flat c-of blocks) qc in
+  blocks-law : (blocks : List (List Term)) (k : ℕ) (q : List (List ℕ)) → drop k rows ≡ all-rows blocks ++ q → blocks-at rows k (block-ends k blocks) ≡ blocks
+  unfolding blocks-at block-ends all-rows
+  blocks-law [] k q e = refl
+  blocks-law (ts ∷ blocks) k q e =
+      let f = e ∙ append-assoc (map row-of ts) (all-rows blocks) q in
       let n : k + length ts - k ≡ length ts = omega arith in
-      rw (n, terms-law ts k _ _ _ fa fb fc)
-      (ap (λ (l : List (List Term)). ts ∷ l) (blocks-law blocks (k + length ts) qa qb qc (past a-of k la ts _ fa) (past b-of k lb ts _ fb) (past c-of k lc ts _ fc)))
+      rw (n, terms-law ts k _ f) (ap (λ (l : List (List Term)). ts ∷ l) (blocks-law blocks (k + length ts) q (past k rows ts _ f)))
 
-  pub table-law : (blocks : List (List Term)) (n : ℕ) → take n la ≡ flat a-of blocks → take n lb ≡ flat b-of blocks → take n lc ≡ flat c-of blocks → table-blocks la lb lc (block-ends 0 blocks) ≡ blocks
+  pub table-law : (blocks : List (List Term)) (n : ℕ) → take n rows ≡ all-rows blocks → ends rows ≡ block-ends 0 blocks → table-blocks rows ≡ blocks
   unfolding table-blocks
-  table-law blocks n ea eb ec =
-      blocks-law blocks 0 (drop n la) (drop n lb) (drop n lc)
-      (rw (← ea) (sym (take-append-drop n la)))
-      (rw (← eb) (sym (take-append-drop n lb)))
-      (rw (← ec) (sym (take-append-drop n lc)))
+  table-law blocks n e p = rw p (blocks-law blocks 0 (drop n rows) (rw (← e) (sym (take-append-drop n rows))))
+
+  -- The ends stand after the terms.
+  pub ends-length : Sized rows → length (ends rows) ≡ block-count
+  unfolding ends
+  ends-length z = length-map (drop series-limit rows) first ∙ length-drop series-limit rows ∙ rw (z .size)
+
+-- A block's rows and its end are stored: the terms so far have one block more, and the ends one end.
+map-set : (l : List (List ℕ)) (k : ℕ) (row : List ℕ) → map first (set l k row) ≡ set (map first l) k (first row)
+map-set [] k row = refl
+map-set (x ∷ l) zero row = refl
+map-set (x ∷ l) (suc k) row = ap (λ (m : List ℕ). first x ∷ m) (map-set l k row)
+
+pub ends-set : (rows : List (List ℕ)) (k : ℕ) (row : List ℕ) → ends (set rows (series-limit + k) row) ≡ set (ends rows) k (first row)
+unfolding ends
+ends-set rows k row = rw (drop-set-add series-limit rows k row) (map-set (drop series-limit rows) k row)
+
+drop-sets : (n : ℕ) (new rows : List (List ℕ)) (i : ℕ) → i + length new ≤ n → drop n (sets rows i new) ≡ drop n rows
+drop-sets n [] rows i h = refl
+drop-sets n (row ∷ new) rows i h = drop-sets n new (set rows i row) (suc i) (omega arith) ∙ drop-set-lt n rows i row (omega arith)
+
+pub ends-stay : (rows : List (List ℕ)) (k : ℕ) (ts : List Term) → k + length ts ≤ series-limit → ends (sets rows k (map row-of ts)) ≡ ends rows
+unfolding ends
+ends-stay rows k ts h = ap (map first) (drop-sets series-limit (map row-of ts) rows k (rw (length-map ts row-of) h))
+
+pub rows-stored : (rows : List (List ℕ)) (k : ℕ) (ts : List Term) → k + length ts ≤ length rows → take (k + length ts) (sets rows k (map row-of ts)) ≡ take k rows ++ map row-of ts
+rows-stored rows k ts h =
+    let n : length (map row-of ts) ≡ length ts = length-map ts row-of in
+    let m : length (take k rows ++ map row-of ts) ≡ k + length ts = rw (length-append (take k rows) (map row-of ts), n, length-take-le k rows (omega arith)) in
+    rw (sets-eq (map row-of ts) rows k (rw n h)) (take-at (take k rows ++ map row-of ts) _ (k + length ts) m)

@@ -4,9 +4,8 @@ use mathlib.Core.List.{List, [], _∷_, _++_, map, append-nil}
 use Prim.Native.Nat.{ℕ, suc, _+_, _-_, _≤_, _<_}
 use native.Mathlib.Numerals.{add-one}
 use native.Mathlib.Omega.{arith}
-use lib.IntN.{ℤ}
 use lib.ListN.{length, take, drop, set, length-append, length-set, drop-of-length-le}
-use lib.Seq.{take-suc-set, take-all, drop-cons}
+use lib.Seq.{sets, take-suc-set, take-set-le, take-all, drop-cons}
 use Rattle.units.specs.declared.Refusal.{Refusal}
 use Rattle.units.specs.declared.Refusal.the-variants.{ByteAfterEnd}
 use Rattle.packed_numbers.specs.Numbers.{Read, got, bad, next}
@@ -17,14 +16,14 @@ use Rattle.packed.specs.declared.Checked.the-variants.{Terms, NoSeries}
 use Rattle.limits.specs.Limits.{no-tally}
 use Rattle.packed.specs.Series.{read-block, read-blocks, read-series, after-block, accepted, refused, ended, parse, checked}
 use Rattle.limits.specs.Allowed.{term-count}
-use Rattle.packed.specs.machine.Tables.{Sized, Holds, block-ends, unpacked}
-use Rattle.packed.specs.machine.Answers.{filled, Filled, a-of, b-of, c-of}
+use Rattle.packed.specs.machine.Table.{Sized, Holds, ends, block-ends, unpacked}
+use Rattle.packed.specs.machine.Answers.{row-of, filled, Filled}
 use Rattle.packed.proofs.Walking.{Stepped, joined, joined-none, joined-more}
 use Rattle.packed.proofs.Blocks.{block-accepted, block-sums}
-use Rattle.packed.proofs.Tabling.{flat, flat-more, count-more, ends-more, table-law}
+use Rattle.packed.proofs.Tabling.{all-rows, rows-more, count-more, ends-more, table-law, ends-length, ends-set, ends-stay, rows-stored}
 
 -- The loop's invariant, with the blocks that are done.
-pub record Unpacking (s : List ℕ) (la : List ℤ) (lb : List ℕ) (lc : List ℤ) (ends : List ℕ) (tally : Tally) (i k : ℕ) : Type 0 where
+pub record Unpacking (s : List ℕ) (rows : List (List ℕ)) (tally : Tally) (i k : ℕ) : Type 0 where
   pub done : List (List Term)
   pub place : k ≡ length done
   pub bound : k ≤ block-count
@@ -32,16 +31,13 @@ pub record Unpacking (s : List ℕ) (la : List ℤ) (lb : List ℕ) (lc : List �
   pub terms : tally .terms ≡ term-count done
   pub few : tally .terms ≤ series-limit
   pub coarse : tally .coarse ≤ coarse-limit
-  pub held-a : take (tally .terms) la ≡ flat a-of done
-  pub held-b : take (tally .terms) lb ≡ flat b-of done
-  pub held-c : take (tally .terms) lc ≡ flat c-of done
-  pub held-ends : take k ends ≡ block-ends 0 done
-  pub sized : Sized la lb lc
-  pub size-ends : length ends ≡ block-count
+  pub held : take (tally .terms) rows ≡ all-rows done
+  pub held-ends : take k (ends rows) ≡ block-ends 0 done
+  pub sized : Sized rows
 
-pub unpacking-none : (s : List ℕ) (la : List ℤ) (lb : List ℕ) (lc : List ℤ) (ends : List ℕ) → Sized la lb lc → length ends ≡ block-count → Unpacking s la lb lc ends no-tally 0 0
-unfolding read-series term-count block-ends flat
-unpacking-none s la lb lc ends z e =
+pub unpacking-none : (s : List ℕ) (rows : List (List ℕ)) → Sized rows → Unpacking s rows no-tally 0 0
+unfolding read-series term-count block-ends all-rows
+unpacking-none s rows z =
     record {
       done = [];
       place = refl;
@@ -50,22 +46,29 @@ unpacking-none s la lb lc ends z e =
       terms = refl;
       few = omega arith;
       coarse = omega arith;
-      held-a = refl;
-      held-b = refl;
-      held-c = refl;
+      held = refl;
       held-ends = refl;
       sized = z;
-      size-ends = e;
     }
 
--- One block more in a list of the table.
-block-more : {X : Type 0} (h : Term → X) (n m : ℕ) (l after : List X) (done : List (List Term)) (r : Read (List Term)) (ts : List Term) (to : ℕ) (rest : List ℕ) → r ≡ got ts to rest → m ≡ n + length ts → filled h n r l after → take n l ≡ flat h done → take m after ≡ flat h (done ++ ts ∷ [])
-unfolding filled
-block-more h n m l after done r ts to rest e p q w =
-    let f : take (n + length ts) after ≡ take n l ++ map h ts = rw e at q in
-    rw (p, f, w) (sym (flat-more h done ts))
+-- The table with one block more, and then with its end.
+module _ (rows after : List (List ℕ)) (n m k : ℕ) (done : List (List Term)) (r : Read (List Term)) (ts : List Term) (to : ℕ) (rest : List ℕ) (e : r ≡ got ts to rest) (p : m ≡ n + length ts) (few : m ≤ series-limit) (z : Sized rows) (f : Filled n r rows after) where
+  stored : after ≡ sets rows n (map row-of ts)
+  unfolding filled
+  stored = rw e at (f .rows)
 
-module _ (s : List ℕ) (la : List ℤ) (lb : List ℕ) (lc : List ℤ) (ends : List ℕ) (tally : Tally) (i k : ℕ) (l : Unpacking s la lb lc ends tally i k) where
+  rows-block : take n rows ≡ all-rows done → take m (set after (series-limit + k) (m ∷ 0 ∷ 0 ∷ [])) ≡ all-rows (done ++ ts ∷ [])
+  rows-block w =
+      let h : m ≤ series-limit + k = omega arith in
+      rw (take-set-le m after (series-limit + k) (m ∷ 0 ∷ 0 ∷ []) h, stored, p, rows-stored rows n ts (omega (arith, z .size)), w) (sym (rows-more done ts))
+
+  ends-block : k < block-count → m ≡ 0 + term-count done + length ts → take k (ends rows) ≡ block-ends 0 done → take (k + 1) (ends (set after (series-limit + k) (m ∷ 0 ∷ 0 ∷ []))) ≡ block-ends 0 (done ++ ts ∷ [])
+  ends-block b c w =
+      let h : ends after ≡ ends rows = ap ends stored ∙ ends-stay rows n ts (omega arith) in
+      let l : k < length (ends rows) = rw (ends-length rows z) b in
+      rw (ends-set after k (m ∷ 0 ∷ 0 ∷ []), h, add-one, take-suc-set (ends rows) k m l, w, ends-more 0 done ts, c)
+
+module _ (s : List ℕ) (rows : List (List ℕ)) (tally : Tally) (i k : ℕ) (l : Unpacking s rows tally i k) where
   some : (n : ℕ) → k < block-count → n ≡ block-count - (k + 1) → block-count - k ≡ suc n
   some n h e = omega arith
 
@@ -92,41 +95,39 @@ module _ (s : List ℕ) (la : List ℤ) (lb : List ℕ) (lc : List ℤ) (ends : 
   unfolding parse ended
   unpacking-done h b = rw (unpacking-last h, drop-of-length-le s b)
 
-  pub unpacking-more : (to : ℕ) (more : Tally) (la′ : List ℤ) (lb′ : List ℕ) (lc′ : List ℤ) → k < block-count → Stepped (after-block k tally) s (read-block k tally i (drop i s)) to more
-      → Filled (tally .terms) (read-block k tally i (drop i s)) la lb lc la′ lb′ lc′ → Unpacking s la′ lb′ lc′ (set ends k (more .terms)) more to (k + 1)
-  unpacking-more to more la′ lb′ lc′ h w f =
+  pub unpacking-more : (to : ℕ) (more : Tally) (after : List (List ℕ)) → k < block-count → Stepped (after-block k tally) s (read-block k tally i (drop i s)) to more
+      → Filled (tally .terms) (read-block k tally i (drop i s)) rows after → Unpacking s (set after (series-limit + k) (more .terms ∷ 0 ∷ 0 ∷ [])) more to (k + 1)
+  unpacking-more to more after h w f =
       let ts = w .x in
       let g = block-sums k tally i (drop i s) ts to (drop to s) (l .coarse) (block-accepted k tally i (drop i s) ts to (drop to s) (w .is)) in
       let n : more .terms ≡ tally .terms + length ts = ap (λ (z : Tally). z .terms) (w .with) ∙ g .terms in
       let m : more .terms ≡ 0 + term-count (l .done) + length ts = n ∙ rw (l .terms) (omega arith) in
+      let few : more .terms ≤ series-limit = rw (w .with) (g .few) in
       record {
         done = l .done ++ ts ∷ [];
         place = rw (length-append (l .done) (ts ∷ [])) (omega (arith, l .place));
         bound = omega arith;
         whole = left-got ts to h (w .is) ∙ rw (w .with);
         terms = n ∙ rw (count-more (l .done) ts, l .terms);
-        few = rw (w .with) (g .few);
+        few = few;
         coarse = rw (w .with) (g .within .coarse);
-        held-a = block-more a-of (tally .terms) (more .terms) la la′ (l .done) _ ts to _ (w .is) n (f .filled-a) (l .held-a);
-        held-b = block-more b-of (tally .terms) (more .terms) lb lb′ (l .done) _ ts to _ (w .is) n (f .filled-b) (l .held-b);
-        held-c = block-more c-of (tally .terms) (more .terms) lc lc′ (l .done) _ ts to _ (w .is) n (f .filled-c) (l .held-c);
-        held-ends = rw (add-one, ends-more 0 (l .done) ts, take-suc-set ends k (more .terms) (omega (arith, l .size-ends)), l .held-ends, m);
-        sized = f .sized;
-        size-ends = length-set ends k (more .terms) ∙ l .size-ends;
+        held = rows-block rows after (tally .terms) (more .terms) k (l .done) _ ts to _ (w .is) n few (l .sized) f (l .held);
+        held-ends = ends-block rows after (tally .terms) (more .terms) k (l .done) _ ts to _ (w .is) n few (l .sized) f h m (l .held-ends);
+        sized = record { size = length-set after (series-limit + k) _ ∙ f .sized .size };
       }
 
   -- The table, when all blocks are done.
-  pub unpacking-holds : k ≡ block-count → Holds la lb lc ends (l .done)
+  pub unpacking-holds : k ≡ block-count → Holds rows (l .done)
   unpacking-holds e =
-      let t : take k ends ≡ ends = take-all k ends (omega (arith, l .size-ends, e)) in
-      let p : ends ≡ block-ends 0 (l .done) = sym t ∙ l .held-ends in
-      record { table = rw p (table-law la lb lc (l .done) (tally .terms) (l .held-a) (l .held-b) (l .held-c)); places = p }
+      let t : take k (ends rows) ≡ ends rows = take-all k (ends rows) (omega (arith, ends-length rows (l .sized), e)) in
+      let p : ends rows ≡ block-ends 0 (l .done) = sym t ∙ l .held-ends in
+      record { table = table-law rows (l .done) (tally .terms) (l .held) p; places = p }
 
 -- The answers.
-pub answer-refused : (s : List ℕ) (q : Refusal) (la : List ℤ) (lb : List ℕ) (lc : List ℤ) (ends : List ℕ) → parse s ≡ refused q → (NoSeries q ≡ checked (parse s)) × unpacked (parse s) la lb lc ends
+pub answer-refused : (s : List ℕ) (q : Refusal) (rows : List (List ℕ)) → parse s ≡ refused q → (NoSeries q ≡ checked (parse s)) × unpacked (parse s) rows
 unfolding checked unpacked
-answer-refused s q la lb lc ends e = (rw e, rw e tt)
+answer-refused s q rows e = (rw e, rw e tt)
 
-pub answer-terms : (s : List ℕ) (blocks : List (List Term)) (n : ℕ) (la : List ℤ) (lb : List ℕ) (lc : List ℤ) (ends : List ℕ) → parse s ≡ accepted blocks → n ≡ term-count blocks → Holds la lb lc ends blocks → (Terms n ≡ checked (parse s)) × unpacked (parse s) la lb lc ends
+pub answer-terms : (s : List ℕ) (blocks : List (List Term)) (n : ℕ) (rows : List (List ℕ)) → parse s ≡ accepted blocks → n ≡ term-count blocks → Holds rows blocks → (Terms n ≡ checked (parse s)) × unpacked (parse s) rows
 unfolding checked unpacked
-answer-terms s blocks n la lb lc ends e p h = (rw (e, p), rw e h)
+answer-terms s blocks n rows e p h = (rw (e, p), rw e h)

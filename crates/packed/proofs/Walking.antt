@@ -1,27 +1,23 @@
 -- The walk over a block's terms: what is left, after the terms done, gives what the whole gives. Assumes nothing.
 use mathlib.Core.Path.{_≡_, refl, sym, ap, _∙_}
 use mathlib.Core.List.{List, [], _∷_, _++_, map, append-assoc, append-nil}
-use Prim.Native.Nat.{ℕ, suc, _+_, _-_, _^_, _≤_, _<_}
-use native.Mathlib.Numerals.{add-one}
+use Prim.Native.Nat.{ℕ, suc, _+_, _-_, _≤_, _<_}
+use native.Mathlib.Nat.{add-zero}
 use native.Mathlib.Omega.{arith}
-use lib.IntN.{ℤ}
-use lib.Signed.{mag}
-use mir.Syntax.{w64}
-use mir.Val.{toZ, ofZ}
-use mir.Facts.{toZ-ofZ}
-use lib.ListN.{length, take, drop, set, length-append, length-set}
-use lib.Seq.{take-suc-set}
+use lib.ListN.{length, drop, set, length-append, length-set}
+use lib.Seq.{sets}
 use Rattle.units.specs.declared.Refusal.{Refusal}
 use Rattle.packed_numbers.specs.Numbers.{Read, got, bad, next}
+use Rattle.packed_numbers.proofs.Folding.{folded-unfolded}
 use Rattle.packed_numbers.proofs.Reading.{After, moved}
-use Rattle.units.specs.Units.{total-limit, coarse-limit, series-limit}
+use Rattle.units.specs.Units.{total-limit, coarse-limit}
 use Rattle.limits.specs.declared.Term.{Term}
 use Rattle.limits.specs.declared.Tally.{Tally}
 use Rattle.packed.specs.declared.table.Walk.the-variants.{Moved, Stopped}
 use Rattle.limits.specs.Limits.{added}
 use Rattle.packed.specs.Series.{read-term, read-terms, summed}
-use Rattle.packed.specs.machine.Tables.{Sized}
-use Rattle.packed.specs.machine.Answers.{walked, stored, filled, Filled, a-of, b-of, c-of}
+use Rattle.packed.specs.machine.Table.{Sized}
+use Rattle.packed.specs.machine.Answers.{term-of, walked, row-of, stored, filled, Filled}
 use Rattle.packed.proofs.Accepting.{term-accepted}
 
 -- What was read, from an answer that moved on, and from one that stopped.
@@ -51,19 +47,18 @@ pub show-stopped : {A : Type 0} {r : Read A} {q : Refusal} (g : A → Tally) →
 unfolding walked
 show-stopped g e = sym (ap (walked g) e)
 
--- One term is stored.
-pub store-none : {X : Type 0} (h : Term → X) (k : ℕ) (r : Read Term) (q : Refusal) (l : List X) → r ≡ bad q → l ≡ stored h k r l
+-- One term is stored, as it was packed.
+pub store-none : (k : ℕ) (r : Read Term) (q : Refusal) (rows : List (List ℕ)) → r ≡ bad q → rows ≡ stored k r rows
 unfolding stored
-store-none h k r q l e = rw e
+store-none k r q rows e = rw e
 
-pub store : {X : Type 0} (h : Term → X) (k : ℕ) (r : Read Term) (t : Term) (to : ℕ) (rest : List ℕ) (l : List X) → r ≡ got t to rest → stored h k r l ≡ set l k (h t)
+pub store : (k : ℕ) (r : Read Term) (t : Term) (to : ℕ) (rest : List ℕ) (rows : List (List ℕ)) → r ≡ got t to rest → stored k r rows ≡ set rows k (row-of t)
 unfolding stored
-store h k r t to rest l e = rw e
+store k r t to rest rows e = rw e
 
--- A signed number is stored as its bits.
-pub store-signed : (h : Term → ℤ) (k : ℕ) (r : Read Term) (t : Term) (to : ℕ) (rest : List ℕ) (l : List ℤ) (z : ℤ) → mag z < 2 ^ 63 → z ≡ h t → r ≡ got t to rest → set l k (toZ w64 (ofZ w64 z)) ≡ stored h k r l
-store-signed h k r t to rest l z b p e =
-    rw (toZ-ofZ {w = w64} {z = z} (record { sfits = b }), p) (sym (store h k r t to rest l e))
+pub store-row : (k : ℕ) (r : Read Term) (a b c to : ℕ) (rest : List ℕ) (rows : List (List ℕ)) → r ≡ got (term-of a b c) to rest → set rows k (a ∷ b ∷ c ∷ []) ≡ stored k r rows
+unfolding row-of
+store-row k r a b c to rest rows e = rw (store k r (term-of a b c) to rest rows e, folded-unfolded a, folded-unfolded c)
 
 -- Terms in front of those that a reader reads.
 unfoldable pub joined : {A : Type 0} → List A → Read (List A) → Read (List A)
@@ -84,22 +79,20 @@ unfolding summed
 summed-more f s [] t = refl
 summed-more f s (x ∷ done) t = summed-more f (added f s x) done t
 
-map-more : {X : Type 0} (h : Term → X) (done : List Term) (t : Term) → map h (done ++ t ∷ []) ≡ map h done ++ h t ∷ []
-map-more h [] t = refl
-map-more h (x ∷ done) t = ap (λ (l : List _). h x ∷ l) (map-more h done t)
+-- One row more after those that were stored.
+put-more : (done : List Term) (t : Term) (from : ℕ) (rows : List (List ℕ)) → set (sets rows from (map row-of done)) (from + length done) (row-of t) ≡ sets rows from (map row-of (done ++ t ∷ []))
+put-more [] t from rows = rw (add-zero from)
+put-more (x ∷ done) t from rows =
+    let e : from + suc (length done) ≡ suc from + length done = omega arith in
+    rw e (put-more done t (suc from) (set rows from (row-of x)))
 
--- One number more in a list of the table.
-put-more : {X : Type 0} (h : Term → X) (from k : ℕ) (before l after : List X) (done : List Term) (t : Term) → k < length l → after ≡ set l k (h t) → take k l ≡ take from before ++ map h done → take (k + 1) after ≡ take from before ++ map h (done ++ t ∷ [])
-put-more h from k before l after done t b e p =
-    rw (e, add-one, map-more h done t, take-suc-set l k (h t) b, p) (append-assoc (take from before) (map h done) (h t ∷ []))
-
--- After a refusal nothing is said but the sizes.
-pub filled-bad : (k : ℕ) (r : Read (List Term)) (q : Refusal) (la₀ : List ℤ) (lb₀ : List ℕ) (lc₀ la : List ℤ) (lb : List ℕ) (lc : List ℤ) → r ≡ bad q → Sized la lb lc → Filled k r la₀ lb₀ lc₀ la lb lc
+-- After a refusal nothing is said but the size.
+pub filled-bad : (k : ℕ) (r : Read (List Term)) (q : Refusal) (before after : List (List ℕ)) → r ≡ bad q → Sized after → Filled k r before after
 unfolding filled
-filled-bad k r q la₀ lb₀ lc₀ la lb lc e z = record { filled-a = rw e tt; filled-b = rw e tt; filled-c = rw e tt; sized = z }
+filled-bad k r q before after e z = record { rows = rw e tt; sized = z }
 
 -- The loop's invariant, with the terms that are done.
-pub record Taken (s : List ℕ) (at f from end : ℕ) (first : Tally) (la₀ : List ℤ) (lb₀ : List ℕ) (lc₀ la : List ℤ) (lb : List ℕ) (lc : List ℤ) (tally : Tally) (i k : ℕ) : Type 0 where
+pub record Taken (s : List ℕ) (at f from end : ℕ) (first : Tally) (rows₀ rows : List (List ℕ)) (tally : Tally) (i k : ℕ) : Type 0 where
   pub done : List Term
   pub place : k ≡ from + length done
   pub bound : k ≤ end
@@ -107,13 +100,11 @@ pub record Taken (s : List ℕ) (at f from end : ℕ) (first : Tally) (la₀ : L
   pub with : tally ≡ summed f first done
   pub total : tally .total ≤ total-limit
   pub coarse : tally .coarse ≤ coarse-limit
-  pub held-a : take k la ≡ take from la₀ ++ map a-of done
-  pub held-b : take k lb ≡ take from lb₀ ++ map b-of done
-  pub held-c : take k lc ≡ take from lc₀ ++ map c-of done
-  pub sized : Sized la lb lc
+  pub held : rows ≡ sets rows₀ from (map row-of done)
+  pub sized : Sized rows
 
-module _ (s : List ℕ) (at f from end : ℕ) (first : Tally) (la₀ : List ℤ) (lb₀ : List ℕ) (lc₀ : List ℤ) where
-  pub taken-none : from ≤ end → first .total ≤ total-limit → first .coarse ≤ coarse-limit → Sized la₀ lb₀ lc₀ → Taken s at f from end first la₀ lb₀ lc₀ la₀ lb₀ lc₀ first at from
+module _ (s : List ℕ) (at f from end : ℕ) (first : Tally) (rows₀ : List (List ℕ)) where
+  pub taken-none : from ≤ end → first .total ≤ total-limit → first .coarse ≤ coarse-limit → Sized rows₀ → Taken s at f from end first rows₀ rows₀ first at from
   unfolding summed
   taken-none h t c z =
       record {
@@ -124,18 +115,17 @@ module _ (s : List ℕ) (at f from end : ℕ) (first : Tally) (la₀ : List ℤ)
         with = refl;
         total = t;
         coarse = c;
-        held-a = sym (append-nil (take from la₀));
-        held-b = sym (append-nil (take from lb₀));
-        held-c = sym (append-nil (take from lc₀));
+        held = refl;
         sized = z;
       }
 
-  module _ (la : List ℤ) (lb : List ℕ) (lc : List ℤ) (tally : Tally) (i k : ℕ) (l : Taken s at f from end first la₀ lb₀ lc₀ la lb lc tally i k) where
+  module _ (rows : List (List ℕ)) (tally : Tally) (i k : ℕ) (l : Taken s at f from end first rows₀ rows tally i k) where
     -- One term of those that are left.
     some : (n : ℕ) → k < end → n ≡ end - (k + 1) → end - k ≡ suc n
     some n h e = omega arith
 
-    left-got : (t : Term) (to : ℕ) → k < end → read-term f tally i (drop i s) ≡ got t to (drop to s) → read-terms (end - from) f first at (drop at s) ≡ joined (l .done ++ t ∷ []) (read-terms (end - (k + 1)) f (added f tally t) to (drop to s))
+    left-got : (t : Term) (to : ℕ) → k < end → read-term f tally i (drop i s) ≡ got t to (drop to s)
+        → read-terms (end - from) f first at (drop at s) ≡ joined (l .done ++ t ∷ []) (read-terms (end - (k + 1)) f (added f tally t) to (drop to s))
     unfolding read-terms next
     left-got t to h e =
         l .whole ∙ rw (some (end - (k + 1)) h refl, e) (joined-more (l .done) t (read-terms (end - (k + 1)) f (added f tally t) to (drop to s)))
@@ -148,17 +138,13 @@ module _ (s : List ℕ) (at f from end : ℕ) (first : Tally) (la₀ : List ℤ)
     unfolding read-terms next joined
     taken-last h = let z : end - k ≡ 0 = omega arith in l .whole ∙ rw z (ap (λ (d : List Term). got d i (drop i s)) (append-nil (l .done)))
 
-    pub taken-more : (to : ℕ) (more : Tally) (la′ : List ℤ) (lb′ : List ℕ) (lc′ : List ℤ) → k < end → end ≤ series-limit → Stepped (added f tally) s (read-term f tally i (drop i s)) to more
-        → la′ ≡ stored a-of k (read-term f tally i (drop i s)) la → lb′ ≡ stored b-of k (read-term f tally i (drop i s)) lb → lc′ ≡ stored c-of k (read-term f tally i (drop i s)) lc
-        → Taken s at f from end first la₀ lb₀ lc₀ la′ lb′ lc′ more to (k + 1)
+    pub taken-more : (to : ℕ) (more : Tally) (rows′ : List (List ℕ)) → k < end → Stepped (added f tally) s (read-term f tally i (drop i s)) to more
+        → rows′ ≡ stored k (read-term f tally i (drop i s)) rows → Taken s at f from end first rows₀ rows′ more to (k + 1)
     unfolding added
-    taken-more to more la′ lb′ lc′ h b w ea eb ec =
+    taken-more to more rows′ h w e =
         let t = w .x in
         let g = term-accepted f tally i (drop i s) (w .is) .good in
-        let z = l .sized in
-        let pa = ea ∙ store a-of k _ t to _ la (w .is) in
-        let pb = eb ∙ store b-of k _ t to _ lb (w .is) in
-        let pc = ec ∙ store c-of k _ t to _ lc (w .is) in
+        let p = e ∙ store k _ t to _ rows (w .is) in
         record {
           done = l .done ++ t ∷ [];
           place = rw (length-append (l .done) (t ∷ [])) (omega (arith, l .place));
@@ -167,37 +153,18 @@ module _ (s : List ℕ) (at f from end : ℕ) (first : Tally) (la₀ : List ℤ)
           with = w .with ∙ rw (l .with) (sym (summed-more f first (l .done) t));
           total = rw (w .with) (g .good-a .total);
           coarse = rw (w .with) (g .good-c .coarse);
-          held-a = put-more a-of from k la₀ la la′ (l .done) t (omega (arith, z .size-a)) pa (l .held-a);
-          held-b = put-more b-of from k lb₀ lb lb′ (l .done) t (omega (arith, z .size-b)) pb (l .held-b);
-          held-c = put-more c-of from k lc₀ lc lc′ (l .done) t (omega (arith, z .size-c)) pc (l .held-c);
-          sized = record {
-            size-a = ap length pa ∙ length-set la k _ ∙ z .size-a;
-            size-b = ap length pb ∙ length-set lb k _ ∙ z .size-b;
-            size-c = ap length pc ∙ length-set lc k _ ∙ z .size-c;
-          };
+          held = p ∙ rw (l .held, l .place) (put-more (l .done) t from rows₀);
+          sized = record { size = ap length p ∙ length-set rows k _ ∙ l .sized .size };
         }
 
     -- The whole block is read, or a refusal ends it.
-    pub filled-last : end ≤ k → Filled from (read-terms (end - from) f first at (drop at s)) la₀ lb₀ lc₀ la lb lc
+    pub filled-last : end ≤ k → Filled from (read-terms (end - from) f first at (drop at s)) rows₀ rows
     unfolding filled
-    filled-last h =
-        let e = taken-last h in
-        let p : k ≡ from + length (l .done) = l .place in
-        record {
-          filled-a = rw (e, ← p) (l .held-a);
-          filled-b = rw (e, ← p) (l .held-b);
-          filled-c = rw (e, ← p) (l .held-c);
-          sized = l .sized;
-        }
+    filled-last h = record { rows = rw (taken-last h) (l .held); sized = l .sized }
 
-    pub filled-stop : (q : Refusal) (la′ : List ℤ) (lb′ : List ℕ) (lc′ : List ℤ) → k < end → read-term f tally i (drop i s) ≡ bad q
-        → la′ ≡ stored a-of k (read-term f tally i (drop i s)) la → lb′ ≡ stored b-of k (read-term f tally i (drop i s)) lb → lc′ ≡ stored c-of k (read-term f tally i (drop i s)) lc
-        → Filled from (read-terms (end - from) f first at (drop at s)) la₀ lb₀ lc₀ la′ lb′ lc′
+    pub filled-stop : (q : Refusal) (rows′ : List (List ℕ)) → k < end → read-term f tally i (drop i s) ≡ bad q → rows′ ≡ stored k (read-term f tally i (drop i s)) rows
+        → Filled from (read-terms (end - from) f first at (drop at s)) rows₀ rows′
     unfolding stored
-    filled-stop q la′ lb′ lc′ h e ea eb ec =
-        let w = taken-stop q h e in
-        let z = l .sized in
-        let pa : la′ ≡ la = rw e at ea in
-        let pb : lb′ ≡ lb = rw e at eb in
-        let pc : lc′ ≡ lc = rw e at ec in
-        filled-bad from _ q la₀ lb₀ lc₀ la′ lb′ lc′ w (record { size-a = ap length pa ∙ z .size-a; size-b = ap length pb ∙ z .size-b; size-c = ap length pc ∙ z .size-c })
+    filled-stop q rows′ h e m =
+        let p : rows′ ≡ rows = rw e at m in
+        filled-bad from _ q rows₀ rows′ (taken-stop q h e) (record { size = ap length p ∙ l .sized .size })

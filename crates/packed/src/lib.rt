@@ -1,7 +1,9 @@
-// Packed series: document 01, "Series, as text and packed".
+// Packed series: RULES, "Series, as text and packed".
 pub mod table;
 mod terms;
 
+use table::TABLE_ROWS;
+use table::Table;
 use table::unpack;
 use units::Refusal;
 ghost use mathlib.Core.Path.{_≡_};
@@ -17,9 +19,6 @@ pub enum Checked {
 pub fn check(bytes: &[u8]) -> Checked
     ensures { λ r. ⌜ r ≡ checked (parse (now (bytes .entry))) ⌝ }
 {
-    let mut a = [0i64; 8192];
-    let mut b = [0u64; 8192];
-    let mut c = [0i64; 8192];
-    let mut ends = [0u64; 18];
-    unpack(bytes, &mut a, &mut b, &mut c, &mut ends)
+    let mut table: Table = [[0; 3]; TABLE_ROWS];
+    unpack(bytes, &mut table)
 }

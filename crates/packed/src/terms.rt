@@ -16,8 +16,7 @@ ghost use Rattle.packed_numbers.specs.Numbers.{folded, unfolded};
 ghost use Rattle.packed_numbers.specs.machine.Answers.{shown, plain, at-offset};
 ghost use Rattle.limits.specs.Limits.{factor, weight, added, opened, term-may-come};
 ghost use Rattle.packed.specs.Series.{read-a, read-b, read-c, read-term, read-terms, summed, read-block, after-block, parse, checked};
-ghost use Rattle.packed.specs.machine.Tables.{Sized, unpacked};
-ghost use Rattle.packed.specs.machine.Answers.{shown-term, term-of, walked, Stored, Filled};
+ghost use Rattle.packed.specs.machine.Answers.{shown-term, term-of};
 
 // A term as it is packed, a and c folded, and the offset past it; or a refusal.
 pub enum TermRead {

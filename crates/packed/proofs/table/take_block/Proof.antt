@@ -9,7 +9,7 @@ use Rattle.packed_numbers.specs.Numbers.{Read, number}
 use Rattle.packed_numbers.specs.machine.Answers.{plain}
 use Rattle.packed_numbers.proofs.Reading.{Got, got-plain, was-bad, number-after}
 use Rattle.limits.specs.declared.Term.{Term}
-use Rattle.packed.specs.Series.{read-block, after-block}
+use Rattle.packed.specs.Series.{after-block}
 use Rattle.packed.specs.machine.Answers.{Filled}
 use Rattle.packed.proofs.Walking.{show-stopped, filled-bad}
 use Rattle.packed.proofs.Blocks.{block-bad, block-over, series-over, block-got, opened-ready, block-read, block-walked}
@@ -26,31 +26,36 @@ enum-known-n-2 : tie.Need-enum-known-n-2
 enum-known-n-2 c = search needs
 
 -- The count that was read.
-read : (c : tie.After-known-told2) → Got (c .before .before .before .before .before .args .bytes .now) (c .before .before .before .before .before .args .at + 1) (number (c .before .before .before .before .before .args .at) (drop (c .before .before .before .before .before .args .at) (c .before .before .before .before .before .args .bytes .now))) (c .before .n2 .given .0 .0) (c .before .n2 .given .0 .1 .0)
-read c = let a = c .before .before .before .before .before .args in got-plain _ _ (number-after (a .bytes .now) (a .at)) (sym (c .before .before .before .number-at .ensures) ∙ c .before .n2 .given .1)
+read : (c : tie.After-known-told2)
+    → let a = c .before .before .before .before .before .args in
+    let n = c .before .n2 .given .0 in
+    Got (a .bytes .now) (a .at + 1) (number (a .at) (drop (a .at) (a .bytes .now))) (n .0) (n .1 .0)
+read c =
+    let a = c .before .before .before .before .before .args in
+    got-plain _ _ (number-after (a .bytes .now) (a .at)) (sym (c .before .before .before .number-at .ensures) ∙ c .before .n2 .given .1)
 
-sub-t17 : tie.Need-sub-t17
-sub-t17 c = omega (arith, read (c .before) .forward)
+sub-t15 : tie.Need-sub-t15
+sub-t15 c = omega (arith, read (c .before) .forward)
 
 returns : tie.Need-returns
 returns c =
-    let a = c .before .before .before .before .before .before .args in
-    let x = drop (a .at) (a .bytes .now) in
-    let e = block-over (a .k) (a .tally) (a .at) x _ _ _ (read (c .before) .is) (c .if1 .taken) in
-    (show-stopped (after-block (a .k) (a .tally)) e, filled-bad (a .tally .terms) (read-block (a .k) (a .tally) (a .at) x) _ (a .a .now) (a .b .now) (a .c .now) (a .a .now) (a .b .now) (a .c .now) e (c .before .before .before .before .before .before .pre .2))
+    let s = c .before .before .before .before .before .before in
+    let a = s .args in
+    let e = block-over (a .k) (a .tally) (a .at) _ _ _ _ (read (c .before) .is) (c .if1 .taken) in
+    (show-stopped (after-block (a .k) (a .tally)) e, filled-bad (a .tally .terms) _ _ _ _ e (s .pre .2))
 
 add-if2 : tie.Need-add-if2
 add-if2 c = search needs
 
-sub-t20 : tie.Need-sub-t20
-sub-t20 c = omega (arith, read (c .before .before) .forward)
+sub-t18 : tie.Need-sub-t18
+sub-t18 c = omega (arith, read (c .before .before) .forward)
 
 returns-2 : tie.Need-returns-2
 returns-2 c =
-    let a = c .before .before .before .before .before .before .before .args in
-    let x = drop (a .at) (a .bytes .now) in
-    let e = series-over (a .k) (a .tally) (a .at) x _ _ _ (read (c .before .before) .is) (c .before .if1 .left) (c .if2 .taken) in
-    (show-stopped (after-block (a .k) (a .tally)) e, filled-bad (a .tally .terms) (read-block (a .k) (a .tally) (a .at) x) _ (a .a .now) (a .b .now) (a .c .now) (a .a .now) (a .b .now) (a .c .now) e (c .before .before .before .before .before .before .before .pre .2))
+    let s = c .before .before .before .before .before .before .before in
+    let a = s .args in
+    let e = series-over (a .k) (a .tally) (a .at) _ _ _ _ (read (c .before .before) .is) (c .before .if1 .left) (c .if2 .taken) in
+    (show-stopped (after-block (a .k) (a .tally)) e, filled-bad (a .tally .terms) _ _ _ _ e (s .pre .2))
 
 block-factor-requires : tie.Need-block-factor-requires
 block-factor-requires c κs = search needs
@@ -60,29 +65,36 @@ open-block-requires c κs = c .before .if2 .left
 
 take-terms-requires : tie.Need-take-terms-requires
 take-terms-requires c κs =
-    let a = c .before .before .before .before .before .before .before .before .before .before .before .before .args in
-    let p = c .before .before .before .before .before .before .before .before .before .before .before .before .pre in
-    let o = opened-ready (a .k) (c .before .before .before .before .before .before .before .before .n2 .given .0 .0) (a .tally) _ (c .before .before .before .open-block .ensures) (p .1) (c .before .before .before .before .before .if2 .left) in
-    (c .before .before .before .before .block-factor .ensures .1, o .within .total, o .within .coarse, o .from, o .few, p .2)
+    let s = c .before .before .before .before .before .before .before .before .before .before in
+    let a = s .args in
+    let o = opened-ready (a .k) (c .before .before .before .before .before .before .n2 .given .0 .0) (a .tally) _ (c .before .open-block .ensures) (s .pre .1) (c .before .before .before .if2 .left) in
+    record {
+      small = c .before .before .block-factor .ensures .1;
+      total = o .within .total;
+      coarse = o .within .coarse;
+      from-there = o .from;
+      few = o .few;
+      sized = s .pre .2;
+    }
 
 returns-3 : tie.Need-returns-3
 returns-3 c =
-    let a = c .before .before .before .before .before .args in
-    let x = drop (a .at) (a .bytes .now) in
-    let e = block-bad (a .k) (a .tally) (a .at) x _ (was-bad plain _ _ (sym (c .before .before .before .number-at .ensures) ∙ c .before .n .given .1)) in
-    (show-stopped (after-block (a .k) (a .tally)) e, filled-bad (a .tally .terms) (read-block (a .k) (a .tally) (a .at) x) _ (a .a .now) (a .b .now) (a .c .now) (a .a .now) (a .b .now) (a .c .now) e (c .before .before .before .before .before .pre .2))
+    let s = c .before .before .before .before .before in
+    let a = s .args in
+    let e = block-bad (a .k) (a .tally) (a .at) _ _ (was-bad plain _ _ (sym (c .before .before .before .number-at .ensures) ∙ c .before .n .given .1)) in
+    (show-stopped (after-block (a .k) (a .tally)) e, filled-bad (a .tally .terms) _ _ _ _ e (s .pre .2))
 
 returns-4 : tie.Need-returns-4
 returns-4 c =
-    let a = c .before .before .before .before .before .before .before .before .before .before .before .before .before .args in
-    let n = c .before .before .before .before .before .before .before .before .before .n2 .given .0 in
+    let a = c .before .before .before .before .before .before .before .before .before .before .before .args in
+    let n = c .before .before .before .before .before .before .before .n2 .given .0 in
     let t = c .take-terms in
-    let f = c .before .before .before .before .before .block-factor in
-    let o = c .before .before .before .before .open-block in
-    let x = drop (a .at) (a .bytes .now) in
+    let f = c .before .before .before .block-factor in
+    let o = c .before .before .open-block in
     let y = drop (n .1 .0) (a .bytes .now) in
-    let e = block-got (a .k) (a .tally) (a .at) x (n .0) (n .1 .0) y (read (c .before .before .before .before .before .before .before .before) .is) (c .before .before .before .before .before .before .before .if1 .left) (c .before .before .before .before .before .before .if2 .left) in
-    (t .ensures .0 ∙ block-walked (a .k) (n .0) (f .result) (n .1 .0) (a .tally) (o .result) y (f .ensures .0) (o .ensures) e, subst (λ (r : Read (List Term)). Filled (a .tally .terms) r (a .a .now) (a .b .now) (a .c .now) (t .last .1 .1 .1 .1 .1 .0) (t .last .1 .1 .1 .1 .1 .1 .0) (t .last .1 .1 .1 .1 .1 .1 .1 .0)) (block-read (a .k) (n .0) (f .result) (n .1 .0) (a .tally) (o .result) y (f .ensures .0) (o .ensures) e) (t .ensures .1))
+    let e = block-got (a .k) (a .tally) (a .at) _ (n .0) (n .1 .0) y (read (c .before .before .before .before .before .before) .is) (c .before .before .before .before .before .if1 .left) (c .before .before .before .before .if2 .left) in
+    let r = block-read (a .k) (n .0) (f .result) (n .1 .0) (a .tally) (o .result) y (f .ensures .0) (o .ensures) e in
+    (t .ensures .0 ∙ block-walked (a .k) (n .0) (f .result) (n .1 .0) (a .tally) (o .result) y (f .ensures .0) (o .ensures) e, rw r at (t .ensures .1))
 
 pub take-block-spec : {M : Type 1} → statement M
 take-block-spec =
@@ -91,10 +103,10 @@ take-block-spec =
     number-at-requires
     enum-known-n
     enum-known-n-2
-    sub-t17
+    sub-t15
     returns
     add-if2
-    sub-t20
+    sub-t18
     returns-2
     block-factor-requires
     open-block-requires
