@@ -5,15 +5,12 @@ use Prim.Native.Nat.{ℕ, zero, suc, _+_, _≤_, _<_}
 use native.Mathlib.Omega.{arith}
 use lib.ListN.{length, getD}
 use Rattle.units.specs.Units.{block-limit, series-limit, total-limit, block-count, coarse-base, coarse-limit}
 use Rattle.limits.specs.declared.Term.{Term}
 use Rattle.limits.specs.declared.Tally.{Tally}
-use Rattle.limits.specs.Limits.{factor, opened, no-tally}
-use Rattle.packed.specs.Series.{after-block}
-use Rattle.limits.specs.Allowed.{term-count}
-use Rattle.limits.specs.Allowed.{total-of, BlockFits, Allowed}
-use Rattle.packed.proofs.Blocks.{opened-within, summed-terms}
-use Rattle.packed.proofs.Limits.{burden, GoodTerms, terms-fit, terms-total, terms-coarse, terms-good, summed-coarse}
-use Rattle.packed.proofs.Coarse.{start, Coarse, no-blocks, a-block, coarse-coordinate, coarse-blocks}
+use Rattle.limits.specs.Limits.{factor, opened, after-block, no-tally}
+use Rattle.limits.specs.Allowed.{term-count, total-of, BlockFits, Allowed}
+use Rattle.limits.proofs.Terms.{burden, GoodTerms, terms-fit, terms-total, terms-coarse, terms-good, summed-terms, summed-coarse}
+use Rattle.limits.proofs.Coarseness.{start, start-within, Coarse, no-blocks, a-block, coarse-coordinate, coarse-blocks}
 
 -- A block is good after the tally s: its count, and each of its terms.
 pub record GoodBlock (k : ℕ) (s : Tally) (ts : List Term) : Type 0 where
@@ -23,7 +20,8 @@ pub record GoodBlock (k : ℕ) (s : Tally) (ts : List Term) : Type 0 where
 
 pub data GoodBlocks : ℕ → Tally → List (List Term) → Type 0 where
   none : {k : ℕ} {s : Tally} → GoodBlocks k s []
-  more : {k : ℕ} {s : Tally} {ts : List Term} {bs : List (List Term)} → GoodBlock k s ts → GoodBlocks (k + 1) (after-block k s ts) bs → GoodBlocks k s (ts ∷ bs)
+  more : {k : ℕ} {s : Tally} {ts : List Term} {bs : List (List Term)}
+      → GoodBlock k s ts → GoodBlocks (k + 1) (after-block k s ts) bs → GoodBlocks k s (ts ∷ bs)
 
 -- The tally before and after a block's terms.
 opened-total : (k n : ℕ) (s : Tally) → opened k n s .total ≡ 0
@@ -50,9 +48,11 @@ fits-of k s ts g =
     let u : 0 + total-of ts ≤ total-limit = rw z at t in
     record { few = g .few; terms = terms-fit (g .terms); total = omega arith }
 
-coarse-of : (k : ℕ) (s : Tally) (ts : List Term) → s .coarse ≤ coarse-limit → GoodBlock k s ts → start k (s .coarse) + burden (factor k) ts ≤ coarse-limit
+coarse-of : (k : ℕ) (s : Tally) (ts : List Term)
+    → s .coarse ≤ coarse-limit → GoodBlock k s ts → start k (s .coarse) + burden (factor k) ts ≤ coarse-limit
 coarse-of k s ts h g =
-    rw (← opened-coarse k (length ts) s) (terms-coarse (g .terms) (opened-within k (length ts) s h .coarse))
+    let o = opened-coarse k (length ts) s in
+    rw (← o) (terms-coarse (g .terms) (rw o (start-within k (s .coarse) h)))
 
 -- What good blocks tell.
 blocks-fit : {k : ℕ} {s : Tally} {bs : List (List Term)} → GoodBlocks k s bs → (j : ℕ) → j < length bs → BlockFits (getD bs j [])
@@ -86,17 +86,21 @@ good-allowed bs e g =
       coarse = λ (q : ℕ) (h : q < 3). coarse-coordinate coarse-base q bs (blocks-coarse g (omega arith));
     }
 
-blocks-good : (k : ℕ) (s : Tally) (bs : List (List Term)) → ((j : ℕ) → j < length bs → BlockFits (getD bs j [])) → s .terms + term-count bs ≤ series-limit → Coarse k (s .coarse) bs → GoodBlocks k s bs
+blocks-good : (k : ℕ) (s : Tally) (bs : List (List Term))
+    → ((j : ℕ) → j < length bs → BlockFits (getD bs j [])) → s .terms + term-count bs ≤ series-limit → Coarse k (s .coarse) bs
+    → GoodBlocks k s bs
 unfolding term-count
 blocks-good k s [] f h c = none
 blocks-good k s (ts ∷ bs) f h (a-block w r) =
     let b = f 0 (omega arith) in
     let z = opened-total k (length ts) s in
     let o = opened-coarse k (length ts) s in
-    more {k = k} {s = s} {ts = ts}
-    (record { few = b .few; fewer = omega arith; terms = terms-good (factor k) (opened k (length ts) s) ts (b .terms) (rw z (omega (arith, b .total))) (rw o w) })
-    (blocks-good (k + 1) (after-block k s ts) bs (λ (j : ℕ) (l : j < length bs). f (suc j) (omega arith)) (rw (after-terms k s ts) (omega arith)) (rw (after-coarse k s ts) r))
+    let t = terms-good (factor k) (opened k (length ts) s) ts (b .terms) (rw z (omega (arith, b .total))) (rw o w) in
+    more {k = k} {s = s} {ts = ts} (record { few = b .few; fewer = omega arith; terms = t })
+    (blocks-good (k + 1) (after-block k s ts) bs
+    (λ (j : ℕ) (l : j < length bs). f (suc j) (omega arith)) (rw (after-terms k s ts) (omega arith)) (rw (after-coarse k s ts) r))
 
 pub allowed-good : (bs : List (List Term)) → Allowed bs → GoodBlocks 0 no-tally bs
 allowed-good bs a =
-    blocks-good 0 no-tally bs (λ (j : ℕ) (l : j < length bs). a .fits j (rw (a .eighteen) at l)) (omega (arith, a .few)) (coarse-blocks coarse-base bs (a .eighteen) (a .coarse))
+    blocks-good 0 no-tally bs (λ (j : ℕ) (l : j < length bs). a .fits j (rw (a .eighteen) at l)) (omega (arith, a .few))
+    (coarse-blocks coarse-base bs (a .eighteen) (a .coarse))
