@@ -14,11 +14,11 @@ use Rattle.packed_numbers.specs.Numbers.{groups, encode}
 use Rattle.packed_numbers.specs.machine.Answers.{room-for, put-answer, put-out}
 use Rattle.packed_numbers.specs.declared.Put.the-variants.{Next, NoRoom}
 
-pub last-groups : (f x : ℕ) → x < 128 → groups (suc f) x ≡ x ∷ []
+last-groups : (f x : ℕ) → x < 128 → groups (suc f) x ≡ x ∷ []
 unfolding groups
 last-groups f x l = rw (lt-ltb x 128 l)
 
--- the loops' invariant: what is left is the groups of x, for some number of groups that is enough
+-- The loops' invariant: what is left is the groups of x, for some number of groups that is enough.
 pub record Left (start : List ℕ) (at v : ℕ) (out : List ℕ) (i x : ℕ) : Type 0 where
   pub fuel : ℕ
   pub enough : x < 128 ^ suc fuel
@@ -31,7 +31,9 @@ unfolding encode
 left-none start at v h = record { fuel = 9; enough = omega arith; count = refl; written = refl; same = refl }
 
 module _ (start : List ℕ) (at v : ℕ) (out : List ℕ) (i x : ℕ) where
-  more : (f : ℕ) → x < 128 ^ suc f → i + length (groups (suc f) x) ≡ at + length (encode v) → sets out i (groups (suc f) x) ≡ sets start at (encode v) → length out ≡ length start → 128 ≤ x → Left start at v (set out i (x % 128 + 128)) (i + 1) (x / 128)
+  more : (f : ℕ) → x < 128 ^ suc f → i + length (groups (suc f) x) ≡ at + length (encode v)
+      → sets out i (groups (suc f) x) ≡ sets start at (encode v) → length out ≡ length start → 128 ≤ x
+      → Left start at v (set out i (x % 128 + 128)) (i + 1) (x / 128)
   unfolding groups
   more zero e c w s h = absurd (omega arith)
   more (suc f) e c w s h =
@@ -47,7 +49,7 @@ module _ (start : List ℕ) (at v : ℕ) (out : List ℕ) (i x : ℕ) where
   pub left-more : Left start at v out i x → 128 ≤ x → Left start at v (set out i (x % 128 + 128)) (i + 1) (x / 128)
   left-more l h = more (l .fuel) (l .enough) (l .count) (l .written) (l .same) h
 
-  -- there is room for what is left
+  -- There is room for what is left.
   some-left : (f : ℕ) → 0 < length (groups (suc f) x)
   unfolding groups
   some-left f = either (ltb x 128)
@@ -64,7 +66,7 @@ module _ (start : List ℕ) (at v : ℕ) (out : List ℕ) (i x : ℕ) where
       let g = last-groups (l .fuel) x h in
       (rw g at (l .count), rw g at (l .written))
 
--- a number has few groups, and one at least
+-- A number has few groups, and one at least.
 either-le : (t : Bool) (a b : List ℕ) (n : ℕ) → length a ≤ n → length b ≤ n → length (cond t a b) ≤ n
 either-le true a b n p q = p
 either-le false a b n p q = q
@@ -78,10 +80,12 @@ pub encode-short : (v : ℕ) → length (encode v) ≤ 10
 unfolding encode
 encode-short v = groups-short 10 v
 
-pub no-room : (v at n : ℕ) (out : List ℕ) → n ≡ length (encode v) → length out < at + n → (NoRoom n ≡ put-answer v at out) × (out ≡ put-out v at out)
+pub no-room : (v at n : ℕ) (out : List ℕ) → n ≡ length (encode v) → length out < at + n
+    → (NoRoom n ≡ put-answer v at out) × (out ≡ put-out v at out)
 unfolding put-answer put-out room-for
 no-room v at n out e h = let f = lt-leb (at + length (encode v)) (length out) (rw e at h) in (rw (f, e), rw f)
 
-pub with-room : (v at r : ℕ) (out after : List ℕ) → at + length (encode v) ≤ length out → r ≡ at + length (encode v) → after ≡ sets out at (encode v) → (Next r ≡ put-answer v at out) × (after ≡ put-out v at out)
+pub with-room : (v at r : ℕ) (out after : List ℕ) → at + length (encode v) ≤ length out → r ≡ at + length (encode v)
+    → after ≡ sets out at (encode v) → (Next r ≡ put-answer v at out) × (after ≡ put-out v at out)
 unfolding put-answer put-out room-for
 with-room v at r out after h e w = let f = le-leb (at + length (encode v)) (length out) h in (rw (f, e), rw (f, w))

@@ -19,7 +19,8 @@ unfolding unfolded
 odd v h = rw (ne-eqb (v % 2) 0 h)
 
 -- What holds of both forms holds of every unfolded number.
-by-parity : (P : ℤ → ℕ → Type 0) → ((v : ℕ) → v % 2 ≡ 0 → P (pos (v / 2)) v) → ((v : ℕ) → (v % 2 ≡ 0 → ⊥) → P (negsuc (v / 2)) v) → (v : ℕ) → P (unfolded v) v
+by-parity : (P : ℤ → ℕ → Type 0) → ((v : ℕ) → v % 2 ≡ 0 → P (pos (v / 2)) v) → ((v : ℕ) → (v % 2 ≡ 0 → ⊥) → P (negsuc (v / 2)) v)
+    → (v : ℕ) → P (unfolded v) v
 by-parity P e o v = go (ℕ-discrete (v % 2) 0)
   where
     go : Dec (v % 2 ≡ 0) → P (unfolded v) v

@@ -28,7 +28,8 @@ pub later : {A : Type 0} {s : List ℕ} {r : Read A} {low : ℕ} (lower : ℕ) �
 later lower l (moved e h) = moved e (le-trans l h)
 later lower l stopped = stopped
 
-pub next-after : {A B : Type 0} {s : List ℕ} {low : ℕ} (r : Read A) (f : A → ℕ → List ℕ → Read B) → After s low r → ((x : A) (to : ℕ) → After s to (f x to (drop to s))) → After s low (next r f)
+pub next-after : {A B : Type 0} {s : List ℕ} {low : ℕ} (r : Read A) (f : A → ℕ → List ℕ → Read B) → After s low r
+    → ((x : A) (to : ℕ) → After s to (f x to (drop to s))) → After s low (next r f)
 unfolding next
 next-after {low = low} (got x to rest) f (moved e h) k = rw e (later low h (k x to))
 next-after (bad r) f stopped k = stopped
@@ -61,7 +62,8 @@ pub record Got {A : Type 0} (s : List ℕ) (low : ℕ) (r : Read A) (x : A) (to 
   pub is : r ≡ got x to (drop to s)
   pub forward : low ≤ to
 
-got-of : {A : Type 0} {s : List ℕ} {low : ℕ} {x y : A} {to end : ℕ} {rest : List ℕ} → After s low (got x end rest) → x ≡ y → end ≡ to → Got s low (got x end rest) y to
+got-of : {A : Type 0} {s : List ℕ} {low : ℕ} {x y : A} {to end : ℕ} {rest : List ℕ} → After s low (got x end rest) → x ≡ y → end ≡ to
+    → Got s low (got x end rest) y to
 got-of (moved e h) p q = record { is = rw (e, p, q); forward = rw q at h }
 
 pub got-plain : {s : List ℕ} {low : ℕ} {r : Read ℕ} (v to : ℕ) → After s low r → shown plain r ≡ Value v to → Got s low r v to

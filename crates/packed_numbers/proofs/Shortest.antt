@@ -6,12 +6,12 @@ use native.Mathlib.Nat.{pow-succ', mul-assoc, add-mul}
 use native.Mathlib.Decide.{decLe, ℕ-discrete}
 use native.Mathlib.Omega.{arith}
 use borrow.Author.Tests.{lt-ltb, le-ltb, lt-leb, le-leb, eq-eqb, ne-eqb}
-use lib.ListN.{length, getD}
+use lib.ListN.{length}
 use Rattle.units.specs.declared.Refusal.the-variants.{OverLimit, NotShortest}
 use Rattle.packed_numbers.specs.Numbers.{got, bad, closed, groups-from, number, groups, encode}
 use Rattle.packed_numbers.proofs.Decode.{power-next}
 
--- the lowest group and the rest, at the weight p
+-- The lowest group and the rest, at the weight p.
 weights : (x p : ℕ) → x % 128 * p + x / 128 * (128 * p) ≡ x * p
 weights x p =
     let e : x / 128 * 128 + x % 128 ≡ x = omega arith in
@@ -20,6 +20,7 @@ weights x p =
     let h : (x / 128 * 128 + x % 128) * p ≡ x * p = ap (λ (n : ℕ). n * p) e in
     omega (arith, f, g, h)
 
+-- A last group that may end a number.
 closed-value : (k acc at x : ℕ) (s : List ℕ) → (k ≡ 0 → acc ≡ 0) → (x ≡ 0 → k ≡ 0) → closed k acc at x s ≡ got (acc + x * 128 ^ k) (at + 1) s
 unfolding closed
 closed-value k acc at x s p q = go (ℕ-discrete x 0)
@@ -31,25 +32,38 @@ closed-value k acc at x s p q = go (ℕ-discrete x 0)
         rw (eq-eqb x 0 e, eq-eqb k 0 f, ← z)
     go (no e) = rw (ne-eqb x 0 e)
 
-read-groups : (f g k acc at x : ℕ) (rest : List ℕ) → x < 128 ^ g → g ≤ f → k + g ≤ 9 → 0 < f → (k ≡ 0 → acc ≡ 0) → (x ≡ 0 → k ≡ 0)
+-- The value of k groups, acc, with one more, the byte b, that is not the last.
+abbrev with-group : ℕ → ℕ → ℕ → ℕ
+with-group k acc b = acc + (b - 128) * 128 ^ k
+
+-- The groups of x after k groups of value acc are read as what they come to, where g of them are enough for x.
+abbrev ReadBack : (f k acc at x : ℕ) → List ℕ → Type 0
+ReadBack f k acc at x rest =
+    (g : ℕ) → x < 128 ^ g → g ≤ f → k + g ≤ 9 → 0 < f → (k ≡ 0 → acc ≡ 0) → (x ≡ 0 → k ≡ 0)
     → groups-from k acc at (groups f x ++ rest) ≡ got (acc + x * 128 ^ k) (at + length (groups f x)) rest
+
+read-groups : (f k acc at x : ℕ) (rest : List ℕ) → ReadBack f k acc at x rest
 unfolding groups-from groups
-read-groups zero g k acc at x rest h l m z p q = absurd (omega arith)
-read-groups (suc f) g k acc at x rest h l m z p q = go (λ g. read-groups f g (k + 1) (acc + (x % 128 + 128 - 128) * 128 ^ k) (at + 1) (x / 128) rest) (decLe 128 x) g h l m
+read-groups zero k acc at x rest g h l m z p q = absurd (omega arith)
+read-groups (suc f) k acc at x rest g h l m z p q =
+    go (read-groups f (k + 1) (with-group k acc (x % 128 + 128)) (at + 1) (x / 128) rest) (decLe 128 x) g h l m
   where
-    go : ((g : ℕ) → x / 128 < 128 ^ g → g ≤ f → k + 1 + g ≤ 9 → 0 < f → (k + 1 ≡ 0 → acc + (x % 128 + 128 - 128) * 128 ^ k ≡ 0) → (x / 128 ≡ 0 → k + 1 ≡ 0) → groups-from (k + 1) (acc + (x % 128 + 128 - 128) * 128 ^ k) (at + 1) (groups f (x / 128) ++ rest) ≡ got (acc + (x % 128 + 128 - 128) * 128 ^ k + x / 128 * 128 ^ (k + 1)) (at + 1 + length (groups f (x / 128))) rest)
-        → Dec (128 ≤ x) → (g : ℕ) → x < 128 ^ g → g ≤ suc f → k + g ≤ 9 → groups-from k acc at (groups (suc f) x ++ rest) ≡ got (acc + x * 128 ^ k) (at + length (groups (suc f) x)) rest
+    go : ReadBack f (k + 1) (with-group k acc (x % 128 + 128)) (at + 1) (x / 128) rest
+        → Dec (128 ≤ x) → (g : ℕ) → x < 128 ^ g → g ≤ suc f → k + g ≤ 9
+        → groups-from k acc at (groups (suc f) x ++ rest) ≡ got (acc + x * 128 ^ k) (at + length (groups (suc f) x)) rest
     go r (no n) g h l m = let u : x < 128 = omega arith in rw (lt-ltb x 128 u, lt-ltb x 128 u) (closed-value k acc at x rest p q)
     go r (yes n) zero h l m = absurd (omega arith)
     go r (yes n) (suc zero) h l m = absurd (omega arith)
     go r (yes n) (suc (suc g)) h l m =
         let b : 128 ≤ x % 128 + 128 = omega arith in
-        let e : acc + (x % 128 + 128 - 128) * 128 ^ k + x / 128 * 128 ^ (k + 1) ≡ acc + x * 128 ^ k = sum in
-        let v = r (suc g) (omega (arith, pow-succ' 128 (suc g))) (omega arith) (omega arith) (omega arith) (λ t. absurd (omega (arith, t))) (λ t. absurd (omega (arith, t, n))) in
+        let v =
+        r (suc g) (omega (arith, pow-succ' 128 (suc g))) (omega arith) (omega arith) (omega arith)
+        (λ t. absurd (omega (arith, t))) (λ t. absurd (omega (arith, t, n)))
+        in
         let a : at + 1 + length (groups f (x / 128)) ≡ at + suc (length (groups f (x / 128))) = omega arith in
-        rw (le-ltb x 128 n, le-ltb (x % 128 + 128) 128 b, lt-leb 8 k (omega arith)) (v ∙ ap₂ (λ (n to : ℕ). got n to rest) e a)
+        rw (le-ltb x 128 n, le-ltb (x % 128 + 128) 128 b, lt-leb 8 k (omega arith)) (v ∙ ap₂ (λ (n to : ℕ). got n to rest) sum a)
       where
-        sum : acc + (x % 128 + 128 - 128) * 128 ^ k + x / 128 * 128 ^ (k + 1) ≡ acc + x * 128 ^ k
+        sum : with-group k acc (x % 128 + 128) + x / 128 * 128 ^ (k + 1) ≡ acc + x * 128 ^ k
         sum =
             let d : x % 128 + 128 - 128 ≡ x % 128 = omega arith in
             rw (power-next k, d) (omega (arith, weights x (128 ^ k)))
@@ -58,17 +72,13 @@ read-groups (suc f) g k acc at x rest h l m z p q = go (λ g. read-groups f g (k
 pub number-encoded : (v at : ℕ) (rest : List ℕ) → v < 2 ^ 63 → number at (encode v ++ rest) ≡ got v (at + length (encode v)) rest
 unfolding number encode
 number-encoded v at rest h =
-    read-groups 10 9 0 0 at v rest h (omega arith) (omega arith) (omega arith) (λ e. refl) (λ e. refl) ∙ ap (λ (n : ℕ). got n (at + length (groups 10 v)) rest) (omega arith)
+    read-groups 10 0 0 at v rest 9 h (omega arith) (omega arith) (omega arith) (λ e. refl) (λ e. refl)
+    ∙ ap (λ (n : ℕ). got n (at + length (groups 10 v)) rest) (omega arith)
 
--- Bytes.
+-- Each is a byte.
 abbrev pub AllBytes : List ℕ → Type 0
 AllBytes [] = Unit {0}
 AllBytes (b ∷ s) = (b < 256) × AllBytes s
-
--- A list of which each element is a byte; and two lists of bytes.
-pub all-bytes : (s : List ℕ) → ((i : ℕ) → i < length s → getD s i 0 < 256) → AllBytes s
-all-bytes [] h = tt
-all-bytes (b ∷ s) h = (h 0 (omega arith), all-bytes s (λ (i : ℕ) (l : i < length s). h (suc i) (omega arith)))
 
 pub bytes-append : (s t : List ℕ) → AllBytes s → AllBytes t → AllBytes (s ++ t)
 bytes-append [] t a b = b
@@ -97,7 +107,8 @@ record Form (f k acc at v to : ℕ) (rest s : List ℕ) : Type 0 where
   short : x ≡ 0 → k ≡ 0
   left : AllBytes rest
 
-last-form : (f k acc at v to b : ℕ) (rest s : List ℕ) → AllBytes s → (k ≡ 0 → acc ≡ 0) → b < 128 → closed k acc at b s ≡ got v to rest → Form (suc f) k acc at v to rest (b ∷ s)
+last-form : (f k acc at v to b : ℕ) (rest s : List ℕ) → AllBytes s → (k ≡ 0 → acc ≡ 0) → b < 128 → closed k acc at b s ≡ got v to rest
+    → Form (suc f) k acc at v to rest (b ∷ s)
 unfolding closed groups
 last-form f k acc at v to b rest s a z h = go (ℕ-discrete b 0) (ℕ-discrete k 0)
   where
@@ -124,7 +135,8 @@ last-form f k acc at v to b rest s a z h = go (ℕ-discrete b 0) (ℕ-discrete k
 sum-up : (y x p : ℕ) → y * p + x * (128 * p) ≡ (y + x * 128) * p
 sum-up y x p = rw (← mul-assoc x 128 p) (sym (add-mul y (x * 128) p))
 
-more-form : (f k acc at v to b : ℕ) (rest s : List ℕ) → 128 ≤ b → b < 256 → Form f (k + 1) (acc + (b - 128) * 128 ^ k) (at + 1) v to rest s → Form (suc f) k acc at v to rest (b ∷ s)
+more-form : (f k acc at v to b : ℕ) (rest s : List ℕ) → 128 ≤ b → b < 256 → Form f (k + 1) (with-group k acc b) (at + 1) v to rest s
+    → Form (suc f) k acc at v to rest (b ∷ s)
 unfolding groups
 more-form f k acc at v to b rest s h l r =
     let y : ℕ = b - 128 + r .x * 128 in
@@ -134,7 +146,9 @@ more-form f k acc at v to b rest s h l r =
     let high : y / 128 ≡ r .x = omega arith in
     record {
       x = y;
-      value = r .value ∙ rw (power-next k) (assoc acc ((b - 128) * 128 ^ k) (r .x * (128 * 128 ^ k)) ∙ ap (λ (n : ℕ). acc + n) (sum-up (b - 128) (r .x) (128 ^ k)));
+      value =
+          r .value
+          ∙ rw (power-next k) (assoc acc ((b - 128) * 128 ^ k) (r .x * (128 * 128 ^ k)) ∙ ap (λ (n : ℕ). acc + n) (sum-up (b - 128) (r .x) (128 ^ k)));
       form = rw (le-ltb y 128 big, low, high) (ap (λ (t : List ℕ). b ∷ t) (r .form));
       past = rw (le-ltb y 128 big, high) (r .past ∙ one-more at (length (groups f (r .x))));
       short = λ t. absurd (omega (arith, big, t));
@@ -147,13 +161,19 @@ more-form f k acc at v to b rest s h l r =
     one-more : (a n : ℕ) → a + 1 + n ≡ a + suc n
     one-more a n = omega arith
 
-groups-form : (f k acc at v to : ℕ) (rest s : List ℕ) → AllBytes s → (k ≡ 0 → acc ≡ 0) → 9 ≤ k + f → groups-from k acc at s ≡ got v to rest → k ≤ 8 → Form f k acc at v to rest s
+-- What is read from s after k groups of value acc has the form of groups.
+abbrev HasForm : (f k acc at v to : ℕ) → List ℕ → List ℕ → Type 0
+HasForm f k acc at v to rest s =
+    (k ≡ 0 → acc ≡ 0) → 9 ≤ k + f → groups-from k acc at s ≡ got v to rest → k ≤ 8 → Form f k acc at v to rest s
+
+groups-form : (f k acc at v to : ℕ) (rest s : List ℕ) → AllBytes s → HasForm f k acc at v to rest s
 unfolding groups-from
 groups-form f k acc at v to rest [] a z m e l = let n : _≡_ {A = ℕ} 0 1 = cc in absurd (omega arith)
 groups-form zero k acc at v to rest (b ∷ s) a z m e l = absurd (omega arith)
-groups-form (suc f) k acc at v to rest (b ∷ s) a z m e l = go (groups-form f (k + 1) (acc + (b - 128) * 128 ^ k) (at + 1) v to rest s (a .1)) (decLe 128 b) (decLe 8 k) e
+groups-form (suc f) k acc at v to rest (b ∷ s) a z m e l =
+    go (groups-form f (k + 1) (with-group k acc b) (at + 1) v to rest s (a .1)) (decLe 128 b) (decLe 8 k) e
   where
-    go : ((k + 1 ≡ 0 → acc + (b - 128) * 128 ^ k ≡ 0) → 9 ≤ k + 1 + f → groups-from (k + 1) (acc + (b - 128) * 128 ^ k) (at + 1) s ≡ got v to rest → k + 1 ≤ 8 → Form f (k + 1) (acc + (b - 128) * 128 ^ k) (at + 1) v to rest s)
+    go : HasForm f (k + 1) (with-group k acc b) (at + 1) v to rest s
         → Dec (128 ≤ b) → Dec (8 ≤ k) → groups-from k acc at (b ∷ s) ≡ got v to rest → Form (suc f) k acc at v to rest (b ∷ s)
     go r (no h) q e = let t : b < 128 = omega (arith, h) in last-form f k acc at v to b rest s (a .1) z t (rw (lt-ltb b 128 t) at e)
     go r (yes h) (yes q) e =
@@ -162,7 +182,8 @@ groups-form (suc f) k acc at v to rest (b ∷ s) a z m e l = go (groups-form f (
         absurd (omega arith)
     go r (yes h) (no q) e =
         let t : k < 8 = omega (arith, q) in
-        more-form f k acc at v to b rest s h (a .0) (r (λ w. absurd (omega (arith, w))) (omega (arith, m)) (rw (le-ltb b 128 h, lt-leb 8 k t) at e) (omega (arith, t)))
+        more-form f k acc at v to b rest s h (a .0)
+        (r (λ w. absurd (omega (arith, w))) (omega (arith, m)) (rw (le-ltb b 128 h, lt-leb 8 k t) at e) (omega (arith, t)))
 
 -- What is read as a number is its packed form: no other bytes are accepted for it.
 pub record Encoded (at : ℕ) (s : List ℕ) (v to : ℕ) (rest : List ℕ) : Type 0 where
@@ -175,7 +196,11 @@ unfolding number encode
 number-encodes at v to rest s a e =
     let r = groups-form 10 0 0 at v to rest s a (λ _. refl) (omega arith) e (omega arith) in
     let t : v ≡ r .x = r .value ∙ one (r .x) in
-    record { form = r .form ∙ ap (λ (n : ℕ). groups 10 n ++ rest) (sym t); past = r .past ∙ ap (λ (n : ℕ). at + length (groups 10 n)) (sym t); left = r .left }
+    record {
+      form = r .form ∙ ap (λ (n : ℕ). groups 10 n ++ rest) (sym t);
+      past = r .past ∙ ap (λ (n : ℕ). at + length (groups 10 n)) (sym t);
+      left = r .left;
+    }
   where
     one : (x : ℕ) → 0 + x * 1 ≡ x
     one x = omega arith

@@ -107,7 +107,8 @@ module _ {s : List ℕ} {at k sum scale x y : ℕ} (a : Ahead s at k sum scale x
   pub both-begun : 128 ≤ x → 128 ≤ y → Begun s at (k + 2) (sum + x * scale + y * (128 * scale))
   both-begun l m =
       let i : k + 1 + 1 ≡ k + 2 = omega arith in
-      rw (next-scale) (rw i at (one-more s at (k + 1) (sum + x * scale) y y-is (omega (arith, a .room, a .few)) (x-begun l) m (a .byte-y) (omega (arith, a .few))))
+      rw (next-scale) (rw i at (one-more s at (k + 1) (sum + x * scale) y y-is (omega (arith, a .room, a .few)) (x-begun l) m (a .byte-y)
+      (omega (arith, a .few))))
 
   pub x-last : {top : ℕ} → top ≡ tops k → x < 128 → (x ≡ 0 → ⊥) → Usual s at (sum + x * scale - top) (at + k + 1)
   x-last e l z =
@@ -116,7 +117,8 @@ module _ {s : List ℕ} {at k sum scale x y : ℕ} (a : Ahead s at k sum scale x
         read = rw (e, a .scaled) (last-one s at k sum x (a .is-x) (omega (arith, a .room, a .few)) (a .begun) l z);
       }
 
-  pub y-last : {top : ℕ} → top ≡ tops k → 128 ≤ x → y < 128 → (y ≡ 0 → ⊥) → Usual s at (sum + x * scale + y * (128 * scale) - (top + 128 * scale)) (at + k + 2)
+  pub y-last : {top : ℕ} → top ≡ tops k → 128 ≤ x → y < 128 → (y ≡ 0 → ⊥)
+      → Usual s at (sum + x * scale + y * (128 * scale) - (top + 128 * scale)) (at + k + 2)
   y-last {top} e h l z =
       let i : at + (k + 1) + 1 ≡ at + k + 2 = omega arith in
       let t : tops (k + 1) ≡ top + 128 * scale = omega (arith, tops-next k, a .scaled) in

@@ -1,4 +1,3 @@
--- Document 01, "Series, as text and packed": packed numbers, and what "Refusals and what they leave" says of them; and what the
--- quick way has read, no part of document 01.
+-- Packed numbers: what they are (Numbers), and what only the code needs (machine).
 pub mod Numbers
 pub mod machine

@@ -1,4 +1,4 @@
-// Packed numbers, document 01, "Packed": groups of seven bits, lowest first, top bit set on all but the last. For the crates above.
+// Packed numbers (RULES, "Series, as text and packed"): read, written, folded and unfolded. For the crates above.
 pub mod quick;
 
 use units::Refusal;
@@ -7,8 +7,16 @@ ghost use lib.IntN.{natAbs};
 ghost use lib.ListN.{length};
 ghost use lib.Seq.{sets};
 ghost use Prim.Native.Nat.{_+_, _<_, _≤_};
-ghost use Rattle.packed_numbers.specs.Numbers.{groups-from, number, encode, unfolded};
+ghost use Rattle.packed_numbers.specs.Numbers.{group, groups-from, number, encode, unfolded};
 ghost use Rattle.packed_numbers.specs.machine.Answers.{at-offset, shown, plain, put-answer, put-out};
+
+// A group of seven bits has so many values, and so much does the top bit of a byte come to. specs/Numbers.antt has these names too.
+const GROUP: u64 = 128;
+
+// A number has at most so many groups, and before its last one at most one less.
+const GROUP_LIMIT: u64 = 9;
+
+const EARLIER_LIMIT: u64 = GROUP_LIMIT - 1;
 
 // What stands at an offset: the value and the offset past its last byte, or a refusal.
 pub enum Number {
@@ -24,33 +32,33 @@ fn wide(x: u8) -> u64
 
 // A number of more than one group, whose first one has the value low; its second is at from.
 fn long_number(s: &[u8], from: usize, low: u64) -> Number
-    requires { ⌜ low < 128 ⌝ }
+    requires { ⌜ low < group ⌝ }
     ensures { λ r. ⌜ r ≡ shown plain (at-offset (groups-from 1 low) from (now (s .entry))) ⌝ }
 {
     let mut i = from;
     let mut k: u64 = 1;
-    let mut scale: u64 = 128;
+    let mut scale: u64 = GROUP;
     let mut acc = low;
     while i < s.len() {
         let b = wide(s[i]);
-        if b < 128 {
+        if b < GROUP {
             if b == 0 {
                 return Number::Bad(Refusal::NotShortest(i));
             }
             return Number::Value(acc + b * scale, i + 1);
         }
-        if 8 <= k {
+        if EARLIER_LIMIT <= k {
             return Number::Bad(Refusal::OverLimit(i));
         }
-        acc = acc + (b - 128) * scale;
-        scale = scale * 128;
+        acc = acc + (b - GROUP) * scale;
+        scale = scale * GROUP;
         k = k + 1;
         i = i + 1;
     }
     Number::Bad(Refusal::EndedEarly(i))
 }
 
-// The packed number at an offset.
+// The packed number at an offset. A byte below GROUP is the last.
 pub fn number_at(s: &[u8], at: usize) -> Number
     ensures { λ r. ⌜ r ≡ shown plain (at-offset number at (now (s .entry))) ⌝ }
 {
@@ -58,10 +66,10 @@ pub fn number_at(s: &[u8], at: usize) -> Number
         return Number::Bad(Refusal::EndedEarly(at));
     }
     let b = wide(s[at]);
-    if b < 128 {
+    if b < GROUP {
         return Number::Value(b, at + 1);
     }
-    long_number(s, at + 1, b - 128)
+    long_number(s, at + 1, b - GROUP)
 }
 
 // The whole number that was folded to v.
@@ -91,8 +99,8 @@ pub fn groups_of(v: u64) -> usize
 {
     let mut x = v;
     let mut n = 1;
-    while 128 <= x {
-        x = x / 128;
+    while GROUP <= x {
+        x = x / GROUP;
         n = n + 1;
     }
     n
@@ -105,9 +113,9 @@ pub fn put_groups(v: u64, out: &mut [u8], at: usize) -> usize
 {
     let mut x = v;
     let mut i = at;
-    while 128 <= x {
-        out[i] = (x % 128 + 128) as u8;
-        x = x / 128;
+    while GROUP <= x {
+        out[i] = (x % GROUP + GROUP) as u8;
+        x = x / GROUP;
         i = i + 1;
     }
     out[i] = x as u8;

@@ -1,10 +1,12 @@
 // The numbers of a term at their usual lengths, read without a loop: a in one to three bytes, b in five or six, c in seven or
 // eight. What has another length, or is to be refused, is left to the reader of any number. For the crates above.
+use crate::GROUP;
 ghost use mathlib.Core.Path.{_≡_};
 ghost use mathlib.Core.Bool.{true};
 ghost use lib.ListN.{length, getD};
 ghost use Prim.Native.Nat.{_+_, _<_, _≤_, _^_};
-ghost use Rattle.packed_numbers.specs.machine.Usual.{tops, Begun, Usual, UsualTerm};
+ghost use Rattle.packed_numbers.specs.Numbers.{group};
+ghost use Rattle.packed_numbers.specs.machine.Usual.{usual-groups, tops, Begun, Usual, UsualTerm};
 
 // What the bytes of the first groups come to, with their top bits; or that a group is the last.
 struct Groups {
@@ -30,7 +32,7 @@ const NO_NUMBER: Quick = Quick {
     usual: false,
 };
 
-// A term as it is packed and the offset past it; or that one of its numbers is not read so, or fewer than 24 bytes are left.
+// A term as it is packed and the offset past it; or that one of its numbers is not read so, or too few bytes are left.
 pub struct QuickTerm {
     pub a: u64,
     pub b: u64,
@@ -47,16 +49,21 @@ const NO_TERM: QuickTerm = QuickTerm {
     usual: false,
 };
 
-// The scale of the next group after two, four or six, and what the top bits of four or six come to.
-const SCALE_2: u64 = 16384;
+// The scale of the next group after two, four or six, and what the top bits of so many groups come to.
+const SCALE_2: u64 = GROUP * GROUP;
 
-const SCALE_4: u64 = 268435456;
+const SCALE_4: u64 = SCALE_2 * SCALE_2;
 
-const SCALE_6: u64 = 4398046511104;
+const SCALE_6: u64 = SCALE_4 * SCALE_2;
 
-const TOPS_4: u64 = 270549120;
+const TOPS_2: u64 = GROUP + GROUP * GROUP;
 
-const TOPS_6: u64 = 4432676798592;
+const TOPS_4: u64 = TOPS_2 + SCALE_2 * TOPS_2;
+
+const TOPS_6: u64 = TOPS_4 + SCALE_4 * TOPS_2;
+
+// The bytes of a term whose three numbers have eight groups each.
+const USUAL_TERM: usize = 3 * 8;
 
 fn byte_at(s: &[u8], i: usize) -> u64
     requires { ⌜ i < length (now s) ⌝ }
@@ -68,16 +75,16 @@ fn byte_at(s: &[u8], i: usize) -> u64
 // Two groups more that are not the last, after k groups. Here and below the sums are worked before the tests, so that they need not
 // wait for them.
 fn two_more(s: &[u8], at: usize, k: usize, scale: u64, sum: u64) -> Groups
-    requires { ⌜ Begun (now s) at k sum × (scale ≡ 128 ^ k) × (k ≤ 6) × (at + 8 ≤ length (now s)) ⌝ }
+    requires { ⌜ Begun (now s) at k sum × (scale ≡ group ^ k) × (k ≤ 6) × (at + usual-groups ≤ length (now s)) ⌝ }
     ensures { λ r. ⌜ (r .usual ≡ true → Begun (now (s .entry)) at (k + 2) (r .sum)) ⌝ }
 {
     let x = byte_at(s, at + k);
     let y = byte_at(s, at + k + 1);
-    let both = sum + x * scale + y * (128 * scale);
-    if x < 128 {
+    let both = sum + x * scale + y * (GROUP * scale);
+    if x < GROUP {
         return NO_GROUPS;
     }
-    if y < 128 {
+    if y < GROUP {
         return NO_GROUPS;
     }
     Groups {
@@ -88,14 +95,14 @@ fn two_more(s: &[u8], at: usize, k: usize, scale: u64, sum: u64) -> Groups
 
 // The number of which k groups are read, where it has one group more or two; top is what their top bits come to.
 fn end_soon(s: &[u8], at: usize, k: usize, scale: u64, top: u64, sum: u64) -> Quick
-    requires { ⌜ Begun (now s) at k sum × (scale ≡ 128 ^ k) × (top ≡ tops k) × (k ≤ 6) × (at + 8 ≤ length (now s)) ⌝ }
+    requires { ⌜ Begun (now s) at k sum × (scale ≡ group ^ k) × (top ≡ tops k) × (k ≤ 6) × (at + usual-groups ≤ length (now s)) ⌝ }
     ensures { λ r. ⌜ (r .usual ≡ true → Usual (now (s .entry)) at (r .v) (r .to)) ⌝ }
 {
     let x = byte_at(s, at + k);
     let y = byte_at(s, at + k + 1);
     let one = sum + x * scale;
-    let two = one + y * (128 * scale);
-    if x < 128 {
+    let two = one + y * (GROUP * scale);
+    if x < GROUP {
         if x == 0 {
             return NO_NUMBER;
         }
@@ -108,11 +115,11 @@ fn end_soon(s: &[u8], at: usize, k: usize, scale: u64, top: u64, sum: u64) -> Qu
     if y == 0 {
         return NO_NUMBER;
     }
-    if 128 <= y {
+    if GROUP <= y {
         return NO_NUMBER;
     }
     Quick {
-        v: two - (top + 128 * scale),
+        v: two - (top + GROUP * scale),
         to: at + k + 2,
         usual: true,
     }
@@ -120,23 +127,23 @@ fn end_soon(s: &[u8], at: usize, k: usize, scale: u64, top: u64, sum: u64) -> Qu
 
 // The number a, in one to three groups.
 fn quick_a(s: &[u8], at: usize) -> Quick
-    requires { ⌜ at + 8 ≤ length (now s) ⌝ }
+    requires { ⌜ at + usual-groups ≤ length (now s) ⌝ }
     ensures { λ r. ⌜ (r .usual ≡ true → Usual (now (s .entry)) at (r .v) (r .to)) ⌝ }
 {
     let x = byte_at(s, at);
-    if x < 128 {
+    if x < GROUP {
         return Quick {
             v: x,
             to: at + 1,
             usual: true,
         };
     }
-    end_soon(s, at, 1, 128, 128, x)
+    end_soon(s, at, 1, GROUP, GROUP, x)
 }
 
 // The first four groups of a number, none of them the last.
 fn first_four(s: &[u8], at: usize) -> Groups
-    requires { ⌜ at + 8 ≤ length (now s) ⌝ }
+    requires { ⌜ at + usual-groups ≤ length (now s) ⌝ }
     ensures { λ r. ⌜ (r .usual ≡ true → Begun (now (s .entry)) at 4 (r .sum)) ⌝ }
 {
     let two = two_more(s, at, 0, 1, 0);
@@ -148,7 +155,7 @@ fn first_four(s: &[u8], at: usize) -> Groups
 
 // The number b, in five or six groups.
 fn quick_b(s: &[u8], at: usize) -> Quick
-    requires { ⌜ at + 8 ≤ length (now s) ⌝ }
+    requires { ⌜ at + usual-groups ≤ length (now s) ⌝ }
     ensures { λ r. ⌜ (r .usual ≡ true → Usual (now (s .entry)) at (r .v) (r .to)) ⌝ }
 {
     let four = first_four(s, at);
@@ -160,7 +167,7 @@ fn quick_b(s: &[u8], at: usize) -> Quick
 
 // The number c, in seven or eight groups.
 fn quick_c(s: &[u8], at: usize) -> Quick
-    requires { ⌜ at + 8 ≤ length (now s) ⌝ }
+    requires { ⌜ at + usual-groups ≤ length (now s) ⌝ }
     ensures { λ r. ⌜ (r .usual ≡ true → Usual (now (s .entry)) at (r .v) (r .to)) ⌝ }
 {
     let four = first_four(s, at);
@@ -174,14 +181,14 @@ fn quick_c(s: &[u8], at: usize) -> Quick
     end_soon(s, at, 6, SCALE_6, TOPS_6, six.sum)
 }
 
-// The term at an offset, where its numbers have the usual lengths and 24 bytes are left.
+// The term at an offset, where its numbers have the usual lengths and the bytes of a usual term are left.
 pub fn quick_term(s: &[u8], at: usize) -> QuickTerm
     ensures { λ r. ⌜ (r .usual ≡ true → UsualTerm (now (s .entry)) at (r .a) (r .b) (r .c) (r .to)) ⌝ }
 {
-    if s.len() < 24 {
+    if s.len() < USUAL_TERM {
         return NO_TERM;
     }
-    if s.len() - 24 < at {
+    if s.len() - USUAL_TERM < at {
         return NO_TERM;
     }
     let a = quick_a(s, at);

@@ -16,15 +16,31 @@ use Rattle.text.specs.declared.Line.{Line}
 use Rattle.text.specs.declared.Reader.{Reader}
 use Rattle.text.specs.Lexer.{fresh, lexes}
 use Rattle.text.specs.Judge.{count-refusal, term-refusal}
-use Rattle.text.specs.Reader.{stopped, next-spot, uncounted, step, step-out, Run, run}
-use Rattle.text.specs.Grammar.{CountLine, count, count-bytes, GoodCount, TermLine, term-bytes, GoodTerm, term-of-line, Block, lines-bytes, blocks-bytes, terms-of-lines, blocks-of-lines, AllGood, GoodBlocks, TermsInLimits, BlocksInLimits}
+use Rattle.text.specs.Reader.{last-offset, stopped, next-spot, uncounted, step, step-out, Run, run}
+use Rattle.text.specs.Grammar.{CountLine, count, count-bytes, GoodCount, TermLine, term-bytes, GoodTerm, term-of-line}
+use Rattle.text.specs.Grammar.{Block, lines-bytes, blocks-bytes, terms-of-lines, blocks-of-lines, AllGood, GoodBlocks}
+use Rattle.text.specs.Grammar.{TermsInLimits, BlocksInLimits}
 use Rattle.text.proofs.Judging.{by-cases}
 use Rattle.text.proofs.Writing.{sets-append}
 use Rattle.text.proofs.Lexing.{flag}
 use Rattle.text.proofs.Parsing.{term-in}
 use Rattle.text.proofs.Counting.{count-in}
-use Rattle.text.proofs.Lines.{last, moved, Taken, not-stopped, next-line}
+use Rattle.text.proofs.Lines.{moved, Taken, not-stopped, next-line}
 use Rattle.text.proofs.Verdicts.{sp, st, count-verdict, term-verdict, count-limits, term-limits, ends-count, ends-term}
+
+-- The packed form of a count line and of a term line.
+abbrev pub count-packed : CountLine → List ℕ
+count-packed c = encode (count c)
+
+abbrev pub term-packed : TermLine → List ℕ
+term-packed t = pack-term (term-of-line t)
+
+-- The reader after a count line and after a term line that were written, at the offset to, with w bytes written before them.
+abbrev pub after-count : (to w k : ℕ) → Tally → CountLine → Reader
+after-count to w k s c = st to (w + length (count-packed c)) (k + 1) (count c) (opened k (count c) s)
+
+abbrev pub after-term : (to w k n : ℕ) → Tally → TermLine → Reader
+after-term to w k n s t = st to (w + length (term-packed t)) k (n - 1) (added (factor (k - 1)) s (term-of-line t))
 
 -- A count line that is taken, and what is left to read.
 record CountStep (at w k : ℕ) (s : Tally) (out xs : List ℕ) : Type 0 where
@@ -34,8 +50,8 @@ record CountStep (at w k : ℕ) (s : Tally) (out xs : List ℕ) : Type 0 where
   to : ℕ
   is : xs ≡ count-bytes c ++ (10 ∷ rest)
   fits : count-refusal k s (count c) ≡ 0
-  room : w + length (encode (count c)) ≤ length out
-  next : run (sp 20 at w k 0 s) out xs ≡ run (st to (w + length (encode (count c))) (k + 1) (count c) (opened k (count c) s)) (sets out w (encode (count c))) rest
+  room : w + length (count-packed c) ≤ length out
+  next : run (sp 20 at w k 0 s) out xs ≡ run (after-count to w k s c) (sets out w (count-packed c)) rest
 
 count-step : (xs : List ℕ) (at w k : ℕ) (s : Tally) (out : List ℕ) → Taken (run (sp 20 at w k 0 s) out xs) → CountStep at w k s out xs
 count-step xs at w k s out t =
@@ -67,8 +83,8 @@ record TermStep (at w k n : ℕ) (s : Tally) (out xs : List ℕ) : Type 0 where
   to : ℕ
   is : xs ≡ term-bytes t ++ (10 ∷ rest)
   fits : term-refusal (factor (k - 1)) s (flag (t .b .minus)) (term-of-line t) ≡ 0
-  room : w + length (pack-term (term-of-line t)) ≤ length out
-  next : run (sp 0 at w k n s) out xs ≡ run (st to (w + length (pack-term (term-of-line t))) k (n - 1) (added (factor (k - 1)) s (term-of-line t))) (sets out w (pack-term (term-of-line t))) rest
+  room : w + length (term-packed t) ≤ length out
+  next : run (sp 0 at w k n s) out xs ≡ run (after-term to w k n s t) (sets out w (term-packed t)) rest
 
 term-step : (xs : List ℕ) (at w k n : ℕ) (s : Tally) (out : List ℕ) → Taken (run (sp 0 at w k n s) out xs) → TermStep at w k n s out xs
 term-step xs at w k left s out t =
@@ -97,7 +113,7 @@ term-step xs at w k left s out t =
 after-step : (x : ℕ) (xs : List ℕ) (at w k n : ℕ) (s : Tally) (out : List ℕ) {P : Type 0} → Taken (run (sp 30 at w k n s) out (x ∷ xs)) → P
 unfolding run step uncounted
 after-step x xs at w k n s out t =
-    by-cases (eqb at last)
+    by-cases (eqb at last-offset)
     (λ z. not-stopped (stopped (sp 30 at w k n s) 3) (step-out (sp 30 at w k n s) out x) xs (λ e. omega (arith, e)) (rw z at t))
     (λ z. not-stopped (stopped (sp 30 at w k n s) 9) (step-out (sp 30 at w k n s) out x) xs (λ e. omega (arith, e)) (rw z at t))
 
@@ -135,13 +151,13 @@ unfolding terms-of-lines
 length-terms [] = refl
 length-terms (l ∷ ls) = ap suc (length-terms ls)
 
-pub packs-block : (b : Block) (ks : List Block) → packs [] (b ∷ ks) ≡ encode (length (b .lines)) ++ packs (b .lines) ks
+packs-block : (b : Block) (ks : List Block) → packs [] (b ∷ ks) ≡ encode (length (b .lines)) ++ packs (b .lines) ks
 unfolding pack-terms terms-of-lines blocks-of-lines pack pack-block
 packs-block b ks =
     append-assoc (encode (length (terms-of-lines (b .lines)))) (pack-terms (terms-of-lines (b .lines))) (pack (blocks-of-lines ks))
     ∙ (rw (length-terms (b .lines)))
 
-pub packs-term : (t : TermLine) (ls : List TermLine) (ks : List Block) → packs (t ∷ ls) ks ≡ pack-term (term-of-line t) ++ packs ls ks
+packs-term : (t : TermLine) (ls : List TermLine) (ks : List Block) → packs (t ∷ ls) ks ≡ pack-term (term-of-line t) ++ packs ls ks
 unfolding pack-terms terms-of-lines
 packs-term t ls ks = append-assoc (pack-term (term-of-line t)) (pack-terms (terms-of-lines ls)) (pack (blocks-of-lines ks))
 
@@ -149,13 +165,15 @@ pub less : (k : ℕ) → k + 1 - 1 ≡ k
 less k = omega arith
 
 count-rest : (at w k : ℕ) (s : Tally) (out xs : List ℕ) (end : Run) (c : CountStep at w k s out xs)
-    → Rest (w + length (encode (count (c .c)))) (k + 1) (count (c .c)) (opened k (count (c .c)) s) (sets out w (encode (count (c .c)))) (c .rest) end
+    → Rest (w + length (count-packed (c .c))) (k + 1) (count (c .c)) (opened k (count (c .c)) s) (sets out w (count-packed (c .c))) (c .rest) end
     → Rest w k 0 s out xs end
 unfolding lines-bytes blocks-bytes AllGood GoodBlocks TermsInLimits BlocksInLimits summed after-block terms-of-lines
 count-rest at w k s out xs end c r =
     let n = count (c .c) in
     let b : Block = record { head = c .c; lines = r .lines } in
-    let q : packs [] (b ∷ r .ks) ≡ encode n ++ packs (r .lines) (r .ks) = packs-block b (r .ks) ∙ ap (λ (m : ℕ). encode m ++ packs (r .lines) (r .ks)) (r .left) in
+    let q : packs [] (b ∷ r .ks) ≡ encode n ++ packs (r .lines) (r .ks) =
+        packs-block b (r .ks) ∙ ap (λ (m : ℕ). encode m ++ packs (r .lines) (r .ks)) (r .left)
+    in
     let limits = rw (less k) at (r .limits) in
     let all = rw (less k) at (r .all) in
     let e : length (terms-of-lines (r .lines)) ≡ n = length-terms (r .lines) ∙ r .left in
@@ -175,16 +193,19 @@ count-rest at w k s out xs end c r =
     }
 
 term-rest : (at w k n : ℕ) (s : Tally) (out xs : List ℕ) (end : Run) (c : TermStep at w k (suc n) s out xs)
-    → Rest (w + length (pack-term (term-of-line (c .t)))) k n (added (factor (k - 1)) s (term-of-line (c .t))) (sets out w (pack-term (term-of-line (c .t)))) (c .rest) end
+    → Rest (w + length (term-packed (c .t))) k n (added (factor (k - 1)) s (term-of-line (c .t))) (sets out w (term-packed (c .t))) (c .rest) end
     → Rest w k (suc n) s out xs end
 unfolding lines-bytes AllGood TermsInLimits summed terms-of-lines
 term-rest at w k n s out xs end c r =
-    let x = pack-term (term-of-line (c .t)) in
+    let x = term-packed (c .t) in
     let q = packs-term (c .t) (r .lines) (r .ks) in
     record {
       lines = c .t ∷ r .lines;
       ks = r .ks;
-      is = c .is ∙ ap (λ (y : List ℕ). term-bytes (c .t) ++ (10 ∷ y)) (r .is) ∙ sym (append-assoc (term-bytes (c .t)) (10 ∷ lines-bytes (r .lines)) (blocks-bytes (r .ks)));
+      is =
+          c .is
+          ∙ ap (λ (y : List ℕ). term-bytes (c .t) ++ (10 ∷ y)) (r .is)
+          ∙ sym (append-assoc (term-bytes (c .t)) (10 ∷ lines-bytes (r .lines)) (blocks-bytes (r .ks)));
       left = ap suc (r .left);
       good = (c .good, r .good);
       limits = (term-limits (factor (k - 1)) s (c .t) (c .fits), r .limits);
@@ -200,7 +221,20 @@ none-rest : (xs : List ℕ) (at w k n : ℕ) (s : Tally) (out : List ℕ) → w 
     → Rest w 18 0 s out xs (run (sp 30 at w 18 0 s) out xs)
 unfolding lines-bytes blocks-bytes AllGood GoodBlocks TermsInLimits BlocksInLimits pack-terms pack terms-of-lines blocks-of-lines run
 none-rest [] at w k n s out h t =
-    record { lines = []; ks = []; is = refl; left = refl; good = tt; limits = tt; count = refl; goods = tt; all = tt; room = omega arith; wrote = refl; written = sym (add-zero w) }
+    record {
+      lines = [];
+      ks = [];
+      is = refl;
+      left = refl;
+      good = tt;
+      limits = tt;
+      count = refl;
+      goods = tt;
+      all = tt;
+      room = omega arith;
+      wrote = refl;
+      written = sym (add-zero w);
+    }
 none-rest (x ∷ xs) at w k n s out h t = after-step x xs at w 18 0 s out t
 
 pub spot-term : (k n : ℕ) → next-spot k (suc n) ≡ 0
@@ -230,18 +264,19 @@ module _ (xs : List ℕ) (rec : Shorter xs) (at w k : ℕ) (s : Tally) (out : Li
       let n = count (c .c) in
       rw (c .next)
       (count-rest at w k s out xs _ c
-      (rec (c .rest) (c .to) (w + length (encode n)) (k + 1) n (opened k n s) (sets out w (encode n)) (shorter xs (count-bytes (c .c)) (c .rest) (c .is))
-      (omega (arith, c .room, length-sets out w (encode n))) (rw (c .next) at t)))
+      (rec (c .rest) (c .to) (w + length (encode n)) (k + 1) n (opened k n s) (sets out w (encode n))
+      (shorter xs (count-bytes (c .c)) (c .rest) (c .is)) (omega (arith, c .room, length-sets out w (encode n))) (rw (c .next) at t)))
 
-  of-term : (n : ℕ) → TermStep at w k (suc n) s out xs → Taken (run (sp 0 at w k (suc n) s) out xs) → Rest w k (suc n) s out xs (run (sp 0 at w k (suc n) s) out xs)
+  of-term : (n : ℕ) → TermStep at w k (suc n) s out xs → Taken (run (sp 0 at w k (suc n) s) out xs)
+      → Rest w k (suc n) s out xs (run (sp 0 at w k (suc n) s) out xs)
   of-term n c t =
-      let x = pack-term (term-of-line (c .t)) in
+      let x = term-packed (c .t) in
       let e : suc n - 1 ≡ n = omega arith in
       let next = rw e at (c .next) in
       rw next
       (term-rest at w k n s out xs _ c
-      (rec (c .rest) (c .to) (w + length x) k n (added (factor (k - 1)) s (term-of-line (c .t))) (sets out w x) (shorter xs (term-bytes (c .t)) (c .rest) (c .is))
-      (omega (arith, c .room, length-sets out w x)) (rw next at t)))
+      (rec (c .rest) (c .to) (w + length x) k n (added (factor (k - 1)) s (term-of-line (c .t))) (sets out w x)
+      (shorter xs (term-bytes (c .t)) (c .rest) (c .is)) (omega (arith, c .room, length-sets out w x)) (rw next at t)))
 
   rest-step : (n : ℕ) → w ≤ length out → Taken (run (st at w k n s) out xs) → Rest w k n s out xs (run (st at w k n s) out xs)
   rest-step zero h t =

@@ -4,16 +4,16 @@ use mathlib.Core.Bool.{Bool, true, false}
 use Prim.Native.Nat.{ℕ, suc, _<_}
 use native.Mathlib.Omega.{arith, by-contra}
 use borrow.Author.Tests.{le-leb, lt-leb, le-ltb}
-use Rattle.text.specs.Lexer.{takes-digit}
+use Rattle.text.specs.Lexer.{value-limit, takes-digit}
 
 apart : (t : Bool) → t ≡ true → t ≡ false → ⊥
 apart t p q = let z : _≡_ {A = ℕ} 0 1 = cc in omega arith
 
-pub small : (spot minus value d : ℕ) → takes-digit spot minus value d ≡ true → value < 1000000000000000000
+pub small : (spot minus value d : ℕ) → takes-digit spot minus value d ≡ true → value < value-limit
 unfolding takes-digit
 small spot minus value d e =
-    by-contra (suc value) 1000000000000000000 (λ h.
-    apart (takes-digit spot minus value d) e (rw (le-leb 1000000000000000000 value (omega arith))))
+    by-contra (suc value) value-limit (λ h.
+    apart (takes-digit spot minus value d) e (rw (le-leb value-limit value (omega arith))))
 
 pub early : (spot minus value d : ℕ) → takes-digit spot minus value d ≡ true → spot < 24
 unfolding takes-digit
@@ -21,7 +21,7 @@ early spot minus value d e =
     by-contra (suc spot) 24 (λ h.
     apart (takes-digit spot minus value d) e
     (rw (
-      lt-leb 1000000000000000000 value (small spot minus value d e),
+      lt-leb value-limit value (small spot minus value d e),
       le-ltb spot 6 (omega arith),
       le-ltb spot 7 (omega arith),
       le-ltb spot 17 (omega arith),

@@ -28,7 +28,8 @@ verdict-not-one r =
     by-cases (whole-count (r .line))
     (λ p. rw p (count-among Not (λ e. omega (arith, e)) (λ e. omega (arith, e)) (λ e. omega (arith, e)) _ _ _))
     (λ p. by-cases (whole-term (r .line))
-    (λ q. rw (p, q) (term-among Not (λ e. omega (arith, e)) (λ e. omega (arith, e)) (λ e. omega (arith, e)) (λ e. omega (arith, e)) _ _ _ _))
+    (λ q. rw (p, q)
+    (term-among Not (λ e. omega (arith, e)) (λ e. omega (arith, e)) (λ e. omega (arith, e)) (λ e. omega (arith, e)) _ _ _ _))
     (λ q. rw (p, q) (λ e. omega (arith, e))))
   where
     Not : ℕ → Type 0
@@ -44,7 +45,9 @@ step-not-one r out byte h =
     by-cases (eqb (r .status) 0)
     (λ p. by-cases (uncounted r) (λ q. rw (p, q) (λ e. omega (arith, e)))
     (λ q. by-cases (eqb (r .line .spot) 30) (λ u. rw (p, q, u) (λ e. omega (arith, e)))
-    (λ u. by-cases (eqb byte 10) (λ v. rw (p, q, u, v) (wrote-status 1 (λ e. omega (arith, e)) (λ e. omega (arith, e)) r out (verdict r) (verdict-not-one r))) (λ v. rw (p, q, u, v) (other-not-one r byte)))))
+    (λ u. by-cases (eqb byte 10)
+    (λ v. rw (p, q, u, v) (wrote-status 1 (λ e. omega (arith, e)) (λ e. omega (arith, e)) r out (verdict r) (verdict-not-one r)))
+    (λ v. rw (p, q, u, v) (other-not-one r byte)))))
     (λ p. rw p h)
 
 run-not-one : (xs : List ℕ) (r : Reader) (out : List ℕ) → (r .status ≡ 1 → ⊥) → run r out xs .reader .status ≡ 1 → ⊥
@@ -78,7 +81,8 @@ told-accepted r n h =
     unlike : (x : Rattle.units.specs.declared.Refusal.Refusal) → Refused x ≡ Accepted n → ⊥
     unlike x e = let z : _≡_ {A = ℕ} 0 1 = cc in omega arith
 
-pub accepted-by : (text out : List ℕ) (n : ℕ) → told (whole text out .reader) ≡ Accepted n → Taken (run begun out text) × (n ≡ run begun out text .reader .written)
+pub accepted-by : (text out : List ℕ) (n : ℕ) → told (whole text out .reader) ≡ Accepted n
+    → Taken (run begun out text) × (n ≡ run begun out text .reader .written)
 accepted-by text out n e =
     let t = told-accepted (run begun out text .reader) n (run-not-one text begun out (λ q. omega (arith, q))) e in
     (record { status = t .0; spot = t .1 }, t .2)

@@ -19,11 +19,13 @@ use Rattle.text.proofs.Counting.{count-in}
 use Rattle.text.proofs.Lines.{Going, step-feed}
 use Rattle.text.proofs.Verdicts.{not-count, not-term, is-whole, count-among, term-among, wrote-status}
 
+-- Bytes that are a whole term line.
 pub record IsTerm (xs : List ℕ) : Type 0 where
   pub t : TermLine
   pub good : GoodTerm t
   pub is : xs ≡ term-bytes t
 
+-- Bytes that are a whole count line.
 pub record IsCount (xs : List ℕ) : Type 0 where
   pub c : CountLine
   pub good : GoodCount c
@@ -50,9 +52,12 @@ module _ (r : Reader) (out : List ℕ) (g : Going r) where
   early-feed p q = step-feed r out g .0 ∙ three r out (verdict r) (verdict-early r p q)
 
   whole-feed : (verdict r .refusal ≡ 3 → ⊥) → step r out 10 ≡ stopped r 3 → ⊥
-  whole-feed h e = wrote-status 3 (λ q. omega (arith, q)) (λ q. omega (arith, q)) r out (verdict r) h (ap (λ (q : Reader). q .status) (sym (step-feed r out g .0) ∙ e))
+  whole-feed h e =
+      wrote-status 3 (λ q. omega (arith, q)) (λ q. omega (arith, q)) r out (verdict r) h
+      (ap (λ (q : Reader). q .status) (sym (step-feed r out g .0) ∙ e))
 
-  pub feed-term : (xs : List ℕ) → r .line ≡ lexes (fresh 0) xs → (step r out 10 ≡ stopped r 3 → IsTerm xs → ⊥) × ((IsTerm xs → ⊥) → step r out 10 ≡ stopped r 3)
+  pub feed-term : (xs : List ℕ) → r .line ≡ lexes (fresh 0) xs
+      → (step r out 10 ≡ stopped r 3 → IsTerm xs → ⊥) × ((IsTerm xs → ⊥) → step r out 10 ≡ stopped r 3)
   unfolding whole-term
   feed-term xs e =
       let n : whole-count (r .line) ≡ false = ap (λ (l : Line). whole-count l) e ∙ not-count xs in (
@@ -64,7 +69,8 @@ module _ (r : Reader) (out : List ℕ) (g : Going r) where
             (λ p. early-feed n (ap (λ (l : Line). whole-term l) e ∙ p))),
       )
 
-  pub feed-count : (xs : List ℕ) → r .line ≡ lexes (fresh 20) xs → (step r out 10 ≡ stopped r 3 → IsCount xs → ⊥) × ((IsCount xs → ⊥) → step r out 10 ≡ stopped r 3)
+  pub feed-count : (xs : List ℕ) → r .line ≡ lexes (fresh 20) xs
+      → (step r out 10 ≡ stopped r 3 → IsCount xs → ⊥) × ((IsCount xs → ⊥) → step r out 10 ≡ stopped r 3)
   feed-count xs e = (
     (λ s t. let l = e ∙ ap (λ (ys : List ℕ). lexes (fresh 20) ys) (t .is) ∙ count-run (t .c) (t .good) in
         let v = verdict-count r (ap (λ (x : Line). whole-count x) l ∙ is-whole (t .c) (t .good)) in

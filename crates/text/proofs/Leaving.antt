@@ -16,7 +16,8 @@ use Rattle.text.specs.declared.Line.{Line}
 use Rattle.text.specs.declared.Reader.{Reader}
 use Rattle.text.specs.Lexer.{fresh, lex, lexes, whole-count, whole-term}
 use Rattle.text.specs.Judge.{Verdict, term-on-line, verdict}
-use Rattle.text.specs.Reader.{begun, stopped, further-in-line, next-spot, after-line, fits, put-bytes, wrote, wrote-out, uncounted, step, step-out, Run, run}
+use Rattle.text.specs.Reader.{last-offset, begun, stopped, further-in-line, next-spot, after-line, fits, put-bytes, wrote, wrote-out}
+use Rattle.text.specs.Reader.{uncounted, step, step-out, Run, run}
 use Rattle.text.specs.Grammar.{AnyLine, a-count, a-term, line-bytes, line-packed, GoodLine, any-bytes, any-packed, GoodLines, NoFeed}
 use Rattle.text.proofs.Judging.{by-cases}
 use Rattle.text.proofs.Writing.{sets-append}
@@ -24,7 +25,7 @@ use Rattle.text.proofs.Stepping.{verdict-count, verdict-term}
 use Rattle.text.proofs.Lexing.{line-of-term}
 use Rattle.text.proofs.Parsing.{term-in}
 use Rattle.text.proofs.Counting.{count-in}
-use Rattle.text.proofs.Lines.{last, Going, step-in, step-bad, step-feed, stays, NextLine, feed-run, moved-none, byte-line, step-last}
+use Rattle.text.proofs.Lines.{Going, step-in, step-bad, step-feed, stays, NextLine, feed-run, moved-none, byte-line, step-last}
 use Rattle.text.proofs.Digits.{early}
 use Rattle.text.proofs.Unlexing.{Lexed, none, digit, pointed, spaced, kept, negated, view, term-of, count-of}
 use Rattle.text.proofs.Verdicts.{term-is, ends-count, ends-term, early-never}
@@ -53,7 +54,14 @@ halt-now r out x xs n h e f =
     record {
       same = ap (λ (y : Run). y .out) q;
       written = ap (λ (y : Run). y .reader .written) q;
-      place = λ g. record { before = []; byte = x; after = xs; is = refl; in-line = tt; offset = ap (λ (y : Run). y .reader .place) q ∙ sym (add-zero (r .at)) };
+      place = λ g. record {
+        before = [];
+        byte = x;
+        after = xs;
+        is = refl;
+        in-line = tt;
+        offset = ap (λ (y : Run). y .reader .place) q ∙ sym (add-zero (r .at));
+      };
       reading = λ z. absurd (h (sym (ap (λ (y : Run). y .reader .status) q) ∙ z));
     }
 
@@ -103,8 +111,17 @@ feed-event r out xs p g =
     inr (halt-now r out 10 xs (verdict r .refusal) (eqb-false (verdict r .refusal) 0 z) (f .0 ∙ q) (f .1 ∙ o)))
 
 -- The next event: a whole line that is written, or none.
-event : (xs : List ℕ) (r : Reader) (out : List ℕ) → r .status ≡ 0 → r .place ≡ 0 → NextLine r out xs ⊎ Halts r out xs
-event [] r out s p = inr (record { same = nil-out r out; written = nil-written r out; place = λ h. absurd (h (nil-status r out ∙ s)); reading = λ h. unfold NoFeed in tt })
+abbrev Event : Reader → List ℕ → List ℕ → Type 0
+Event r out xs = NextLine r out xs ⊎ Halts r out xs
+
+event : (xs : List ℕ) (r : Reader) (out : List ℕ) → r .status ≡ 0 → r .place ≡ 0 → Event r out xs
+event [] r out s p =
+    inr (record {
+      same = nil-out r out;
+      written = nil-written r out;
+      place = λ h. absurd (h (nil-status r out ∙ s));
+      reading = λ h. unfold NoFeed in tt;
+    })
   where
     nil-out : (r : Reader) (out : List ℕ) → run r out [] .out ≡ out
     nil-out r out = unfold run in refl
@@ -115,28 +132,37 @@ event [] r out s p = inr (record { same = nil-out r out; written = nil-written r
     nil-status : (r : Reader) (out : List ℕ) → run r out [] .reader .status ≡ r .status
     nil-status r out = unfold run in refl
 event (x ∷ xs) r out s p =
-    by-cases (eqb (r .at) last)
-    (λ z. inr (halt-now r out x xs 3 (λ e. omega (arith, e)) (step-last r out x s (eqb-true (r .at) last z)) (last-out r out x s (eqb-true (r .at) last z))))
+    by-cases (eqb (r .at) last-offset)
+    (λ z. inr (halt-now r out x xs 3 (λ e. omega (arith, e)) (step-last r out x s (eqb-true (r .at) last-offset z)) (last-out r out x s (eqb-true (r .at) last-offset z))))
     (λ z. by-cases (eqb (r .line .spot) 30)
-    (λ y. let t = after-all r out x s (eqb-false (r .at) last z) (eqb-true (r .line .spot) 30 y) in inr (halt-now r out x xs 9 (λ e. omega (arith, e)) (t .0) (t .1)))
-    (λ y. inside x xs r out p (record { status = s; counts = eqb-false (r .at) last z; inside = eqb-false (r .line .spot) 30 y })
+    (λ y. let t = after-all r out x s (eqb-false (r .at) last-offset z) (eqb-true (r .line .spot) 30 y) in
+    inr (halt-now r out x xs 9 (λ e. omega (arith, e)) (t .0) (t .1)))
+    (λ y. inside x xs r out p (record { status = s; counts = eqb-false (r .at) last-offset z; inside = eqb-false (r .line .spot) 30 y })
     (event xs (further-in-line r (lex (r .line) x)) out refl refl)))
   where
-    last-out : (r : Reader) (out : List ℕ) (x : ℕ) → r .status ≡ 0 → r .at ≡ last → step-out r out x ≡ out
-    last-out r out x s e = unfold step-out uncounted in rw (eq-eqb (r .status) 0 s, eq-eqb (r .at) last e)
+    last-out : (r : Reader) (out : List ℕ) (x : ℕ) → r .status ≡ 0 → r .at ≡ last-offset → step-out r out x ≡ out
+    last-out r out x s e = unfold step-out uncounted in rw (eq-eqb (r .status) 0 s, eq-eqb (r .at) last-offset e)
 
-    after-all : (r : Reader) (out : List ℕ) (x : ℕ) → r .status ≡ 0 → (r .at ≡ last → ⊥) → r .line .spot ≡ 30
+    after-all : (r : Reader) (out : List ℕ) (x : ℕ) → r .status ≡ 0 → (r .at ≡ last-offset → ⊥) → r .line .spot ≡ 30
         → (step r out x ≡ stopped r 9) × (step-out r out x ≡ out)
     after-all r out x s n e =
-        unfold step step-out uncounted in
-        (rw (eq-eqb (r .status) 0 s, ne-eqb (r .at) last n, eq-eqb (r .line .spot) 30 e), rw (eq-eqb (r .status) 0 s, ne-eqb (r .at) last n, eq-eqb (r .line .spot) 30 e))
+        let t = eq-eqb (r .status) 0 s in
+        let u = ne-eqb (r .at) last-offset n in
+        let v = eq-eqb (r .line .spot) 30 e in
+        unfold step step-out uncounted in (rw (t, u, v), rw (t, u, v))
 
     other-out : (r : Reader) (out : List ℕ) (x : ℕ) → Going r → (x ≡ 10 → ⊥) → step-out r out x ≡ out
     other-out r out x g h =
-        unfold step-out uncounted in rw (eq-eqb (r .status) 0 (g .status), ne-eqb (r .at) last (g .counts), ne-eqb (r .line .spot) 30 (g .inside), ne-eqb x 10 h)
+        unfold step-out uncounted in
+        rw (
+          eq-eqb (r .status) 0 (g .status),
+          ne-eqb (r .at) last-offset (g .counts),
+          ne-eqb (r .line .spot) 30 (g .inside),
+          ne-eqb x 10 h,
+        )
 
     inside : (x : ℕ) (xs : List ℕ) (r : Reader) (out : List ℕ) → r .place ≡ 0 → Going r
-        → NextLine (further-in-line r (lex (r .line) x)) out xs ⊎ Halts (further-in-line r (lex (r .line) x)) out xs → NextLine r out (x ∷ xs) ⊎ Halts r out (x ∷ xs)
+        → Event (further-in-line r (lex (r .line) x)) out xs → Event r out (x ∷ xs)
     inside x xs r out p g e =
         by-cases (eqb x 10)
         (λ z. rw (eqb-true x 10 z) (feed-event r out xs p g))
@@ -145,8 +171,7 @@ event (x ∷ xs) r out s p =
         (other-out r out x g (eqb-false x 10 z))))
         (λ y. on e (eqb-false x 10 z) (eqb-false (lex (r .line) x .spot) 31 y)))
       where
-        on : NextLine (further-in-line r (lex (r .line) x)) out xs ⊎ Halts (further-in-line r (lex (r .line) x)) out xs → (x ≡ 10 → ⊥) → (lex (r .line) x .spot ≡ 31 → ⊥)
-            → NextLine r out (x ∷ xs) ⊎ Halts r out (x ∷ xs)
+        on : Event (further-in-line r (lex (r .line) x)) out xs → (x ≡ 10 → ⊥) → (lex (r .line) x .spot ≡ 31 → ⊥) → Event r out (x ∷ xs)
         on (inl n) h k = inl (byte-line r out x xs g h k n)
         on (inr n) h k = inr (halt-later r out x xs g h k n)
 
@@ -223,7 +248,12 @@ module _ (r : Reader) (out xs : List ℕ) (n : NextLine r out xs) where
       let h = ends-count (n .before) (n .body) q (n .good) in
       let t = count-in (n .body) (lexes (fresh 20) (n .body)) h refl in
       let v = verdict-count (n .before) (ap (λ (x : Line). whole-count x) q ∙ h) in
-      record { l = a-count (t .k); good = t .good; bytes = t .is; packed = ap (λ (x : Verdict). x .bytes) v ∙ ap (λ (x : Line). encode (x .value)) (q ∙ sym (t .line)) }
+      record {
+        l = a-count (t .k);
+        good = t .good;
+        bytes = t .is;
+        packed = ap (λ (x : Verdict). x .bytes) v ∙ ap (λ (x : Line). encode (x .value)) (q ∙ sym (t .line));
+      }
 
   line-none : r .line ≡ fresh 30 → LineOf r out xs n
   line-none e =
@@ -300,7 +330,7 @@ shorter xs body rest e = omega (arith, ap length e, length-append body (10 ∷ r
 
 leaves-step : (xs : List ℕ) (r : Reader) (out : List ℕ)
     → ((ys : List ℕ) (q : Reader) (o : List ℕ) → length ys < length xs → Begins q → q .written ≤ length o → Leaves (q .at) (q .written) o ys (run q o ys))
-    → Begins r → r .written ≤ length out → NextLine r out xs ⊎ Halts r out xs → Leaves (r .at) (r .written) out xs (run r out xs)
+    → Begins r → r .written ≤ length out → Event r out xs → Leaves (r .at) (r .written) out xs (run r out xs)
 leaves-step xs r out rec b m (inl n) =
     let v = verdict (n .before) in
     lined r out xs n (line-of r out xs n b)
@@ -308,9 +338,12 @@ leaves-step xs r out rec b m (inl n) =
     (next-begins (after-line (n .before) v) (v .blocks) (v .left) refl refl refl) (omega (arith, n .room, length-sets out (n .before .written) (v .bytes))))
 leaves-step xs r out rec b m (inr h) = halted r out xs m h
 
-leaves-by : (N : ℕ) (xs : List ℕ) (r : Reader) (out : List ℕ) → length xs ≤ N → Begins r → r .written ≤ length out → Leaves (r .at) (r .written) out xs (run r out xs)
+leaves-by : (N : ℕ) (xs : List ℕ) (r : Reader) (out : List ℕ) → length xs ≤ N → Begins r → r .written ≤ length out
+    → Leaves (r .at) (r .written) out xs (run r out xs)
 leaves-by zero xs r out h b m = leaves-step xs r out (λ ys q o i c k. absurd (omega (arith, i))) b m (event xs r out (b .status) (b .place))
-leaves-by (suc N) xs r out h b m = leaves-step xs r out (λ ys q o i c k. leaves-by N ys q o (omega (arith, i)) c k) b m (event xs r out (b .status) (b .place))
+leaves-by (suc N) xs r out h b m =
+    leaves-step xs r out (λ ys q o i c k. leaves-by N ys q o (omega (arith, i)) c k) b m (event xs r out (b .status) (b .place))
 
 pub leaves : (text out : List ℕ) → Leaves 0 0 out text (run begun out text)
-leaves text out = leaves-by (length text) text begun out (omega arith) (record { status = refl; place = refl; line = inr (inl refl) }) (omega arith)
+leaves text out =
+    leaves-by (length text) text begun out (omega arith) (record { status = refl; place = refl; line = inr (inl refl) }) (omega arith)

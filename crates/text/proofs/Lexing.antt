@@ -10,8 +10,9 @@ use borrow.Author.Tests.{eq-eqb, ne-eqb, lt-ltb, le-ltb, le-leb, lt-leb}
 use lib.Dec.{lit<}
 use lib.ListN.{length}
 use Rattle.text.specs.declared.Line.{Line}
-use Rattle.text.specs.Lexer.{fresh, whole-digit, takes-digit, with-digit, with-point, with-space, with-minus, lex, lexes}
-use Rattle.text.specs.Grammar.{spaces, sign, digits, AllDigits, numeral, Natural, Decimal, size, decimal, GoodDecimal, CountLine, count, count-bytes, GoodCount, TermLine, term-bytes, GoodTerm}
+use Rattle.text.specs.Lexer.{value-limit, fresh, whole-digit, takes-digit, with-digit, with-point, with-space, with-minus, lex, lexes}
+use Rattle.text.specs.Grammar.{spaces, sign, digits, AllDigits, numeral, Natural, Decimal, size, decimal, GoodDecimal}
+use Rattle.text.specs.Grammar.{CountLine, count, count-bytes, GoodCount, TermLine, term-bytes, GoodTerm}
 
 -- The line l with another spot and decimal.
 abbrev pub put : Line → ℕ → ℕ → ℕ → Line
@@ -51,48 +52,45 @@ lexes-append l [] ys = refl
 lexes-append l (x ∷ xs) ys = lexes-append (lex l x) xs ys
 
 -- One digit.
-abbrev pub big : ℕ
-big = 1000000000000000000
-
-pub lex-digit : (l : Line) (s m v d : ℕ) → d < 10 → takes-digit s m v d ≡ true → lex (put l s m v) (48 + d) ≡ put l (s + 1) m (10 * v + d)
+lex-digit : (l : Line) (s m v d : ℕ) → d < 10 → takes-digit s m v d ≡ true → lex (put l s m v) (48 + d) ≡ put l (s + 1) m (10 * v + d)
 unfolding lex with-digit
 lex-digit l s m v d h t =
     let e : 48 + d - 48 ≡ d = omega arith in
     rw (le-ltb (48 + d) 48 (omega arith), lt-ltb (48 + d) 58 (omega arith), e, t)
 
-pub takes-part : (s m v d : ℕ) → 7 ≤ s → s < 17 → v < big → takes-digit s m v d ≡ true
+takes-part : (s m v d : ℕ) → 7 ≤ s → s < 17 → v < value-limit → takes-digit s m v d ≡ true
 unfolding takes-digit
 takes-part s m v d h k b =
-    rw (lt-leb big v b, le-ltb s 6 (omega arith), le-ltb s 7 (omega arith), lt-ltb s 17 (omega arith))
+    rw (lt-leb value-limit v b, le-ltb s 6 (omega arith), le-ltb s 7 (omega arith), lt-ltb s 17 (omega arith))
 
-takes-last : (m v d : ℕ) → v < big → (m ≡ 0) ⊎ (0 < v + d) → takes-digit 17 m v d ≡ true
+takes-last : (m v d : ℕ) → v < value-limit → (m ≡ 0) ⊎ (0 < v + d) → takes-digit 17 m v d ≡ true
 unfolding takes-digit whole-digit
-takes-last m v d b (inl e) = rw (lt-leb big v b, eq-eqb m 0 e)
-takes-last zero v d b (inr h) = rw (lt-leb big v b)
-takes-last (suc m) v d b (inr h) = rw (lt-leb big v b, ne-eqb (suc m) 0 (λ e. omega (arith, e)), lt-ltb 0 (v + d) h)
+takes-last m v d b (inl e) = rw (lt-leb value-limit v b, eq-eqb m 0 e)
+takes-last zero v d b (inr h) = rw (lt-leb value-limit v b)
+takes-last (suc m) v d b (inr h) = rw (lt-leb value-limit v b, ne-eqb (suc m) 0 (λ e. omega (arith, e)), lt-ltb 0 (v + d) h)
 
 -- The digits of a count (20 to 24) and the whole digits of a decimal (0 to 6).
 pub record Spots (base top : ℕ) : Type 0 where
-  pub first : (m v d : ℕ) → v < big → takes-digit base m v d ≡ true
-  pub more : (s m v d : ℕ) → base < s → s < top → v < big → 0 < v → takes-digit s m v d ≡ true
+  pub first : (m v d : ℕ) → v < value-limit → takes-digit base m v d ≡ true
+  pub more : (s m v d : ℕ) → base < s → s < top → v < value-limit → 0 < v → takes-digit s m v d ≡ true
 
 pub whole-spots : Spots 0 6
 unfolding takes-digit whole-digit
 whole-spots =
     record {
-      first = λ m v d b. rw (lt-leb big v b);
-      more = λ s m v d h k b p. rw (lt-leb big v b, lt-ltb s 6 k, ne-eqb s 0 (λ e. omega (arith, e)), lt-ltb 0 v p);
+      first = λ m v d b. rw (lt-leb value-limit v b);
+      more = λ s m v d h k b p. rw (lt-leb value-limit v b, lt-ltb s 6 k, ne-eqb s 0 (λ e. omega (arith, e)), lt-ltb 0 v p);
     }
 
-pub count-spots : Spots 20 24
+count-spots : Spots 20 24
 unfolding takes-digit whole-digit
 count-spots =
     record {
-      first = λ m v d b. rw (lt-leb big v b);
+      first = λ m v d b. rw (lt-leb value-limit v b);
       more =
           λ s m v d h k b p.
           rw (
-            lt-leb big v b,
+            lt-leb value-limit v b,
             le-ltb s 6 (omega arith),
             le-ltb s 7 (omega arith),
             le-ltb s 17 (omega arith),
@@ -107,14 +105,14 @@ count-spots =
 ten : (n : ℕ) → 10 ^ (n + 1) ≡ 10 * 10 ^ n
 ten n = let e : n + 1 ≡ suc n = omega arith in ap (λ (k : ℕ). 10 ^ k) e ∙ pow-succ' 10 n
 
-under : (n v : ℕ) → n ≤ 17 → v < 10 ^ n → v < big
+under : (n v : ℕ) → n ≤ 17 → v < 10 ^ n → v < value-limit
 under n v h k = let l : 10 ^ n ≤ 10 ^ 17 = pow-le-pow-right (lit< tt) h in omega arith
 
 nonzero : (v d : ℕ) (ds : List ℕ) → (v ≡ 0 → d ∷ ds ≡ []) → 0 < v
 nonzero zero d ds h = let e = h refl in let z : _≡_ {A = ℕ} 0 1 = cc in absurd (omega arith)
 nonzero (suc v) d ds h = omega arith
 
-pub more-run : (base top : ℕ) → Spots base top → (ds : List ℕ) (l : Line) (s m v n : ℕ) → AllDigits ds → base < s → s + length ds ≤ top
+more-run : (base top : ℕ) → Spots base top → (ds : List ℕ) (l : Line) (s m v n : ℕ) → AllDigits ds → base < s → s + length ds ≤ top
     → v < 10 ^ n → n + length ds ≤ 17 → (v ≡ 0 → ds ≡ []) → lexes (put l s m v) (digits ds) ≡ put l (s + length ds) m (numeral v ds)
 unfolding lexes digits numeral AllDigits
 more-run base top S [] l s m v n a h k p q z = rw (add-zero s)
@@ -146,7 +144,7 @@ parts-run (d ∷ c ∷ ds) l s m v n a h k p q z =
     ap (λ (x : Line). lexes x (digits (c ∷ ds))) (lex-digit l s m v d (a .0) (takes-part s m v d h (omega arith) (under n v (omega arith) p)))
     ∙ parts-run (c ∷ ds) l (s + 1) m (10 * v + d) (n + 1) (a .1) (omega arith) (omega arith) (omega (arith, ten n, a .0)) (omega arith) z
 
-pub spaces-run : (n : ℕ) (l : Line) (v : ℕ) → lexes (put l 0 0 v) (spaces n) ≡ put l 0 0 v
+spaces-run : (n : ℕ) (l : Line) (v : ℕ) → lexes (put l 0 0 v) (spaces n) ≡ put l 0 0 v
 unfolding lexes spaces lex with-space
 spaces-run zero l v = refl
 spaces-run (suc n) l v = spaces-run n l v
@@ -222,7 +220,7 @@ gap-run : (l : Line) (m v n : ℕ) → l .field < 2 → lexes (put l 18 m v) (32
 unfolding lexes
 gap-run l m v n h = ap (λ (x : Line). lexes x (spaces n)) (lex-keep l m v h) ∙ spaces-run n (keep l m v) 0
 
-pub next-run : (l : Line) (m v n : ℕ) (d : Decimal) → l .field < 2 → GoodDecimal d
+next-run : (l : Line) (m v n : ℕ) (d : Decimal) → l .field < 2 → GoodDecimal d
     → lexes (put l 18 m v) ((32 ∷ spaces n) ++ decimal d) ≡ put (keep l m v) 18 (flag (d .minus)) (size d)
 next-run l m v n d h g =
     lexes-append (put l 18 m v) (32 ∷ spaces n) (decimal d)

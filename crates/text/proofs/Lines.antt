@@ -12,13 +12,11 @@ use Rattle.text.specs.declared.Line.{Line}
 use Rattle.text.specs.declared.Reader.{Reader}
 use Rattle.text.specs.Lexer.{bad, lex, lexes}
 use Rattle.text.specs.Judge.{verdict}
-use Rattle.text.specs.Reader.{stopped, further-in-line, after-line, fits, put-bytes, wrote, wrote-out, other, uncounted, step, step-out, Run, run}
+use Rattle.text.specs.Reader.{last-offset, stopped, further-in-line, after-line, fits, put-bytes, wrote, wrote-out, other, uncounted}
+use Rattle.text.specs.Reader.{step, step-out, Run, run}
 use Rattle.text.proofs.Digits.{early}
 use Rattle.text.proofs.Judging.{by-cases}
 use Rattle.text.proofs.Unlexing.{Lexed, none, digit, pointed, spaced, kept, negated, view}
-
-abbrev pub last : ℕ
-last = 18446744073709551615
 
 -- The reader r, so many bytes further, in a line.
 abbrev pub moved : Reader → Line → ℕ → Reader
@@ -36,10 +34,10 @@ moved r line n =
       place = 0;
     }
 
--- A reader that reads, before its last countable byte.
+-- A reader that reads, before its last-offset countable byte.
 pub record Going (r : Reader) : Type 0 where
   pub status : r .status ≡ 0
-  pub counts : r .at ≡ last → ⊥
+  pub counts : r .at ≡ last-offset → ⊥
   pub inside : r .line .spot ≡ 30 → ⊥
 
 pub step-in : (r : Reader) (out : List ℕ) (byte : ℕ) → Going r → (byte ≡ 10 → ⊥) → (lex (r .line) byte .spot ≡ 31 → ⊥)
@@ -47,7 +45,7 @@ pub step-in : (r : Reader) (out : List ℕ) (byte : ℕ) → Going r → (byte �
 unfolding step step-out uncounted other
 step-in r out byte g h k =
     let t = eq-eqb (r .status) 0 (g .status) in
-    let u = ne-eqb (r .at) last (g .counts) in
+    let u = ne-eqb (r .at) last-offset (g .counts) in
     let v = ne-eqb (r .line .spot) 30 (g .inside) in
     let w = ne-eqb byte 10 h in
     (rw (t, u, v, w, ne-eqb (lex (r .line) byte .spot) 31 k), rw (t, u, v, w))
@@ -55,13 +53,19 @@ step-in r out byte g h k =
 pub step-bad : (r : Reader) (out : List ℕ) (byte : ℕ) → Going r → (byte ≡ 10 → ⊥) → lex (r .line) byte .spot ≡ 31 → step r out byte ≡ stopped r 3
 unfolding step uncounted other
 step-bad r out byte g h k =
-    rw (eq-eqb (r .status) 0 (g .status), ne-eqb (r .at) last (g .counts), ne-eqb (r .line .spot) 30 (g .inside), ne-eqb byte 10 h, eq-eqb (lex (r .line) byte .spot) 31 k)
+    rw (
+      eq-eqb (r .status) 0 (g .status),
+      ne-eqb (r .at) last-offset (g .counts),
+      ne-eqb (r .line .spot) 30 (g .inside),
+      ne-eqb byte 10 h,
+      eq-eqb (lex (r .line) byte .spot) 31 k,
+    )
 
 pub step-feed : (r : Reader) (out : List ℕ) → Going r → (step r out 10 ≡ wrote r out (verdict r)) × (step-out r out 10 ≡ wrote-out r out (verdict r))
 unfolding step step-out uncounted
 step-feed r out g =
     let t = eq-eqb (r .status) 0 (g .status) in
-    let u = ne-eqb (r .at) last (g .counts) in
+    let u = ne-eqb (r .at) last-offset (g .counts) in
     let v = ne-eqb (r .line .spot) 30 (g .inside) in
     (rw (t, u, v), rw (t, u, v))
 
@@ -85,7 +89,7 @@ after-bad l byte e = go (lex l byte) (view l byte)
     go _ (kept i h k) = absurd (omega arith)
     go _ (negated i h k) = absurd (omega arith)
 
-pub not-after : (l : Line) (byte : ℕ) → (l .spot ≡ 30 → ⊥) → lex l byte .spot ≡ 30 → ⊥
+not-after : (l : Line) (byte : ℕ) → (l .spot ≡ 30 → ⊥) → lex l byte .spot ≡ 30 → ⊥
 not-after l byte n = go (lex l byte) (view l byte)
   where
     go : (m : Line) → Lexed l byte m → m .spot ≡ 30 → ⊥
@@ -110,7 +114,7 @@ bad-end l (x ∷ xs) e = bad-end (lex l x) xs (go (lex l x) (view l x))
     go _ (negated i h k) = absurd (omega arith)
 
 -- The reader r with another count and another answer.
-abbrev pub with-at : Reader → ℕ → ℕ → ℕ → Reader
+abbrev with-at : Reader → ℕ → ℕ → ℕ → Reader
 with-at r at status place =
     record {
       line = r .line;
@@ -127,10 +131,13 @@ with-at r at status place =
 
 pub moved-none : (r : Reader) → r .status ≡ 0 → r .place ≡ 0 → moved r (r .line) 0 ≡ r
 moved-none r s p =
-    ap (λ (x : ℕ). with-at r x 0 0) (add-zero (r .at)) ∙ ap (λ (x : ℕ). with-at r (r .at) x 0) (sym s) ∙ ap (λ (x : ℕ). with-at r (r .at) (r .status) x) (sym p)
+    ap (λ (x : ℕ). with-at r x 0 0) (add-zero (r .at))
+    ∙ ap (λ (x : ℕ). with-at r (r .at) x 0) (sym s)
+    ∙ ap (λ (x : ℕ). with-at r (r .at) (r .status) x) (sym p)
 
 -- The bytes of a line that stays good.
-pub line-run : (xs : List ℕ) (r : Reader) (out ys : List ℕ) → r .status ≡ 0 → r .place ≡ 0 → r .at + length xs ≤ last → (lexes (r .line) xs .spot ≡ 31 → ⊥)
+pub line-run : (xs : List ℕ) (r : Reader) (out ys : List ℕ) → r .status ≡ 0 → r .place ≡ 0 → r .at + length xs ≤ last-offset
+    → (lexes (r .line) xs .spot ≡ 31 → ⊥)
     → run r out (xs ++ ys) ≡ run (moved r (lexes (r .line) xs) (length xs)) out ys
 unfolding lexes run
 line-run [] r out ys s p c g = ap (λ (q : Reader). run q out ys) (sym (moved-none r s p))
@@ -216,9 +223,9 @@ feed-line r out xs p g t =
     }
 
 -- The byte at the end of what a usize counts stops the reader.
-pub step-last : (r : Reader) (out : List ℕ) (x : ℕ) → r .status ≡ 0 → r .at ≡ last → step r out x ≡ stopped r 3
+pub step-last : (r : Reader) (out : List ℕ) (x : ℕ) → r .status ≡ 0 → r .at ≡ last-offset → step r out x ≡ stopped r 3
 unfolding step uncounted
-step-last r out x s e = rw (eq-eqb (r .status) 0 s, eq-eqb (r .at) last e)
+step-last r out x s e = rw (eq-eqb (r .status) 0 s, eq-eqb (r .at) last-offset e)
 
 pub byte-line : (r : Reader) (out : List ℕ) (x : ℕ) (xs : List ℕ) → Going r → (x ≡ 10 → ⊥) → (lex (r .line) x .spot ≡ 31 → ⊥)
     → NextLine (further-in-line r (lex (r .line) x)) out xs → NextLine r out (x ∷ xs)
@@ -242,13 +249,14 @@ pub next-line : (xs : List ℕ) (r : Reader) (out : List ℕ) → r .status ≡ 
 unfolding run
 next-line [] r out s p i t = absurd (i (t .spot))
 next-line (x ∷ xs) r out s p i t =
-    by-cases (eqb (r .at) last)
+    by-cases (eqb (r .at) last-offset)
     (λ z. not-stopped (stopped r 3) (step-out r out x) xs (λ e. omega (arith, e)) (rw (step-last r out x s (eqb-true _ _ z)) at t))
     (λ z. let g : Going r = record { status = s; counts = eqb-false _ _ z; inside = i } in
     by-cases (eqb x 10)
     (λ y. rw (eqb-true x 10 y) (feed-line r out xs p g (rw (eqb-true x 10 y) at t)))
     (λ y. by-cases (eqb (lex (r .line) x .spot) 31)
-    (λ w. not-stopped (stopped r 3) (step-out r out x) xs (λ e. omega (arith, e)) (rw (step-bad r out x g (eqb-false _ _ y) (eqb-true _ _ w)) at t))
+    (λ w. not-stopped (stopped r 3) (step-out r out x) xs (λ e. omega (arith, e))
+    (rw (step-bad r out x g (eqb-false _ _ y) (eqb-true _ _ w)) at t))
     (λ w. let q = step-in r out x g (eqb-false _ _ y) (eqb-false _ _ w) in
     byte-line r out x xs g (eqb-false _ _ y) (eqb-false _ _ w)
     (next-line xs (further-in-line r (lex (r .line) x)) out refl refl (not-after (r .line) x i) (rw (q .0, q .1) at t)))))

@@ -7,7 +7,7 @@ use Prim.Native.Nat.{ℕ, zero, suc, _+_, _*_, _≤_, _<_}
 use native.Mathlib.Omega.{arith}
 use lib.ListN.{length}
 use Rattle.text.specs.declared.Line.{Line}
-use Rattle.text.specs.Lexer.{fresh, takes-digit, lex, lexes, whole-term}
+use Rattle.text.specs.Lexer.{value-limit, fresh, takes-digit, lex, lexes, whole-term}
 use Rattle.text.specs.Grammar.{spaces, sign, digits, AllDigits, numeral, Decimal, size, decimal, GoodDecimal, TermLine, term-bytes, GoodTerm}
 use Rattle.text.proofs.Lexing.{put, keep, flag, line-of-term}
 use Rattle.text.proofs.Unlexing.{Lexed, none, digit, pointed, spaced, kept, negated, view, term-of, no-term, never, takes-last, whole-more}
@@ -18,7 +18,7 @@ use lib.Dec.{lit<}
 -- No digit follows a whole decimal.
 pub no-digit : (m v d : ℕ) → takes-digit 18 m v d ≡ true → ⊥
 unfolding takes-digit
-no-digit m v d t = never (rw (lt-leb 1000000000000000000 v (small 18 m v d t)) at t)
+no-digit m v d t = never (rw (lt-leb value-limit v (small 18 m v d t)) at t)
 
 -- The decimals of a line that comes to be whole.
 record Parts (l : Line) (m v n : ℕ) (xs : List ℕ) (F : Line) : Type 0 where

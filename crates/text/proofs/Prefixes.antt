@@ -11,7 +11,8 @@ use lib.Dec.{eqb, leb, lit<}
 use lib.ListN.{length}
 use Rattle.text.specs.declared.Line.{Line}
 use Rattle.text.specs.Lexer.{fresh, lex, lexes, whole-count, whole-term}
-use Rattle.text.specs.Grammar.{digits, AllDigits, numeral, Decimal, size, decimal, GoodDecimal, CountLine, count-bytes, GoodCount, TermLine, term-bytes, GoodTerm}
+use Rattle.text.specs.Grammar.{digits, AllDigits, numeral, Natural, Decimal, size, decimal, GoodDecimal}
+use Rattle.text.specs.Grammar.{CountLine, count-bytes, GoodCount, TermLine, term-bytes, GoodTerm}
 use Rattle.text.proofs.Digits.{early}
 use Rattle.text.proofs.Judging.{by-cases}
 use Rattle.text.proofs.Lexing.{put, keep, flag, lexes-append, parts-run, lex-point, lex-keep, natural-run, whole-spots, decimal-run, count-run, term-run}
@@ -118,13 +119,18 @@ parts-finish n l s m v f h e b =
 
 point-finish : (l : Line) (s m v : ℕ) → l .field ≤ 2 → 1 ≤ s → s ≤ 6 → v < 10 ^ 6 → Finish (put l s m v)
 unfolding lexes
-point-finish l s m v f h k b = by-bytes (put l s m v) (put l 7 m v) (46 ∷ []) (lex-point l s m v h k) (parts-finish 10 l 7 m v f (omega arith) refl (omega (arith, b)))
+point-finish l s m v f h k b =
+    by-bytes (put l s m v) (put l 7 m v) (46 ∷ []) (lex-point l s m v h k) (parts-finish 10 l 7 m v f (omega arith) refl (omega (arith, b)))
+
+one-digit : (n : ℕ) → 1 ≤ n → Natural n 1 []
+unfolding AllDigits
+one-digit n h = record { digit = lit< tt; digits = tt; few = h; leading = λ e. refl }
 
 first-finish : (l : Line) (m : ℕ) → l .field ≤ 2 → Finish (put l 0 m 0)
 unfolding numeral
 first-finish l m f =
     by-bytes (put l 0 m 0) (put l 1 m 1) (digits (1 ∷ []))
-    (natural-run 0 6 whole-spots l m 1 [] 1 (record { digit = lit< tt; digits = unfold AllDigits in tt; few = omega arith; leading = λ e. refl }) (omega arith) (omega arith))
+    (natural-run 0 6 whole-spots l m 1 [] 1 (one-digit 1 (omega arith)) (omega arith) (omega arith))
     (point-finish l 1 m 1 f (omega arith) (omega arith) (lit< tt))
 
 finish : (l : Line) → Live l → Finish l
@@ -170,8 +176,8 @@ term-begins xs h =
 pub term-goes-on : (xs : List ℕ) → BeginsTerm xs → lexes (fresh 0) xs .spot ≡ 31 → ⊥
 term-goes-on xs b e =
     let s = bad-end (lexes (fresh 0) xs) (b .rest) e in
-    let r = ap (λ (l : Line). l .spot) (sym (lexes-append (fresh 0) xs (b .rest)) ∙ ap (λ (ys : List ℕ). lexes (fresh 0) ys) (b .is) ∙ term-run (b .t) (b .good)) in
-    omega (arith, s, r)
+    let q = sym (lexes-append (fresh 0) xs (b .rest)) ∙ ap (λ (ys : List ℕ). lexes (fresh 0) ys) (b .is) ∙ term-run (b .t) (b .good) in
+    omega (arith, s, ap (λ (l : Line). l .spot) q)
 
 -- A count line.
 pub record BeginsCount (xs : List ℕ) : Type 0 where
@@ -211,7 +217,7 @@ first-live byte = go (lex (fresh 20) byte) (view (fresh 20) byte)
 pub count-begins : (xs : List ℕ) → (lexes (fresh 20) xs .spot ≡ 31 → ⊥) → BeginsCount xs
 unfolding lexes count-bytes digits AllDigits
 count-begins [] h =
-    record { rest = 49 ∷ []; c = record { first = 1; more = [] }; good = record { digit = lit< tt; digits = tt; few = omega arith; leading = λ e. refl }; is = refl }
+    record { rest = 49 ∷ []; c = record { first = 1; more = [] }; good = one-digit 4 (omega arith); is = refl }
 count-begins (x ∷ xs) h =
     let s = first-live x (λ e. h (bad-end (lex (fresh 20) x) xs e)) in
     let c = count-in (x ∷ xs) (lexes (fresh 20) (x ∷ xs)) (counting xs (lex (fresh 20) x) (omega (arith, s)) (omega (arith, s)) h) refl in
@@ -220,8 +226,8 @@ count-begins (x ∷ xs) h =
 pub count-goes-on : (xs : List ℕ) → BeginsCount xs → lexes (fresh 20) xs .spot ≡ 31 → ⊥
 count-goes-on xs b e =
     let s = bad-end (lexes (fresh 20) xs) (b .rest) e in
-    let r = ap (λ (l : Line). l .spot) (sym (lexes-append (fresh 20) xs (b .rest)) ∙ ap (λ (ys : List ℕ). lexes (fresh 20) ys) (b .is) ∙ count-run (b .c) (b .good)) in
-    omega (arith, s, r, b .good .few)
+    let q = sym (lexes-append (fresh 20) xs (b .rest)) ∙ ap (λ (ys : List ℕ). lexes (fresh 20) ys) (b .is) ∙ count-run (b .c) (b .good) in
+    omega (arith, s, ap (λ (l : Line). l .spot) q, b .good .few)
 
 -- A byte is refused 3 exactly where it makes the line bad.
 pub refused-by : (r : Reader) (out : List ℕ) (byte : ℕ) → Going r → (byte ≡ 10 → ⊥) → (P : Type 0)

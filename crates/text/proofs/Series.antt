@@ -1,4 +1,5 @@
--- The packed form of an accepted text is an accepted packed series, of the same blocks: the text's limits are those of the packed series. Assumes nothing.
+-- The packed form of an accepted text is an accepted packed series of the same blocks, for a text and a packed series have the same limits.
+-- Assumes nothing.
 use mathlib.Core.Path.{_≡_, refl, sym, ap, _∙_}
 use mathlib.Core.Bool.{true, false}
 use mathlib.Core.List.{List, [], _∷_}
@@ -20,7 +21,8 @@ use Rattle.packed.proofs.Judged as judged
 use Rattle.packed.proofs.Theorems.{pack-parse}
 use Rattle.text.specs.declared.Outcome.the-variants.{Accepted}
 use Rattle.text.specs.Reader.{told, whole}
-use Rattle.text.specs.Grammar.{count, TermLine, Block, term-of-line, terms-of-lines, blocks-of-lines, GoodBlocks, GoodText, TermInLimits, TermsInLimits, BlocksInLimits, InLimits}
+use Rattle.text.specs.Grammar.{count, TermLine, Block, term-of-line, terms-of-lines, blocks-of-lines, GoodBlocks, GoodText}
+use Rattle.text.specs.Grammar.{TermInLimits, TermsInLimits, BlocksInLimits, InLimits}
 use Rattle.text.proofs.Theorems.{Reads, accepted-text}
 
 -- ---- The limits of a term and of a count, as the text and as the packed series have them.
@@ -57,7 +59,7 @@ count-in s n h l = rw (le-leb n block-limit h, le-leb (s .terms + n) series-limi
 
 -- ---- The numbers of lines, as many as the lines.
 
-pub length-blocks : (ks : List Block) → length (blocks-of-lines ks) ≡ length ks
+length-blocks : (ks : List Block) → length (blocks-of-lines ks) ≡ length ks
 unfolding blocks-of-lines
 length-blocks [] = refl
 length-blocks (k ∷ ks) = ap suc (length-blocks ks)
@@ -74,7 +76,7 @@ unfolding TermsInLimits terms-of-lines
 terms-out f s [] h = limits.good-none
 terms-out f s (l ∷ ls) h = limits.good-term (term-out f s l (h .0)) (terms-out f (added f s (term-of-line l)) ls (h .1))
 
-pub blocks-out : (k : ℕ) (s : Tally) (ks : List Block) → GoodBlocks ks → BlocksInLimits k s ks → judged.GoodBlocks k s (blocks-of-lines ks)
+blocks-out : (k : ℕ) (s : Tally) (ks : List Block) → GoodBlocks ks → BlocksInLimits k s ks → judged.GoodBlocks k s (blocks-of-lines ks)
 unfolding GoodBlocks BlocksInLimits blocks-of-lines
 blocks-out k s [] g l = judged.none
 blocks-out k s (b ∷ bs) g l =
@@ -89,10 +91,12 @@ text-allowed ks g l = judged.good-allowed (blocks-of-lines ks) (length-blocks ks
 
 -- ---- And back, where no b has a minus.
 
+-- No b of these lines has a minus.
 unfoldable pub NoMinus : List TermLine → Type 0
 NoMinus [] = Unit {0}
 NoMinus (l ∷ ls) = (l .b .minus ≡ false) × NoMinus ls
 
+-- Nor of these blocks.
 unfoldable pub FromZero : List Block → Type 0
 FromZero [] = Unit {0}
 FromZero (k ∷ ks) = NoMinus (k .lines) × FromZero ks
@@ -112,9 +116,6 @@ blocks-in k s (b ∷ bs) g u (judged.more c h) =
       blocks-in (k + 1) (after-block k s (terms-of-lines (b .lines))) bs (g .3) (u .1) h,
     )
 
-pub allowed-text : (ks : List Block) → GoodText ks → FromZero ks → Allowed (blocks-of-lines ks) → InLimits ks
-allowed-text ks g u a = blocks-in 0 no-tally ks (g .good) u (judged.allowed-good (blocks-of-lines ks) a)
-
 -- ---- The bytes that the reader wrote.
 
 -- What a buffer begins with after a text was written at its start.
@@ -130,7 +131,8 @@ reads-packed text out n r =
     ap (λ (k : ℕ). take k (whole text out .out)) (r .long) ∙ (ap (λ (s : List ℕ). take (length x) s) (r .written) ∙ front x out room)
 
 -- The bytes of an accepted text are an accepted packed series, of the text's blocks.
-pub accepted-series : (text out : List ℕ) (n : ℕ) (e : told (whole text out .reader) ≡ Accepted n) → parse (take n (whole text out .out)) ≡ accepted (blocks-of-lines (accepted-text text out n e .ks))
+pub accepted-series : (text out : List ℕ) (n : ℕ) (e : told (whole text out .reader) ≡ Accepted n)
+    → parse (take n (whole text out .out)) ≡ accepted (blocks-of-lines (accepted-text text out n e .ks))
 accepted-series text out n e =
     let r = accepted-text text out n e in
     ap parse (reads-packed text out n r) ∙ pack-parse (blocks-of-lines (r .ks)) (text-allowed (r .ks) (r .good) (r .limits))

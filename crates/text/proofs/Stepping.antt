@@ -16,7 +16,8 @@ use Rattle.text.specs.declared.Line.{Line}
 use Rattle.text.specs.declared.Reader.{Reader}
 use Rattle.text.specs.Lexer.{lex, whole-count, whole-term}
 use Rattle.text.specs.Judge.{Verdict, count-end, term-end, verdict}
-use Rattle.text.specs.Reader.{stopped, advanced, further-in-line, fits, put-bytes, wrote, wrote-out, other, uncounted, step, step-out, run}
+use Rattle.text.specs.machine.Writer.{put-bytes-answer}
+use Rattle.text.specs.Reader.{last-offset, stopped, advanced, further-in-line, fits, put-bytes, wrote, wrote-out, other, uncounted, step, step-out, run}
 
 -- What an answer of the writer says.
 no-fit : (t : Bool) (a b n : ℕ) (p : Put) → p ≡ cond t (Next a) (NoRoom b) → p ≡ NoRoom n → t ≡ false
@@ -27,7 +28,7 @@ fit : (t : Bool) (a b n : ℕ) (p : Put) → p ≡ cond t (Next a) (NoRoom b) �
 fit true a b n p e f = (refl, cc)
 fit false a b n p e f = let z : _≡_ {A = ℕ} 0 1 = cc in absurd (omega arith)
 
-pub put-answer-is : (v at : ℕ) (out : List ℕ) → put-answer v at out ≡ cond (fits (encode v) at out) (Next (at + length (encode v))) (NoRoom (length (encode v)))
+pub put-answer-is : (v at : ℕ) (out : List ℕ) → put-answer v at out ≡ put-bytes-answer (encode v) at out
 unfolding put-answer room-for fits
 put-answer-is v at out = refl
 
@@ -89,26 +90,27 @@ module _ (r s : Reader) (out after : List ℕ) (byte : ℕ) where
   step-stopped h = let t = ne-eqb (r .status) 0 h in (rw t, rw t)
 
   module _ (going : r .status ≡ 0) where
-    pub step-uncounted : r .at ≡ 18446744073709551615 → s ≡ stopped r 3 → (s ≡ step r out byte) × (out ≡ step-out r out byte)
+    pub step-uncounted : r .at ≡ last-offset → s ≡ stopped r 3 → (s ≡ step r out byte) × (out ≡ step-out r out byte)
     unfolding step step-out uncounted
     step-uncounted h e =
         let g = eq-eqb (r .status) 0 going in
-        let t = eq-eqb (r .at) 18446744073709551615 h in (rw (g, t, e), rw (g, t))
+        let t = eq-eqb (r .at) last-offset h in (rw (g, t, e), rw (g, t))
 
-    module _ (counts : r .at ≡ 18446744073709551615 → ⊥) where
+    module _ (counts : r .at ≡ last-offset → ⊥) where
       pub step-after : r .line .spot ≡ 30 → s ≡ stopped r 9 → (s ≡ step r out byte) × (out ≡ step-out r out byte)
       unfolding step step-out uncounted
       step-after h e =
           let g = eq-eqb (r .status) 0 going in
-          let t = ne-eqb (r .at) 18446744073709551615 counts in
+          let t = ne-eqb (r .at) last-offset counts in
           let u = eq-eqb (r .line .spot) 30 h in (rw (g, t, u, e), rw (g, t, u))
 
       module _ (inside : r .line .spot ≡ 30 → ⊥) where
-        pub step-feed : byte ≡ 10 → (s ≡ wrote r out (verdict r)) × (after ≡ wrote-out r out (verdict r)) → (s ≡ step r out byte) × (after ≡ step-out r out byte)
+        pub step-feed : byte ≡ 10 → (s ≡ wrote r out (verdict r)) × (after ≡ wrote-out r out (verdict r))
+            → (s ≡ step r out byte) × (after ≡ step-out r out byte)
         unfolding step step-out uncounted
         step-feed h e =
             let g = eq-eqb (r .status) 0 going in
-            let t = ne-eqb (r .at) 18446744073709551615 counts in
+            let t = ne-eqb (r .at) last-offset counts in
             let u = ne-eqb (r .line .spot) 30 inside in
             let v = eq-eqb byte 10 h in (rw (g, t, u, v) (e .0), rw (g, t, u, v) (e .1))
 
@@ -116,7 +118,7 @@ module _ (r s : Reader) (out after : List ℕ) (byte : ℕ) where
         unfolding step step-out uncounted
         step-other h e =
             let g = eq-eqb (r .status) 0 going in
-            let t = ne-eqb (r .at) 18446744073709551615 counts in
+            let t = ne-eqb (r .at) last-offset counts in
             let u = ne-eqb (r .line .spot) 30 inside in
             let v = ne-eqb byte 10 h in (rw (g, t, u, v) e, rw (g, t, u, v))
 

@@ -14,30 +14,33 @@ use Rattle.packed.specs.Series.{summed, after-block, pack-term, pack-terms, pac
 use Rattle.text.specs.declared.Line.{Line}
 use Rattle.text.specs.declared.Reader.{Reader}
 use Rattle.text.specs.Lexer.{fresh, lexes}
-use Rattle.text.specs.Reader.{Run, run}
-use Rattle.text.specs.Grammar.{CountLine, count, count-bytes, GoodCount, TermLine, term-bytes, GoodTerm, term-of-line, Block, lines-bytes, blocks-bytes, terms-of-lines, blocks-of-lines, AllGood, GoodBlocks, TermsInLimits, BlocksInLimits}
+use Rattle.text.specs.Reader.{last-offset, Run, run}
+use Rattle.text.specs.Grammar.{CountLine, count, count-bytes, GoodCount, TermLine, term-bytes, GoodTerm, term-of-line}
+use Rattle.text.specs.Grammar.{Block, lines-bytes, blocks-bytes, terms-of-lines, blocks-of-lines, AllGood, GoodBlocks}
+use Rattle.text.specs.Grammar.{TermsInLimits, BlocksInLimits}
 use Rattle.text.proofs.Writing.{sets-append}
 use Rattle.text.proofs.Lexing.{put, line-of-term, count-run, term-run}
-use Rattle.text.proofs.Lines.{last, moved, Going, line-run, feed-run}
+use Rattle.text.proofs.Lines.{moved, Going, line-run, feed-run}
 use Rattle.text.proofs.Verdicts.{sp, st, count-verdict, term-verdict, count-zero, term-zero, is-whole}
-use Rattle.text.proofs.Accepting.{spot-term, spot-count, less, length-terms}
+use Rattle.text.proofs.Accepting.{count-packed, term-packed, after-count, after-term, spot-term, spot-count, less, length-terms}
 
 -- A line and its line feed, from the beginning of the line.
-module _ (spot at w k n : ℕ) (s : Tally) (out xs ys : List ℕ) (L : Line) (is : lexes (fresh spot) xs ≡ L) (good : L .spot ≡ 31 → ⊥) (going : L .spot ≡ 30 → ⊥)
-    (counts : at + length xs < last) where
-  pub to-feed : run (sp spot at w k n s) out (xs ++ (10 ∷ ys)) ≡ run (moved (sp spot at w k n s) L (length xs)) out (10 ∷ ys)
+module _ (spot at w k n : ℕ) (s : Tally) (out xs ys : List ℕ) (L : Line)
+    (is : lexes (fresh spot) xs ≡ L) (good : L .spot ≡ 31 → ⊥) (going : L .spot ≡ 30 → ⊥) (counts : at + length xs < last-offset) where
+  to-feed : run (sp spot at w k n s) out (xs ++ (10 ∷ ys)) ≡ run (moved (sp spot at w k n s) L (length xs)) out (10 ∷ ys)
   to-feed =
       line-run xs (sp spot at w k n s) out (10 ∷ ys) refl refl (omega arith) (λ e. good (ap (λ (l : Line). l .spot) (sym is) ∙ e))
       ∙ ap (λ (l : Line). run (moved (sp spot at w k n s) l (length xs)) out (10 ∷ ys)) is
 
-  pub ready : Going (moved (sp spot at w k n s) L (length xs))
+  ready : Going (moved (sp spot at w k n s) L (length xs))
   ready = record { status = refl; counts = λ e. omega (arith, e); inside = going }
 
 -- A term line.
-term-line : (t : TermLine) (at w k n : ℕ) (s : Tally) (out ys : List ℕ) → GoodTerm t → TermsInLimits (factor (k - 1)) s (t ∷ []) → at + length (term-bytes t) < last
-    → w + length (pack-term (term-of-line t)) ≤ length out
+term-line : (t : TermLine) (at w k n : ℕ) (s : Tally) (out ys : List ℕ) → GoodTerm t → TermsInLimits (factor (k - 1)) s (t ∷ [])
+    → at + length (term-bytes t) < last-offset
+    → w + length (term-packed t) ≤ length out
     → run (sp 0 at w k n s) out (term-bytes t ++ (10 ∷ ys))
-    ≡ run (st (at + length (term-bytes t) + 1) (w + length (pack-term (term-of-line t))) k (n - 1) (added (factor (k - 1)) s (term-of-line t))) (sets out w (pack-term (term-of-line t))) ys
+    ≡ run (after-term (at + length (term-bytes t) + 1) w k n s t) (sets out w (term-packed t)) ys
 unfolding TermsInLimits
 term-line t at w k n s out ys g l c h =
     let m = length (term-bytes t) in
@@ -51,10 +54,10 @@ term-line t at w k n s out ys g l c h =
 
 -- A count line.
 count-line : (c : CountLine) (at w k : ℕ) (s : Tally) (out ys : List ℕ) → GoodCount c → k < 18 → count-fits s (count c) ≡ true
-    → at + length (count-bytes c) < last
-    → w + length (encode (count c)) ≤ length out
+    → at + length (count-bytes c) < last-offset
+    → w + length (count-packed c) ≤ length out
     → run (sp 20 at w k 0 s) out (count-bytes c ++ (10 ∷ ys))
-    ≡ run (st (at + length (count-bytes c) + 1) (w + length (encode (count c))) (k + 1) (count c) (opened k (count c) s)) (sets out w (encode (count c))) ys
+    ≡ run (after-count (at + length (count-bytes c) + 1) w k s c) (sets out w (count-packed c)) ys
 count-line c at w k s out ys g b f l h =
     let m = length (count-bytes c) in
     let L = put (fresh 20) (21 + length (c .more)) 0 (count c) in
@@ -68,17 +71,21 @@ count-line c at w k s out ys g b f l h =
     ∙ (rw (v .2, v .1))
 
 -- The terms of a block.
-pub terms-run : (ls : List TermLine) (at w k : ℕ) (s : Tally) (out ys : List ℕ) → AllGood ls → TermsInLimits (factor (k - 1)) s ls → at + length (lines-bytes ls) ≤ last
+terms-run : (ls : List TermLine) (at w k : ℕ) (s : Tally) (out ys : List ℕ) → AllGood ls → TermsInLimits (factor (k - 1)) s ls
+    → at + length (lines-bytes ls) ≤ last-offset
     → w + length (pack-terms (terms-of-lines ls)) ≤ length out
     → run (st at w k (length ls) s) out (lines-bytes ls ++ ys)
-    ≡ run (st (at + length (lines-bytes ls)) (w + length (pack-terms (terms-of-lines ls))) k 0 (summed (factor (k - 1)) s (terms-of-lines ls))) (sets out w (pack-terms (terms-of-lines ls))) ys
+    ≡ run (st (at + length (lines-bytes ls)) (w + length (pack-terms (terms-of-lines ls))) k 0 (summed (factor (k - 1)) s (terms-of-lines ls)))
+    (sets out w (pack-terms (terms-of-lines ls))) ys
 unfolding AllGood TermsInLimits lines-bytes terms-of-lines pack-terms summed
 terms-run [] at w k s out ys g l c h = rw (add-zero at, add-zero w)
 terms-run (t ∷ ls) at w k s out ys g l c h =
     let x = pack-term (term-of-line t) in
     let y = pack-terms (terms-of-lines ls) in
     let m = length (term-bytes t) in
-    let p : length (term-bytes t ++ (10 ∷ lines-bytes ls)) ≡ m + suc (length (lines-bytes ls)) = length-append (term-bytes t) (10 ∷ lines-bytes ls) in
+    let p : length (term-bytes t ++ (10 ∷ lines-bytes ls)) ≡ m + suc (length (lines-bytes ls)) =
+        length-append (term-bytes t) (10 ∷ lines-bytes ls)
+    in
     let q : length (x ++ y) ≡ length x + length y = length-append x y in
     let z = length-sets out w x in
     let a : at + m + 1 + length (lines-bytes ls) ≡ at + (m + suc (length (lines-bytes ls))) = omega arith in
@@ -88,7 +95,8 @@ terms-run (t ∷ ls) at w k s out ys g l c h =
     ∙ ap (λ (i : List ℕ). run (sp 0 at w k (suc (length ls)) s) out i) (append-assoc (term-bytes t) (10 ∷ lines-bytes ls) ys)
     ∙ term-line t at w k (suc (length ls)) s out (lines-bytes ls ++ ys) (g .0) (l .0, tt) (omega (arith, p)) (omega (arith, q))
     ∙ ap (λ (i : ℕ). run (st (at + m + 1) (w + length x) k i (added (factor (k - 1)) s (term-of-line t))) (sets out w x) (lines-bytes ls ++ ys)) d
-    ∙ terms-run ls (at + m + 1) (w + length x) k (added (factor (k - 1)) s (term-of-line t)) (sets out w x) ys (g .1) (l .1) (omega (arith, p)) (omega (arith, q, z))
+    ∙ terms-run ls (at + m + 1) (w + length x) k (added (factor (k - 1)) s (term-of-line t)) (sets out w x) ys (g .1) (l .1)
+    (omega (arith, p)) (omega (arith, q, z))
     ∙ (rw (p, q, a, b, sets-append x y out w))
 
 -- The tally after some blocks.
@@ -111,10 +119,13 @@ same-run s a a′ w w′ o o′ p q r = rw (p, q, r)
 
 -- Blocks to the eighteenth.
 pub blocks-run : (ks : List Block) (at w k : ℕ) (s : Tally) (out : List ℕ) → GoodBlocks ks → BlocksInLimits k s ks → k + length ks ≡ 18
-    → at + length (blocks-bytes ks) ≤ last
+    → at + length (blocks-bytes ks) ≤ last-offset
     → w + length (pack (blocks-of-lines ks)) ≤ length out
     → run (st at w k 0 s) out (blocks-bytes ks)
-    ≡ record { reader = st (at + length (blocks-bytes ks)) (w + length (pack (blocks-of-lines ks))) 18 0 (after-blocks k s ks); out = sets out w (pack (blocks-of-lines ks)) }
+    ≡ record {
+      reader = st (at + length (blocks-bytes ks)) (w + length (pack (blocks-of-lines ks))) 18 0 (after-blocks k s ks);
+      out = sets out w (pack (blocks-of-lines ks));
+    }
 unfolding GoodBlocks BlocksInLimits blocks-bytes blocks-of-lines pack pack-block after-blocks after-block
 blocks-run [] at w k s out g l e c h = let i : k ≡ 18 = omega arith in run-none (st at w k 0 s) out ∙ (rw (i, add-zero at, add-zero w))
 blocks-run (b ∷ bs) at w k s out g l e c h =
@@ -129,8 +140,12 @@ blocks-run (b ∷ bs) at w k s out g l e c h =
     let s₁ = opened k n s in
     let f : length (terms-of-lines ls) ≡ n = length-terms ls ∙ g .1 in
     let p : length (count-bytes (b .head) ++ (10 ∷ (lines-bytes ls ++ blocks-bytes bs))) ≡ m + suc (u + v) =
-    length-append (count-bytes (b .head)) (10 ∷ (lines-bytes ls ++ blocks-bytes bs)) ∙ ap (λ (i : ℕ). m + suc i) (length-append (lines-bytes ls) (blocks-bytes bs)) in
-    let q : length ((x ++ y) ++ z) ≡ length x + length y + length z = length-append (x ++ y) z ∙ ap (λ (i : ℕ). i + length z) (length-append x y) in
+        length-append (count-bytes (b .head)) (10 ∷ (lines-bytes ls ++ blocks-bytes bs))
+        ∙ ap (λ (i : ℕ). m + suc i) (length-append (lines-bytes ls) (blocks-bytes bs))
+    in
+    let q : length ((x ++ y) ++ z) ≡ length x + length y + length z =
+        length-append (x ++ y) z ∙ ap (λ (i : ℕ). i + length z) (length-append x y)
+    in
     let h′ : w + length ((x ++ y) ++ z) ≤ length out = rw f at h in
     let o₁ = length-sets out w x in
     let o₂ = length-sets (sets out w x) (w + length x) y in

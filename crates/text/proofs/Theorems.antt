@@ -10,15 +10,15 @@ use Rattle.limits.specs.Limits.{no-tally}
 use Rattle.packed.specs.Series.{summed, pack-terms, pack}
 use Rattle.text.specs.declared.Reader.{Reader}
 use Rattle.text.specs.declared.Outcome.the-variants.{Accepted}
-use Rattle.text.specs.Reader.{begun, next-spot, step, step-out, Run, run, stopped, ended, told, whole}
-use Rattle.text.specs.Grammar.{Block, lines-bytes, terms-of-lines, blocks-bytes, blocks-of-lines, GoodText, InLimits}
+use Rattle.text.specs.Reader.{last-offset, begun, next-spot, step, step-out, Run, run, stopped, ended, told, whole}
+use Rattle.text.specs.Grammar.{feed, Block, lines-bytes, terms-of-lines, blocks-bytes, blocks-of-lines, GoodText, InLimits}
 use Rattle.text.proofs.Lexing.{lexes-append}
-use Rattle.text.proofs.Lines.{last, Going, stays}
+use Rattle.text.proofs.Lines.{Going, stays}
 use Rattle.text.proofs.Prefixes.{BeginsTerm, term-begins, term-goes-on, BeginsCount, count-begins, count-goes-on, refused-by}
 use Rattle.text.proofs.Feeds.{IsTerm, IsCount, feed-term, feed-count}
 use Rattle.text.proofs.Leaving.{Leaves, leaves}
 use Rattle.text.specs.declared.Line.{Line}
-use Rattle.text.specs.Lexer.{fresh, lex, lexes}
+use Rattle.text.specs.Lexer.{spot-decimal, spot-count, fresh, lex, lexes}
 use Rattle.text.proofs.Accepting.{rest-in}
 use Rattle.text.proofs.Ending.{accepted-by, nothing}
 use Rattle.text.proofs.Taking.{blocks-run}
@@ -58,8 +58,10 @@ unfolding ended
 repeats-end r h = rw (ne-eqb (r .status) 0 h)
 
 -- A text that follows the grammar within the limits, and has room, is accepted; the output holds its packed form, the rest of it untouched.
-pub read-text : (ks : List Block) (out : List ℕ) → GoodText ks → InLimits ks → length (blocks-bytes ks) ≤ last → length (pack (blocks-of-lines ks)) ≤ length out
-    → (told (whole (blocks-bytes ks) out .reader) ≡ Accepted (length (pack (blocks-of-lines ks)))) × (whole (blocks-bytes ks) out .out ≡ sets out 0 (pack (blocks-of-lines ks)))
+pub read-text : (ks : List Block) (out : List ℕ) → GoodText ks → InLimits ks → length (blocks-bytes ks) ≤ last-offset
+    → length (pack (blocks-of-lines ks)) ≤ length out
+    → (told (whole (blocks-bytes ks) out .reader) ≡ Accepted (length (pack (blocks-of-lines ks))))
+    × (whole (blocks-bytes ks) out .out ≡ sets out 0 (pack (blocks-of-lines ks)))
 unfolding next-spot ended told
 read-text ks out g l c h =
     let n = length (pack (blocks-of-lines ks)) in
@@ -107,25 +109,25 @@ abbrev pub Exactly : Type 0 → Type 0 → Type 0
 Exactly P Q = (P → Q → ⊥) × ((Q → ⊥) → P)
 
 module _ (r : Reader) (out xs : List ℕ) (going : Going r) where
-  module _ (byte : ℕ) (no-feed : byte ≡ 10 → ⊥) where
+  module _ (byte : ℕ) (no-feed : byte ≡ feed → ⊥) where
     one-more : (l : Line) → r .line ≡ lexes l xs → lex (r .line) byte .spot ≡ lexes l (xs ++ (byte ∷ [])) .spot
     unfolding lexes
     one-more l e = ap (λ (x : Line). lex x byte .spot) e ∙ ap (λ (x : Line). x .spot) (sym (lexes-append l xs (byte ∷ [])))
 
-    pub bad-term : r .line ≡ lexes (fresh 0) xs → Exactly (step r out byte ≡ stopped r 3) (BeginsTerm (xs ++ (byte ∷ [])))
+    pub bad-term : r .line ≡ lexes (fresh spot-decimal) xs → Exactly (step r out byte ≡ stopped r 3) (BeginsTerm (xs ++ (byte ∷ [])))
     bad-term e =
-        let s = one-more (fresh 0) e in
+        let s = one-more (fresh spot-decimal) e in
         refused-by r out byte going no-feed (BeginsTerm (xs ++ (byte ∷ [])))
         (λ k. term-begins (xs ++ (byte ∷ [])) (λ q. k (s ∙ q))) (λ b q. term-goes-on (xs ++ (byte ∷ [])) b (sym s ∙ q))
 
-    pub bad-count : r .line ≡ lexes (fresh 20) xs → Exactly (step r out byte ≡ stopped r 3) (BeginsCount (xs ++ (byte ∷ [])))
+    pub bad-count : r .line ≡ lexes (fresh spot-count) xs → Exactly (step r out byte ≡ stopped r 3) (BeginsCount (xs ++ (byte ∷ [])))
     bad-count e =
-        let s = one-more (fresh 20) e in
+        let s = one-more (fresh spot-count) e in
         refused-by r out byte going no-feed (BeginsCount (xs ++ (byte ∷ [])))
         (λ k. count-begins (xs ++ (byte ∷ [])) (λ q. k (s ∙ q))) (λ b q. count-goes-on (xs ++ (byte ∷ [])) b (sym s ∙ q))
 
-  pub bad-term-feed : r .line ≡ lexes (fresh 0) xs → Exactly (step r out 10 ≡ stopped r 3) (IsTerm xs)
+  pub bad-term-feed : r .line ≡ lexes (fresh spot-decimal) xs → Exactly (step r out feed ≡ stopped r 3) (IsTerm xs)
   bad-term-feed e = feed-term r out going xs e
 
-  pub bad-count-feed : r .line ≡ lexes (fresh 20) xs → Exactly (step r out 10 ≡ stopped r 3) (IsCount xs)
+  pub bad-count-feed : r .line ≡ lexes (fresh spot-count) xs → Exactly (step r out feed ≡ stopped r 3) (IsCount xs)
   bad-count-feed e = feed-count r out going xs e

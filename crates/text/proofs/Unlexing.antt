@@ -8,7 +8,8 @@ use native.Mathlib.Omega.{arith}
 use borrow.Author.Tests.{ltb-true, ltb-false, leb-true, eqb-true, ne-eqb, lt-ltb, le-ltb, lt-leb}
 use lib.Dec.{leb, ltb, eqb}
 use Rattle.text.specs.declared.Line.{Line}
-use Rattle.text.specs.Lexer.{bad, whole-digit, takes-digit, with-digit, with-point, with-space, with-minus, lex, lexes, whole-count, whole-term}
+use Rattle.text.specs.Lexer.{value-limit, bad, whole-digit, takes-digit, with-digit, with-point, with-space, with-minus, lex, lexes}
+use Rattle.text.specs.Lexer.{whole-count, whole-term}
 use Rattle.text.proofs.Judging.{by-cases}
 use Rattle.text.proofs.Digits.{small, early}
 use Rattle.text.proofs.Lexing.{put, keep}
@@ -16,7 +17,8 @@ use Rattle.text.proofs.Lexing.{put, keep}
 -- What a byte can do to a line.
 pub data Lexed (l : Line) (byte : ℕ) : Line → Type 0 where
   none : Lexed l byte bad
-  digit : (d : ℕ) → byte ≡ 48 + d → d < 10 → takes-digit (l .spot) (l .minus) (l .value) d ≡ true → Lexed l byte (put l (l .spot + 1) (l .minus) (10 * l .value + d))
+  digit : (d : ℕ) → byte ≡ 48 + d → d < 10 → takes-digit (l .spot) (l .minus) (l .value) d ≡ true
+      → Lexed l byte (put l (l .spot + 1) (l .minus) (10 * l .value + d))
   pointed : byte ≡ 46 → 1 ≤ l .spot → l .spot ≤ 6 → Lexed l byte (put l 7 (l .minus) (l .value))
   spaced : byte ≡ 32 → l .spot ≡ 0 → l .minus ≡ 0 → Lexed l byte l
   kept : byte ≡ 32 → l .spot ≡ 18 → l .field < 2 → Lexed l byte (keep l (l .minus) (l .value))
@@ -74,7 +76,7 @@ bad-step byte = go (lex bad byte) (view bad byte)
     go _ (kept e h k) = absurd (omega arith)
     go _ (negated e h k) = absurd (omega arith)
 
-pub bad-stays : (xs : List ℕ) → lexes bad xs ≡ bad
+bad-stays : (xs : List ℕ) → lexes bad xs ≡ bad
 unfolding lexes
 bad-stays [] = refl
 bad-stays (x ∷ xs) = ap (λ (l : Line). lexes l xs) (bad-step x) ∙ bad-stays xs
@@ -118,12 +120,12 @@ unfolding takes-digit whole-digit
 takes-last m v d t =
     by-cases (eqb m 0)
     (λ p. inl (eqb-true _ _ p))
-    (λ p. let b = lt-leb 1000000000000000000 v (small 17 m v d t) in let h = ltb-true 0 (v + d) (rw (b, p) at t) in inr (omega arith))
+    (λ p. let b = lt-leb value-limit v (small 17 m v d t) in let h = ltb-true 0 (v + d) (rw (b, p) at t) in inr (omega arith))
 
 pub whole-more : (s m v d : ℕ) → 1 ≤ s → s ≤ 6 → takes-digit s m v d ≡ true → (s < 6) × (0 < v)
 unfolding takes-digit whole-digit
 whole-more s m v d h k t =
-    let b = lt-leb 1000000000000000000 v (small s m v d t) in
+    let b = lt-leb value-limit v (small s m v d t) in
     by-cases (ltb s 6)
     (λ p. (ltb-true _ _ p, ltb-true _ _ (rw (b, p, ne-eqb s 0 (λ e. omega (arith, e))) at t)))
     (λ p. never (rw (b, p, lt-ltb s 7 (omega arith)) at t))
@@ -131,7 +133,7 @@ whole-more s m v d h k t =
 pub count-more : (s m v d : ℕ) → 21 ≤ s → takes-digit s m v d ≡ true → (s < 24) × (0 < v)
 unfolding takes-digit whole-digit
 count-more s m v d h t =
-    let b = lt-leb 1000000000000000000 v (small s m v d t) in
+    let b = lt-leb value-limit v (small s m v d t) in
     let k = early s m v d t in (
       k,
       ltb-true 0 v (rw (

@@ -1,6 +1,6 @@
 -- Runs of stores one after the other, and a decimal folded. Assumes nothing.
 use mathlib.Core.Path.{_≡_, refl, sym, ap, _∙_}
-use mathlib.Core.Bool.{Bool, true, false, cond}
+use mathlib.Core.Bool.{Bool, true, false}
 use mathlib.Core.List.{List, [], _∷_, _++_}
 use Prim.Native.Nat.{ℕ, zero, suc, _+_, _*_, _-_, _≤_, _<_}
 use native.Mathlib.Nat.{add-zero, add-assoc}
@@ -16,6 +16,7 @@ use Rattle.limits.specs.declared.Term.{Term}
 use Rattle.packed.specs.Series.{pack-term}
 use Rattle.text.specs.Judge.{signed}
 use Rattle.text.specs.Reader.{fits, put-bytes}
+use Rattle.text.specs.machine.Writer.{three-packed, put-bytes-answer}
 
 pub sets-append : (xs ys l : List ℕ) (i : ℕ) → sets l i (xs ++ ys) ≡ sets (sets l i xs) (i + length xs) ys
 sets-append [] ys l i = rw (add-zero i)
@@ -45,33 +46,35 @@ pub fold-minus : (minus value : ℕ) → 0 < minus → 0 < value → folded (sig
 unfolding signed
 fold-minus minus value h k = rw (lt-ltb 0 minus h) (below value k)
 
--- A term's three numbers, written one after the other.
-module _ (t : Term) (at : ℕ) (out : List ℕ) where
-  pub length-term : length (pack-term t) ≡ length (encode (folded (t .a))) + length (encode (t .b)) + length (encode (folded (t .c)))
-  unfolding pack-term
-  length-term = simp length-append (omega arith)
+-- Three numbers, written one after the other.
+module _ (a b c : ℕ) where
+  pub length-three : length (three-packed a b c) ≡ length (encode a) + length (encode b) + length (encode c)
+  length-three = simp length-append (omega arith)
 
-  pub put-full : (n : ℕ) → n ≡ length (pack-term t) → length out < at + n
-      → (NoRoom n ≡ cond (fits (pack-term t) at out) (Next (at + length (pack-term t))) (NoRoom (length (pack-term t)))) × (out ≡ put-bytes (pack-term t) at out)
+  pub stored-three : (out o₁ o₂ o₃ : List ℕ) (at i j : ℕ) → o₁ ≡ sets out at (encode a) → i ≡ at + length (encode a)
+      → o₂ ≡ sets o₁ i (encode b) → j ≡ i + length (encode b) → o₃ ≡ sets o₂ j (encode c) → o₃ ≡ sets out at (three-packed a b c)
+  stored-three out o₁ o₂ o₃ at i j e₁ f₁ e₂ f₂ e₃ =
+      let x = encode a in
+      let y = encode b in
+      let z = encode c in
+      let all : sets out at (x ++ y ++ z) ≡ sets (sets (sets out at x) (at + length x) y) (at + length x + length y) z =
+      sets-append (x ++ y) z out at ∙ (rw (sets-append x y out at, length-append x y, add-assoc at (length x) (length y)))
+      in
+      e₃ ∙ ap (λ (o : List ℕ). sets o j z) (e₂ ∙ ap (λ (o : List ℕ). sets o i y) e₁) ∙ (rw (f₂, f₁)) ∙ sym all
+
+-- The numbers of a term are those of its packed form.
+pub term-packed : (t : Term) (a b c : ℕ) → a ≡ folded (t .a) → b ≡ t .b → c ≡ folded (t .c) → three-packed a b c ≡ pack-term t
+unfolding pack-term
+term-packed t a b c e f g = rw (e, f, g)
+
+-- What the writer answers where there is no room for the bytes, and where there is.
+module _ (bytes : List ℕ) (at : ℕ) (out : List ℕ) where
+  pub put-full : (n : ℕ) → n ≡ length bytes → length out < at + n
+      → (NoRoom n ≡ put-bytes-answer bytes at out) × (out ≡ put-bytes bytes at out)
   unfolding fits put-bytes
-  put-full n e h =
-      let f = lt-leb (at + length (pack-term t)) (length out) (omega (arith, ap (λ (k : ℕ). at + k) e)) in (rw (f, e), rw f)
+  put-full n e h = let f = lt-leb (at + length bytes) (length out) (omega (arith, ap (λ (k : ℕ). at + k) e)) in (rw (f, e), rw f)
 
-  pub put-three : (n : ℕ) → n ≡ at + length (pack-term t) → at + length (pack-term t) ≤ length out
-      → (Next n ≡ cond (fits (pack-term t) at out) (Next (at + length (pack-term t))) (NoRoom (length (pack-term t))))
-  unfolding fits
-  put-three n e h = rw (le-leb (at + length (pack-term t)) (length out) h, e)
-
-  pub stored-three : (o1 o2 o3 : List ℕ) (i j : ℕ) → at + length (pack-term t) ≤ length out
-      → o1 ≡ sets out at (encode (folded (t .a))) → i ≡ at + length (encode (folded (t .a)))
-      → o2 ≡ sets o1 i (encode (t .b)) → j ≡ i + length (encode (t .b))
-      → o3 ≡ sets o2 j (encode (folded (t .c))) → o3 ≡ put-bytes (pack-term t) at out
-  unfolding fits put-bytes pack-term
-  stored-three o1 o2 o3 i j h e1 f1 e2 f2 e3 =
-      rw (le-leb (at + length (pack-term t)) (length out) h)
-      (e3 ∙ ap (λ (o : List ℕ). sets o j (encode (folded (t .c)))) (e2 ∙ ap (λ (o : List ℕ). sets o i (encode (t .b))) e1)
-      ∙ (rw (f2, f1))
-      ∙ sym (three (encode (folded (t .a))) (encode (t .b)) (encode (folded (t .c)))))
-    where
-      three : (x y z : List ℕ) → sets out at (x ++ y ++ z) ≡ sets (sets (sets out at x) (at + length x) y) (at + length x + length y) z
-      three x y z = sets-append (x ++ y) z out at ∙ (rw (sets-append x y out at, length-append x y, add-assoc at (length x) (length y)))
+  pub put-next : (n : ℕ) (after : List ℕ) → at + length bytes ≤ length out → n ≡ at + length bytes → after ≡ sets out at bytes
+      → (Next n ≡ put-bytes-answer bytes at out) × (after ≡ put-bytes bytes at out)
+  unfolding fits put-bytes
+  put-next n after h e w = let f = le-leb (at + length bytes) (length out) h in (rw (f, e), rw (f, w))

@@ -1,6 +1,5 @@
--- Document 01, "Series, as text and packed": a text as lines. "A count line has 1 to 4 digits. A term line has optional spaces, then three
--- decimals parted by one or more spaces. A decimal is an optional minus, 1 to 6 digits, a point, 11 digits. No needless leading zero, no
--- minus before zero. Each line ends in one line feed; nothing else is allowed." proofs/Theorems.antt shows that the reader takes these texts.
+-- The texts of a series (RULES, "Series, as text and packed"): bytes, numbers, lines, blocks, and the limits that a text keeps.
+-- proofs/Theorems.antt shows that the reader takes exactly these texts.
 use mathlib.Core.Path.{_≡_}
 use mathlib.Core.Bool.{Bool, true, false}
 use mathlib.Core.List.{List, [], _∷_, _++_}
@@ -15,24 +14,56 @@ use Rattle.limits.specs.declared.Tally.{Tally}
 use Rattle.limits.specs.Limits.{no-tally, opened, added, factor, count-fits, a-fits, b-fits, c-fits, total-fits, coarse-fits}
 use Rattle.packed.specs.Series.{after-block, pack-term}
 
--- The bytes: line feed, space, minus, point, digits.
+-- ---- Bytes.
+
+-- A line feed ends a line.
 abbrev pub feed : ℕ
 feed = 10
 
-unfoldable pub spaces : ℕ → List ℕ
-spaces zero = []
-spaces (suc n) = 32 ∷ spaces n
+-- A space parts two decimals.
+abbrev pub space : ℕ
+space = 32
 
-unfoldable pub sign : Bool → List ℕ
-sign true = 45 ∷ []
-sign false = []
+-- A minus stands before the digits of a decimal below zero.
+abbrev pub minus-sign : ℕ
+minus-sign = 45
 
+-- A point stands between the whole digits of a decimal and its parts.
 abbrev pub point : ℕ
 point = 46
 
+-- The digit 0; the other digits follow it in order.
+abbrev pub digit-0 : ℕ
+digit-0 = 48
+
+-- n spaces.
+unfoldable pub spaces : ℕ → List ℕ
+spaces zero = []
+spaces (suc n) = space ∷ spaces n
+
+-- A minus or nothing.
+unfoldable pub sign : Bool → List ℕ
+sign true = minus-sign ∷ []
+sign false = []
+
+-- Digits as bytes.
 unfoldable pub digits : List ℕ → List ℕ
 digits [] = []
-digits (d ∷ ds) = (48 + d) ∷ digits ds
+digits (d ∷ ds) = (digit-0 + d) ∷ digits ds
+
+-- ---- Numbers.
+
+-- A count has at most so many digits.
+abbrev pub count-digits : ℕ
+count-digits = 4
+
+-- A decimal has at most so many digits before its point.
+abbrev pub whole-digits : ℕ
+whole-digits = 6
+
+-- A decimal has exactly so many digits after its point: it is a whole number of parts.
+abbrev pub part-digits : ℕ
+part-digits = 11
 
 -- Each is a digit.
 unfoldable pub AllDigits : List ℕ → Type 0
@@ -44,49 +75,59 @@ unfoldable pub numeral : ℕ → List ℕ → ℕ
 numeral v [] = v
 numeral v (d ∷ ds) = numeral (10 * v + d) ds
 
--- 1 to n digits with no needless leading zero: after a first digit 0 stands none.
+-- 1 to n digits, the first one and more, with no needless leading zero: after a first digit 0 stands none.
 pub record Natural (n first : ℕ) (more : List ℕ) : Type 0 where
   pub digit : first < 10
   pub digits : AllDigits more
   pub few : suc (length more) ≤ n
   pub leading : first ≡ 0 → more ≡ []
 
--- A decimal: an optional minus, whole digits, the point, eleven decimals; its size in parts is the number of all its digits.
+-- A decimal: a minus or none, the whole digits (the first one and more), and the digits after the point.
 pub record Decimal : Type 0 where
   pub minus : Bool
   pub first : ℕ
   pub more : List ℕ
   pub parts : List ℕ
 
+-- The size of a decimal in parts is the number that all its digits write.
 unfoldable pub size : Decimal → ℕ
 size d = numeral (numeral (d .first) (d .more)) (d .parts)
 
+-- The value of a decimal in parts is its size with its sign.
 unfoldable pub value : Decimal → ℤ
 value d = sgn (d .minus) (size d)
 
+-- The bytes of a decimal.
 unfoldable pub decimal : Decimal → List ℕ
 decimal d = sign (d .minus) ++ (digits (d .first ∷ d .more) ++ (point ∷ digits (d .parts)))
 
+-- A decimal as it may stand in a text: with digits in the right number, and no minus before zero.
 pub record GoodDecimal (d : Decimal) : Type 0 where
-  pub whole : Natural 6 (d .first) (d .more)
+  pub whole : Natural whole-digits (d .first) (d .more)
   pub digits : AllDigits (d .parts)
-  pub eleven : length (d .parts) ≡ 11
+  pub eleven : length (d .parts) ≡ part-digits
   pub zero : d .minus ≡ true → 0 < size d
 
--- A count line, and a term line: spaces before a, and after a and b one space and so many more.
+-- ---- Lines, each before its line feed.
+
+-- A count line: its first digit and more.
 pub record CountLine : Type 0 where
   pub first : ℕ
   pub more : List ℕ
 
+-- The count of a count line.
 unfoldable pub count : CountLine → ℕ
 count l = numeral (l .first) (l .more)
 
+-- The bytes of a count line.
 unfoldable pub count-bytes : CountLine → List ℕ
 count-bytes l = digits (l .first ∷ l .more)
 
+-- A count line as it may stand in a text.
 abbrev pub GoodCount : CountLine → Type 0
-GoodCount l = Natural 4 (l .first) (l .more)
+GoodCount l = Natural count-digits (l .first) (l .more)
 
+-- A term line: spaces before a, and after a and after b one space and so many more.
 pub record TermLine : Type 0 where
   pub lead : ℕ
   pub a : Decimal
@@ -95,44 +136,56 @@ pub record TermLine : Type 0 where
   pub after-b : ℕ
   pub c : Decimal
 
+-- The bytes of a term line.
 unfoldable pub term-bytes : TermLine → List ℕ
 term-bytes l =
-    spaces (l .lead) ++ (decimal (l .a) ++ ((32 ∷ spaces (l .after-a)) ++ (decimal (l .b) ++ ((32 ∷ spaces (l .after-b)) ++ decimal (l .c)))))
+    spaces (l .lead) ++ (decimal (l .a)
+    ++ ((space ∷ spaces (l .after-a)) ++ (decimal (l .b)
+    ++ ((space ∷ spaces (l .after-b)) ++ decimal (l .c)))))
 
+-- A term line as it may stand in a text.
 pub record GoodTerm (l : TermLine) : Type 0 where
   pub a : GoodDecimal (l .a)
   pub b : GoodDecimal (l .b)
   pub c : GoodDecimal (l .c)
 
--- The term of a line. (A b below zero is past its limit.)
+-- The term of a term line. (A b below zero is past its limit.)
 abbrev pub term-of-line : TermLine → Term
 term-of-line l = record { a = value (l .a); b = size (l .b); c = value (l .c) }
 
--- Some lines of either kind, each with its line feed; their packed form.
+-- ---- Lines of either kind, as a text that is refused or has not ended leaves them.
+
+-- A line of either kind.
 pub data AnyLine : Type 0 where
   a-count : CountLine → AnyLine
   a-term : TermLine → AnyLine
 
+-- Its bytes before the line feed.
 unfoldable pub line-bytes : AnyLine → List ℕ
 line-bytes (a-count l) = count-bytes l
 line-bytes (a-term l) = term-bytes l
 
+-- Its packed form.
 unfoldable pub line-packed : AnyLine → List ℕ
 line-packed (a-count l) = encode (count l)
 line-packed (a-term l) = pack-term (term-of-line l)
 
+-- It may stand in a text.
 unfoldable pub GoodLine : AnyLine → Type 0
 GoodLine (a-count l) = GoodCount l
 GoodLine (a-term l) = GoodTerm l
 
+-- The bytes of lines, each with its line feed.
 unfoldable pub any-bytes : List AnyLine → List ℕ
 any-bytes [] = []
 any-bytes (l ∷ ls) = line-bytes l ++ (feed ∷ any-bytes ls)
 
+-- The packed form of lines.
 unfoldable pub any-packed : List AnyLine → List ℕ
 any-packed [] = []
 any-packed (l ∷ ls) = line-packed l ++ any-packed ls
 
+-- Each line may stand in a text.
 unfoldable pub GoodLines : List AnyLine → Type 0
 GoodLines [] = Unit {0}
 GoodLines (l ∷ ls) = GoodLine l × GoodLines ls
@@ -142,41 +195,51 @@ unfoldable pub NoFeed : List ℕ → Type 0
 NoFeed [] = Unit {0}
 NoFeed (b ∷ bs) = (b ≡ feed → ⊥) × NoFeed bs
 
--- A block: its count, then that many terms; and 18 of them.
+-- ---- Blocks and texts.
+
+-- A block: a count line, then term lines.
 pub record Block : Type 0 where
   pub head : CountLine
   pub lines : List TermLine
 
+-- The bytes of term lines, each with its line feed.
 unfoldable pub lines-bytes : List TermLine → List ℕ
 lines-bytes [] = []
 lines-bytes (l ∷ ls) = term-bytes l ++ (feed ∷ lines-bytes ls)
 
+-- The bytes of blocks.
 unfoldable pub blocks-bytes : List Block → List ℕ
 blocks-bytes [] = []
 blocks-bytes (k ∷ ks) = count-bytes (k .head) ++ (feed ∷ (lines-bytes (k .lines) ++ blocks-bytes ks))
 
+-- The terms of term lines.
 unfoldable pub terms-of-lines : List TermLine → List Term
 terms-of-lines [] = []
 terms-of-lines (l ∷ ls) = term-of-line l ∷ terms-of-lines ls
 
+-- The terms of each block.
 unfoldable pub blocks-of-lines : List Block → List (List Term)
 blocks-of-lines [] = []
 blocks-of-lines (k ∷ ks) = terms-of-lines (k .lines) ∷ blocks-of-lines ks
 
+-- Each term line may stand in a text.
 unfoldable pub AllGood : List TermLine → Type 0
 AllGood [] = Unit {0}
 AllGood (l ∷ ls) = GoodTerm l × AllGood ls
 
+-- Each block has as many term lines as its count says, and its lines may stand in a text.
 unfoldable pub GoodBlocks : List Block → Type 0
 GoodBlocks [] = Unit {0}
 GoodBlocks (k ∷ ks) = GoodCount (k .head) × (length (k .lines) ≡ count (k .head)) × AllGood (k .lines) × GoodBlocks ks
 
--- A text of a series.
+-- The blocks of a text of a series: all of them, and nothing more.
 pub record GoodText (ks : List Block) : Type 0 where
   pub eighteen : length ks ≡ block-count
   pub good : GoodBlocks ks
 
--- The limits, judged over the part so far: of each term, in a block with factor f after the tally s, and of each count, of block k.
+-- ---- Limits, judged over the part of the series so far.
+
+-- A term, in a block with factor f after the tally s, passes no limit.
 pub record TermInLimits (f : ℕ) (s : Tally) (l : TermLine) : Type 0 where
   pub from-zero : l .b .minus ≡ false
   pub a : a-fits (value (l .a)) ≡ true
@@ -185,10 +248,12 @@ pub record TermInLimits (f : ℕ) (s : Tally) (l : TermLine) : Type 0 where
   pub total : total-fits s (value (l .a)) ≡ true
   pub coarse : coarse-fits f s (value (l .a)) (size (l .b)) (value (l .c)) ≡ true
 
+-- Terms, in a block with factor f after the tally s, pass no limit.
 unfoldable pub TermsInLimits : ℕ → Tally → List TermLine → Type 0
 TermsInLimits f s [] = Unit {0}
 TermsInLimits f s (l ∷ ls) = TermInLimits f s l × TermsInLimits f (added f s (term-of-line l)) ls
 
+-- Blocks, the first of them block k after the tally s, pass no limit.
 unfoldable pub BlocksInLimits : ℕ → Tally → List Block → Type 0
 BlocksInLimits k s [] = Unit {0}
 BlocksInLimits k s (b ∷ bs) =
@@ -196,5 +261,6 @@ BlocksInLimits k s (b ∷ bs) =
     × TermsInLimits (factor k) (opened k (count (b .head)) s) (b .lines)
     × BlocksInLimits (k + 1) (after-block k s (terms-of-lines (b .lines))) bs
 
+-- A text passes no limit.
 abbrev pub InLimits : List Block → Type 0
 InLimits ks = BlocksInLimits 0 no-tally ks

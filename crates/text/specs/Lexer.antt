@@ -1,56 +1,65 @@
--- Document 01, "Series, as text and packed", the text: one line, read a byte at a time. A count line has 1 to 4 digits. A term line has
--- optional spaces, then three decimals parted by one or more spaces. A decimal is an optional minus, 1 to 6 digits, a point, 11 digits.
--- No needless leading zero, no minus before zero. Nothing else is allowed.
+-- One line of a text (RULES, "Series, as text and packed"), read a byte at a time: what has come of it, and which bytes may go on.
+-- Grammar.antt says what whole lines are; proofs/Theorems.antt, that a byte goes on exactly where a line of the grammar does.
 use mathlib.Core.Bool.{Bool, true, false, cond}
 use mathlib.Core.List.{List, [], _∷_}
 use Prim.Native.Nat.{ℕ, _+_, _*_, _-_}
 use lib.Dec.{leb, ltb, eqb}
 use Rattle.text.specs.declared.Line.{Line}
+use Rattle.text.specs.Grammar.{space, minus-sign, point, digit-0, count-digits, whole-digits, part-digits}
 
--- Where the next byte of a line stands: before a decimal 0, after n of its whole digits n, after its point and n decimals 7 + n; before a
--- count 20, after n of its digits 20 + n; after block 18 30; and 31 for a byte that cannot continue the line.
+-- Where the next byte of a line stands: before a decimal.
 abbrev pub spot-decimal : ℕ
 spot-decimal = 0
 
+-- After n of its whole digits it is n; after its point this, and after n of its parts n more.
 abbrev pub spot-point : ℕ
-spot-point = 7
+spot-point = whole-digits + 1
 
+-- After a whole decimal.
 abbrev pub spot-done : ℕ
-spot-done = 18
+spot-done = spot-point + part-digits
 
+-- Before a count; after n of its digits it is n more.
 abbrev pub spot-count : ℕ
 spot-count = 20
 
+-- After block 18.
 abbrev pub spot-after : ℕ
 spot-after = 30
 
+-- After a byte that cannot continue the line.
 abbrev pub spot-bad : ℕ
 spot-bad = 31
 
--- A line of which nothing is read, and one that cannot be.
+-- No line has a number of so many parts; a state that no call gave may.
+abbrev pub value-limit : ℕ
+value-limit = 1000000000000000000
+
+-- A line of which nothing is read.
 abbrev pub fresh : ℕ → Line
 fresh spot = record { spot = spot; field = 0; minus = 0; value = 0; minusa = 0; a = 0; minusb = 0; b = 0 }
 
+-- A line with a byte that cannot stand in it.
 abbrev pub bad : Line
 bad = fresh spot-bad
 
--- A digit that may not follow a leading zero, and no zero may end a minus before zero.
+-- A digit that stands first, or after a number that is not 0.
 unfoldable pub whole-digit : Bool → ℕ → Bool
 whole-digit first value = cond first true (ltb 0 value)
 
--- A digit d goes on: no seventh whole digit and no fifth of a count, none after a leading zero, and no last zero of a minus before zero.
--- (A value of 10^18 stands in no line.)
+-- A digit d goes on: no whole digit and none of a count too many, none after a leading zero, and no last zero of a minus before zero.
 unfoldable pub takes-digit : ℕ → ℕ → ℕ → ℕ → Bool
 takes-digit spot minus value d =
-    cond (leb 1000000000000000000 value) false
-    (cond (ltb spot 6) (whole-digit (eqb spot 0) value)
-    (cond (ltb spot 7) false
-    (cond (ltb spot 17) true
-    (cond (ltb spot 18) (whole-digit (eqb minus 0) (value + d))
-    (cond (ltb spot 20) false
-    (cond (ltb spot 24) (whole-digit (eqb spot 20) value)
+    cond (leb value-limit value) false
+    (cond (ltb spot whole-digits) (whole-digit (eqb spot spot-decimal) value)
+    (cond (ltb spot spot-point) false
+    (cond (ltb spot (spot-done - 1)) true
+    (cond (ltb spot spot-done) (whole-digit (eqb minus 0) (value + d))
+    (cond (ltb spot spot-count) false
+    (cond (ltb spot (spot-count + count-digits)) (whole-digit (eqb spot spot-count) value)
     false))))))
 
+-- A digit.
 unfoldable pub with-digit : Line → ℕ → Line
 with-digit l d =
     cond (takes-digit (l .spot) (l .minus) (l .value) d)
@@ -66,11 +75,11 @@ with-digit l d =
     }
     bad
 
--- A point, after 1 to 6 whole digits.
+-- A point, after whole digits.
 unfoldable pub with-point : Line → Line
 with-point l =
     cond (leb 1 (l .spot))
-    (cond (leb (l .spot) 6)
+    (cond (leb (l .spot) whole-digits)
     record {
       spot = spot-point;
       field = l .field;
@@ -124,21 +133,22 @@ with-minus l =
 -- One byte of a line before its line feed.
 unfoldable pub lex : Line → ℕ → Line
 lex l byte =
-    cond (ltb byte 48)
-    (cond (eqb byte 46) (with-point l)
-    (cond (eqb byte 32) (with-space l)
-    (cond (eqb byte 45) (with-minus l)
+    cond (ltb byte digit-0)
+    (cond (eqb byte point) (with-point l)
+    (cond (eqb byte space) (with-space l)
+    (cond (eqb byte minus-sign) (with-minus l)
     bad)))
-    (cond (ltb byte 58) (with-digit l (byte - 48)) bad)
+    (cond (ltb byte (digit-0 + 10)) (with-digit l (byte - digit-0)) bad)
 
 -- The bytes of a line before its line feed.
 unfoldable pub lexes : Line → List ℕ → Line
 lexes l [] = l
 lexes l (byte ∷ bytes) = lexes (lex l byte) bytes
 
--- The line feed may come: after a count's digits, or after the third decimal.
+-- The line feed may come after the digits of a count.
 unfoldable pub whole-count : Line → Bool
-whole-count l = cond (ltb 20 (l .spot)) (ltb (l .spot) 25) false
+whole-count l = cond (ltb spot-count (l .spot)) (ltb (l .spot) (spot-count + count-digits + 1)) false
 
+-- And after the third decimal.
 unfoldable pub whole-term : Line → Bool
 whole-term l = cond (eqb (l .spot) spot-done) (eqb (l .field) 2) false

@@ -1,5 +1,5 @@
--- Document 01, "Series, as text and packed" and "Refusals": the reader of a text. A call folds the step of one byte over its bytes, so how
--- the text is cut into calls cannot matter.
+-- The reader of a text (RULES, "Series, as text and packed" and "Refusals and what they leave"). A call folds the step of one byte over
+-- its bytes, so how the text is cut into calls cannot matter.
 use mathlib.Core.Bool.{Bool, cond}
 use mathlib.Core.List.{List, [], _∷_}
 use Prim.Native.Nat.{ℕ, _+_}
@@ -15,12 +15,14 @@ use Rattle.text.specs.declared.Reader.{Reader}
 use Rattle.text.specs.declared.Outcome.{Outcome}
 use Rattle.text.specs.declared.Outcome.the-variants.{More, Accepted, Refused}
 use Rattle.text.specs.Lexer.{fresh, lex, spot-decimal, spot-count, spot-after, spot-bad}
+use Rattle.text.specs.Grammar.{feed}
 use Rattle.text.specs.Judge.{Verdict, verdict}
 
--- The status of a reader: it reads, it has accepted the text at its end, or it has refused it, with the refusal's number.
+-- The status of a reader that reads on.
 abbrev pub reading : ℕ
 reading = 0
 
+-- The status of one that has accepted the text at its end. After a refusal it is the refusal's number.
 abbrev pub accepted : ℕ
 accepted = 1
 
@@ -92,22 +94,26 @@ advanced r written blocks left s =
       place = 0;
     }
 
+-- After a line that was judged and written.
 abbrev pub after-line : Reader → Verdict → Reader
 after-line r v = advanced r (r .written + length (v .bytes)) (v .blocks) (v .left) (v .tally)
 
--- The writer, after the judgement of a line: 7 where its bytes do not fit.
+-- There is room for a line's bytes.
 unfoldable pub fits : List ℕ → ℕ → List ℕ → Bool
 fits bytes written out = leb (written + length bytes) (length out)
 
+-- The reader after the judgement of a line: 7 where its bytes do not fit.
 unfoldable pub wrote : Reader → List ℕ → Verdict → Reader
 wrote r out v =
     cond (eqb (v .refusal) 0)
     (cond (fits (v .bytes) (r .written) out) (after-line r v) (stopped r 7))
     (stopped r (v .refusal))
 
+-- The output with the bytes, where there is room for them.
 unfoldable pub put-bytes : List ℕ → ℕ → List ℕ → List ℕ
 put-bytes bytes written out = cond (fits bytes written out) (sets out written bytes) out
 
+-- The output after the judgement of a line.
 unfoldable pub wrote-out : Reader → List ℕ → Verdict → List ℕ
 wrote-out r out v = cond (eqb (v .refusal) 0) (put-bytes (v .bytes) (r .written) out) out
 
@@ -115,32 +121,38 @@ wrote-out r out v = cond (eqb (v .refusal) 0) (put-bytes (v .bytes) (r .written)
 unfoldable pub other : Reader → ℕ → Reader
 other r byte = cond (eqb (lex (r .line) byte .spot) spot-bad) (stopped r 3) (further-in-line r (lex (r .line) byte))
 
--- Undecided by document 01: one more byte than a usize counts. The reader then stops.
-unfoldable pub uncounted : Reader → Bool
-uncounted r = eqb (r .at) 18446744073709551615
+-- The greatest number of a usize.
+abbrev pub last-offset : ℕ
+last-offset = 18446744073709551615
 
--- One byte: the reader and the output after it. A reader that has stopped stays as it is; any byte after block 18 is 9.
+-- The rules leave undecided what comes of one more byte than a usize counts. The reader then stops.
+unfoldable pub uncounted : Reader → Bool
+uncounted r = eqb (r .at) last-offset
+
+-- The reader after one byte. One that has stopped stays as it is; any byte after block 18 is 9.
 unfoldable pub step : Reader → List ℕ → ℕ → Reader
 step r out byte =
     cond (eqb (r .status) reading)
     (cond (uncounted r) (stopped r 3)
     (cond (eqb (r .line .spot) spot-after) (stopped r 9)
-    (cond (eqb byte 10) (wrote r out (verdict r)) (other r byte))))
+    (cond (eqb byte feed) (wrote r out (verdict r)) (other r byte))))
     r
 
+-- The output after one byte.
 unfoldable pub step-out : Reader → List ℕ → ℕ → List ℕ
 step-out r out byte =
     cond (eqb (r .status) reading)
     (cond (uncounted r) out
     (cond (eqb (r .line .spot) spot-after) out
-    (cond (eqb byte 10) (wrote-out r out (verdict r)) out)))
+    (cond (eqb byte feed) (wrote-out r out (verdict r)) out)))
     out
 
--- A call: reader and output after its bytes.
+-- What a call leaves: the reader and the output.
 pub record Run : Type 0 where
   pub reader : Reader
   pub out : List ℕ
 
+-- A call, with its bytes.
 unfoldable pub run : Reader → List ℕ → List ℕ → Run
 run r out [] = record { reader = r; out = out }
 run r out (byte ∷ bytes) = run (step r out byte) (step-out r out byte) bytes
@@ -149,7 +161,7 @@ run r out (byte ∷ bytes) = run (step r out byte) (step-out r out byte) bytes
 unfoldable pub ended : Reader → Reader
 ended r = cond (eqb (r .status) reading) (stopped r (cond (eqb (r .line .spot) spot-after) accepted 8)) r
 
--- What stands: more may come, with the packed length so far; or the answer, which later calls repeat.
+-- The refusal of a status, with its place.
 unfoldable pub refusal : ℕ → ℕ → Refusal
 refusal status place =
     cond (eqb status 4) (OverLimit place)
@@ -160,6 +172,7 @@ refusal status place =
     (cond (eqb status 9) (ByteAfterEnd place)
     (BadByte place))))))
 
+-- What stands: more may come, with the packed length so far; or the answer, which later calls repeat.
 unfoldable pub told : Reader → Outcome
 told r =
     cond (eqb (r .status) reading) (More (r .written))

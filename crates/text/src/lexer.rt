@@ -1,9 +1,40 @@
-// One line, a byte at a time.
+// One line of a text, a byte at a time.
 use crate::Line;
 ghost use mathlib.Core.Path.{_≡_};
 ghost use Prim.Native.Nat.{_<_, _-_};
 ghost use Rattle.text.specs.Lexer.{fresh, takes-digit, with-digit, with-point, with-space, with-minus, whole-count, whole-term};
 
+// The digits of a count and of a decimal; specs/Grammar.antt has the same names.
+const COUNT_DIGITS: u64 = 4;
+
+const WHOLE_DIGITS: u64 = 6;
+
+const PART_DIGITS: u64 = 11;
+
+// Where the next byte of a line stands; specs/Lexer.antt has the same names. A digit moves it by one.
+pub const SPOT_DECIMAL: u64 = 0;
+
+const SPOT_POINT: u64 = WHOLE_DIGITS + 1;
+
+const SPOT_DONE: u64 = SPOT_POINT + PART_DIGITS;
+
+pub const SPOT_COUNT: u64 = 20;
+
+pub const SPOT_AFTER: u64 = 30;
+
+pub const SPOT_BAD: u64 = 31;
+
+// Before the last digit of a decimal, after the last digit that a count may have, and past that.
+const SPOT_LAST: u64 = SPOT_DONE - 1;
+
+const SPOT_FULL: u64 = SPOT_COUNT + COUNT_DIGITS;
+
+const SPOT_PAST: u64 = SPOT_FULL + 1;
+
+// A value that no line has: a digit more might not fit.
+const VALUE_LIMIT: u64 = 1000000000000000000;
+
+// A line of which nothing is read.
 pub fn fresh_line(spot: u64) -> Line
     ensures { λ r. ⌜ r ≡ fresh spot ⌝ }
 {
@@ -19,7 +50,7 @@ pub fn fresh_line(spot: u64) -> Line
     }
 }
 
-// A whole digit of a decimal or a digit of a count: the first one, or one after a number that is not 0.
+// A digit that stands first, or after a number that is not 0.
 fn whole_digit(first: bool, value: u64) -> bool
     ensures { λ r. ⌜ r ≡ Rattle.text.specs.Lexer.whole-digit first value ⌝ }
 {
@@ -29,34 +60,36 @@ fn whole_digit(first: bool, value: u64) -> bool
     0 < value
 }
 
+// A digit d goes on.
 fn takes_digit(spot: u64, minus: u64, value: u64, d: u64) -> bool
     requires { ⌜ d < 10 ⌝ }
     ensures { λ r. ⌜ r ≡ takes-digit spot minus value d ⌝ }
 {
-    if 1000000000000000000 <= value {
+    if VALUE_LIMIT <= value {
         return false;
     }
-    if spot < 6 {
-        return whole_digit(spot == 0, value);
+    if spot < WHOLE_DIGITS {
+        return whole_digit(spot == SPOT_DECIMAL, value);
     }
-    if spot < 7 {
+    if spot < SPOT_POINT {
         return false;
     }
-    if spot < 17 {
+    if spot < SPOT_LAST {
         return true;
     }
-    if spot < 18 {
+    if spot < SPOT_DONE {
         return whole_digit(minus == 0, value + d);
     }
-    if spot < 20 {
+    if spot < SPOT_COUNT {
         return false;
     }
-    if spot < 24 {
-        return whole_digit(spot == 20, value);
+    if spot < SPOT_FULL {
+        return whole_digit(spot == SPOT_COUNT, value);
     }
     false
 }
 
+// A digit.
 fn with_digit(l: Line, d: u64) -> Line
     requires { ⌜ d < 10 ⌝ }
     ensures { λ r. ⌜ r ≡ with-digit l d ⌝ }
@@ -73,16 +106,17 @@ fn with_digit(l: Line, d: u64) -> Line
             b: l.b,
         };
     }
-    fresh_line(31)
+    fresh_line(SPOT_BAD)
 }
 
+// A point, after whole digits.
 fn with_point(l: Line) -> Line
     ensures { λ r. ⌜ r ≡ with-point l ⌝ }
 {
     if 1 <= l.spot {
-        if l.spot <= 6 {
+        if l.spot <= WHOLE_DIGITS {
             return Line {
-                spot: 7,
+                spot: SPOT_POINT,
                 field: l.field,
                 minus: l.minus,
                 value: l.value,
@@ -92,24 +126,25 @@ fn with_point(l: Line) -> Line
                 b: l.b,
             };
         }
-        return fresh_line(31);
+        return fresh_line(SPOT_BAD);
     }
-    fresh_line(31)
+    fresh_line(SPOT_BAD)
 }
 
+// A space, before a decimal, or after the first or the second, which then is kept.
 fn with_space(l: Line) -> Line
     ensures { λ r. ⌜ r ≡ with-space l ⌝ }
 {
-    if l.spot == 0 {
+    if l.spot == SPOT_DECIMAL {
         if l.minus == 0 {
             return l;
         }
-        return fresh_line(31);
+        return fresh_line(SPOT_BAD);
     }
-    if l.spot == 18 {
+    if l.spot == SPOT_DONE {
         if l.field < 2 {
             return Line {
-                spot: 0,
+                spot: SPOT_DECIMAL,
                 field: l.field + 1,
                 minus: 0,
                 value: 0,
@@ -119,18 +154,19 @@ fn with_space(l: Line) -> Line
                 b: l.value,
             };
         }
-        return fresh_line(31);
+        return fresh_line(SPOT_BAD);
     }
-    fresh_line(31)
+    fresh_line(SPOT_BAD)
 }
 
+// A minus, before a decimal.
 fn with_minus(l: Line) -> Line
     ensures { λ r. ⌜ r ≡ with-minus l ⌝ }
 {
-    if l.spot == 0 {
+    if l.spot == SPOT_DECIMAL {
         if l.minus == 0 {
             return Line {
-                spot: 0,
+                spot: SPOT_DECIMAL,
                 field: l.field,
                 minus: 1,
                 value: l.value,
@@ -140,47 +176,48 @@ fn with_minus(l: Line) -> Line
                 b: l.b,
             };
         }
-        return fresh_line(31);
+        return fresh_line(SPOT_BAD);
     }
-    fresh_line(31)
+    fresh_line(SPOT_BAD)
 }
 
 // One byte of a line before its line feed.
 pub fn lex(l: Line, byte: u8) -> Line
     ensures { λ r. ⌜ r ≡ Rattle.text.specs.Lexer.lex l byte ⌝ }
 {
-    if byte < 48 {
-        if byte == 46 {
+    if byte < b'0' {
+        if byte == b'.' {
             return with_point(l);
         }
-        if byte == 32 {
+        if byte == b' ' {
             return with_space(l);
         }
-        if byte == 45 {
+        if byte == b'-' {
             return with_minus(l);
         }
-        return fresh_line(31);
+        return fresh_line(SPOT_BAD);
     }
-    if byte < 58 {
-        return with_digit(l, (byte as u64) - 48);
+    if byte <= b'9' {
+        return with_digit(l, (byte - b'0') as u64);
     }
-    fresh_line(31)
+    fresh_line(SPOT_BAD)
 }
 
-// The line feed may come.
+// The line feed may come after the digits of a count.
 pub fn whole_count(l: Line) -> bool
     ensures { λ r. ⌜ r ≡ whole-count l ⌝ }
 {
-    if 20 < l.spot {
-        return l.spot < 25;
+    if SPOT_COUNT < l.spot {
+        return l.spot < SPOT_PAST;
     }
     false
 }
 
+// And after the third decimal.
 pub fn whole_term(l: Line) -> bool
     ensures { λ r. ⌜ r ≡ whole-term l ⌝ }
 {
-    if l.spot == 18 {
+    if l.spot == SPOT_DONE {
         return l.field == 2;
     }
     false

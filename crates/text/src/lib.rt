@@ -1,5 +1,5 @@
-// The reader of series texts (document 01, "Series, as text and packed"): a text comes in pieces, all with one output buffer, and its
-// packed form is written there line by line.
+// The reader of series texts (RULES, "Series, as text and packed"): a text comes in pieces, all with one output buffer, and its packed form
+// is written there line by line.
 mod judge;
 mod lexer;
 mod steps;
@@ -8,9 +8,15 @@ mod writer;
 use crate::steps::close;
 use crate::steps::refusal_of;
 use crate::steps::take_byte;
+use units::COARSE_BASE;
 use units::Refusal;
 ghost use mathlib.Core.Path.{_≡_};
 ghost use Rattle.text.specs.Reader.{begun, run, ended, told, whole};
+
+// The status of a reader: it reads on, or has accepted the text; after a refusal it is the refusal's number.
+const READING: u64 = 0;
+
+const ACCEPTED: u64 = 1;
 
 // A line as far as it is read: where the next byte stands (specs/Lexer.antt), how many decimals stand before this one, the decimal or
 // count so far, with 1 for a minus, and the two decimals before it, in parts.
@@ -27,8 +33,7 @@ pub struct Line {
 }
 
 // What a reader has of the text so far: the line, the bytes read and written, the counts that have come, the terms that are left of the
-// block, the tally so far (limits::Tally), and the status with its place: 0 while it reads, 1 for a text that was accepted, else the
-// refusal's number.
+// block, the tally so far (limits::Tally), and the status with its place.
 #[repr(C)]
 pub struct Reader {
     pub line: Line,
@@ -51,10 +56,11 @@ pub enum Outcome {
     Refused(Refusal),
 }
 
+// The reader before the first byte.
 pub fn start() -> Reader
     ensures { λ r. ⌜ r ≡ begun ⌝ }
 {
-    let l = lexer::fresh_line(20);
+    let l = lexer::fresh_line(lexer::SPOT_COUNT);
     Reader {
         line: l,
         at: 0,
@@ -63,8 +69,8 @@ pub fn start() -> Reader
         left: 0,
         terms: 0,
         total: 0,
-        coarse: 32000000000,
-        status: 0,
+        coarse: COARSE_BASE,
+        status: READING,
         place: 0,
     }
 }
@@ -93,10 +99,10 @@ pub fn end(r: Reader, out: &mut [u8]) -> Reader
 pub fn answer(r: Reader) -> Outcome
     ensures { λ a. ⌜ a ≡ told r ⌝ }
 {
-    if r.status == 0 {
+    if r.status == READING {
         return Outcome::More(r.written);
     }
-    if r.status == 1 {
+    if r.status == ACCEPTED {
         return Outcome::Accepted(r.written);
     }
     let refusal = refusal_of(r.status, r.place);
@@ -105,7 +111,8 @@ pub fn answer(r: Reader) -> Outcome
 
 // The whole text in one call, and its end.
 pub fn read(text: &[u8], out: &mut [u8]) -> Outcome
-    ensures { λ a. ⌜ (a ≡ told (whole (now (text .entry)) (now (out .entry)) .reader)) × (now (out .exit) ≡ whole (now (text .entry)) (now (out .entry)) .out) ⌝ }
+    ensures { λ a. ⌜ (a ≡ told (whole (now (text .entry)) (now (out .entry)) .reader))
+        × (now (out .exit) ≡ whole (now (text .entry)) (now (out .entry)) .out) ⌝ }
 {
     let r = piece(start(), text, out);
     answer(end(r, out))

@@ -22,7 +22,8 @@ byte-at-requires-2 : tie.Need-byte-at-requires-2
 byte-at-requires-2 c κs = search needs
 
 -- The two bytes that are read.
-ahead : (c : tie.After-byte-at2) → Ahead (c .before .before .before .args .s .now) (c .before .before .before .args .at) (c .before .before .before .args .k) (c .before .before .before .args .sum) (c .before .before .before .args .scale) (c .before .byte-at .result) (c .byte-at2 .result)
+ahead : (c : tie.After-byte-at2) → let a = c .before .before .before .args in
+    Ahead (a .s .now) (a .at) (a .k) (a .sum) (a .scale) (c .before .byte-at .result) (c .byte-at2 .result)
 ahead c =
     let p = c .before .before .before .pre in
     let x = c .before .byte-at .ensures in
@@ -66,7 +67,8 @@ add-t19 : tie.Need-add-t19
 add-t19 c = search needs
 
 returns-2 : tie.Need-returns-2
-returns-2 c e = x-last (ahead (c .before .before)) (c .before .before .before .before .before .pre .2) (c .before .if1 .taken) (c .if2 .left)
+returns-2 c e =
+    let w = c .before .before in x-last (ahead w) (w .before .before .before .pre .2) (c .before .if1 .taken) (c .if2 .left)
 
 returns-3 : tie.Need-returns-3
 returns-3 c = unusual
@@ -82,8 +84,9 @@ add-t14 c = omega (arith, sizes (ahead (c .before .before .before)))
 
 sub-t20 : tie.Need-sub-t20
 sub-t20 c =
-    let h = ahead (c .before .before .before) in
-    omega (arith, sizes h, h .begun .above, mul-le-mul-right (c .before .before .before .before .before .before .args .scale) (c .before .before .if1 .left))
+    let w = c .before .before .before in
+    let h = ahead w in
+    omega (arith, sizes h, h .begun .above, mul-le-mul-right (w .before .before .before .args .scale) (c .before .before .if1 .left))
 
 add-t11 : tie.Need-add-t11
 add-t11 c = search needs
@@ -92,7 +95,9 @@ add-t12 : tie.Need-add-t12
 add-t12 c = search needs
 
 returns-5 : tie.Need-returns-5
-returns-5 c e = y-last (ahead (c .before .before .before)) (c .before .before .before .before .before .before .pre .2) (c .before .before .if1 .left) (c .if4 .left) (c .before .if3 .left)
+returns-5 c e =
+    let w = c .before .before .before in
+    y-last (ahead w) (w .before .before .before .pre .2) (c .before .before .if1 .left) (c .if4 .left) (c .before .if3 .left)
 
 pub end-soon-spec : {M : Type 1} → statement M
 end-soon-spec =

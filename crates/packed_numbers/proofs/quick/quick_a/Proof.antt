@@ -22,9 +22,10 @@ returns c e =
 end-soon-requires : tie.Need-end-soon-requires
 unfolding tops
 end-soon-requires c κs =
-    let a = c .before .before .before .args in
+    let s = c .before .before .before in
+    let a = s .args in
     let x = c .before .byte-at in
-    (first-begun (a .s .now) (a .at) (x .result) (x .ensures .0) (omega arith) (c .if1 .left) (x .ensures .1), refl, refl, omega arith, c .before .before .before .pre)
+    (first-begun (a .s .now) (a .at) (x .result) (x .ensures .0) (omega arith) (c .if1 .left) (x .ensures .1), refl, refl, omega arith, s .pre)
 
 returns-2 : tie.Need-returns-2
 returns-2 c = search needs

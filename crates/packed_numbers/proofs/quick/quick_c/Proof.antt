@@ -22,7 +22,9 @@ returns-2 c = unusual
 
 end-soon-requires : tie.Need-end-soon-requires
 unfolding tops
-end-soon-requires c κs = (c .before .before .two-more .ensures (not-false _ (c .if2 .left)), refl, refl, omega arith, c .before .before .before .before .before .before .before .pre)
+end-soon-requires c κs =
+    let w = c .before .before in
+    (w .two-more .ensures (not-false _ (c .if2 .left)), refl, refl, omega arith, w .before .before .before .before .before .pre)
 
 returns-3 : tie.Need-returns-3
 returns-3 c = search needs

@@ -28,20 +28,26 @@ returns-4 : tie.Need-returns-4
 returns-4 c = unusual
 
 quick-c-requires : tie.Need-quick-c-requires
-quick-c-requires c κs = omega (arith, c .before .before .before .before .before .quick-a .ensures (not-false _ (c .before .before .before .if3 .left)) .near, c .before .before .quick-b .ensures (not-false _ (c .if4 .left)) .near)
+quick-c-requires c κs =
+    let b = c .before .before in
+    let a-usual = b .before in
+    let a = a-usual .before .before in
+    omega (arith, a .quick-a .ensures (not-false _ (a-usual .if3 .left)) .near, b .quick-b .ensures (not-false _ (c .if4 .left)) .near)
 
 returns-5 : tie.Need-returns-5
 returns-5 c = unusual
 
 returns-6 : tie.Need-returns-6
 returns-6 c e =
-    let qa = c .before .before .before .before .before .before .before .before .quick-a in
-    let qb = c .before .before .before .before .before .quick-b in
+    let b-usual = c .before .before .before in
+    let a-usual = b-usual .before .before .before in
+    let qa = a-usual .before .before .quick-a in
+    let qb = b-usual .before .before .quick-b in
     record {
       at-b = qa .result .to;
       at-c = qb .result .to;
-      read-a = qa .ensures (not-false _ (c .before .before .before .before .before .before .if3 .left)) .read;
-      read-b = qb .ensures (not-false _ (c .before .before .before .if4 .left)) .read;
+      read-a = qa .ensures (not-false _ (a-usual .if3 .left)) .read;
+      read-b = qb .ensures (not-false _ (b-usual .if4 .left)) .read;
       read-c = c .before .before .quick-c .ensures (not-false _ (c .if5 .left)) .read;
     }
 

@@ -21,7 +21,8 @@ byte-at-requires-2 : tie.Need-byte-at-requires-2
 byte-at-requires-2 c κs = search needs
 
 -- The two bytes that are read.
-ahead : (c : tie.After-byte-at2) → Ahead (c .before .before .before .args .s .now) (c .before .before .before .args .at) (c .before .before .before .args .k) (c .before .before .before .args .sum) (c .before .before .before .args .scale) (c .before .byte-at .result) (c .byte-at2 .result)
+ahead : (c : tie.After-byte-at2) → let a = c .before .before .before .args in
+    Ahead (a .s .now) (a .at) (a .k) (a .sum) (a .scale) (c .before .byte-at .result) (c .byte-at2 .result)
 ahead c =
     let p = c .before .before .before .pre in
     let x = c .before .byte-at .ensures in

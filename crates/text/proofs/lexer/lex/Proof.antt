@@ -53,8 +53,8 @@ returns-4 c =
       ne-eqb (a .byte) 45 (λ e. omega (arith, e)),
     )
 
-sub-with-digit : tie.Need-sub-with-digit
-sub-with-digit c = search needs
+cast-with-digit : tie.Need-cast-with-digit
+cast-with-digit c = search needs
 
 with-digit-requires : tie.Need-with-digit-requires
 with-digit-requires c κs = search needs
@@ -84,7 +84,7 @@ lex-spec =
     returns-3
     fresh-line-requires
     returns-4
-    sub-with-digit
+    cast-with-digit
     with-digit-requires
     returns-5
     fresh-line-requires-2
