@@ -1,5 +1,5 @@
 pub mod Digits
-pub mod Judging
+pub mod LineLimits
 pub mod Writing
 pub mod Stepping
 pub mod Lexing

@@ -9,8 +9,8 @@ use lib.ListN.{length, length-append}
 use lib.Seq.{sets, length-sets}
 use Rattle.packed_numbers.specs.Numbers.{encode}
 use Rattle.limits.specs.declared.Tally.{Tally}
-use Rattle.limits.specs.Limits.{opened, added, factor, count-fits}
-use Rattle.packed.specs.Series.{summed, after-block, pack-term, pack-terms, pack-block, pack}
+use Rattle.limits.specs.Limits.{opened, added, summed, after-block, factor, count-fits}
+use Rattle.packed.specs.Series.{pack-term, pack-terms, pack-block, pack}
 use Rattle.text.specs.declared.Line.{Line}
 use Rattle.text.specs.declared.Reader.{Reader}
 use Rattle.text.specs.Lexer.{fresh, lexes}
@@ -84,7 +84,7 @@ terms-run (t ∷ ls) at w k s out ys g l c h =
     let y = pack-terms (terms-of-lines ls) in
     let m = length (term-bytes t) in
     let p : length (term-bytes t ++ (10 ∷ lines-bytes ls)) ≡ m + suc (length (lines-bytes ls)) =
-        length-append (term-bytes t) (10 ∷ lines-bytes ls)
+    length-append (term-bytes t) (10 ∷ lines-bytes ls)
     in
     let q : length (x ++ y) ≡ length x + length y = length-append x y in
     let z = length-sets out w x in
@@ -140,11 +140,11 @@ blocks-run (b ∷ bs) at w k s out g l e c h =
     let s₁ = opened k n s in
     let f : length (terms-of-lines ls) ≡ n = length-terms ls ∙ g .1 in
     let p : length (count-bytes (b .head) ++ (10 ∷ (lines-bytes ls ++ blocks-bytes bs))) ≡ m + suc (u + v) =
-        length-append (count-bytes (b .head)) (10 ∷ (lines-bytes ls ++ blocks-bytes bs))
-        ∙ ap (λ (i : ℕ). m + suc i) (length-append (lines-bytes ls) (blocks-bytes bs))
+    length-append (count-bytes (b .head)) (10 ∷ (lines-bytes ls ++ blocks-bytes bs))
+    ∙ ap (λ (i : ℕ). m + suc i) (length-append (lines-bytes ls) (blocks-bytes bs))
     in
     let q : length ((x ++ y) ++ z) ≡ length x + length y + length z =
-        length-append (x ++ y) z ∙ ap (λ (i : ℕ). i + length z) (length-append x y)
+    length-append (x ++ y) z ∙ ap (λ (i : ℕ). i + length z) (length-append x y)
     in
     let h′ : w + length ((x ++ y) ++ z) ≤ length out = rw f at h in
     let o₁ = length-sets out w x in

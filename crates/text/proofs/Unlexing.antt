@@ -10,7 +10,7 @@ use lib.Dec.{leb, ltb, eqb}
 use Rattle.text.specs.declared.Line.{Line}
 use Rattle.text.specs.Lexer.{value-limit, bad, whole-digit, takes-digit, with-digit, with-point, with-space, with-minus, lex, lexes}
 use Rattle.text.specs.Lexer.{whole-count, whole-term}
-use Rattle.text.proofs.Judging.{by-cases}
+use Rattle.integers.proofs.Tests.{by-cases}
 use Rattle.text.proofs.Digits.{small, early}
 use Rattle.text.proofs.Lexing.{put, keep}
 
