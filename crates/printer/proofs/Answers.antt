@@ -4,7 +4,6 @@ use mathlib.Core.List.{List}
 use Prim.Native.Nat.{ℕ, _+_, _≤_, _<_}
 use native.Mathlib.Omega.{arith}
 use borrow.Author.Tests.{lt-leb, le-leb}
-use lib.IntN.{ℤ}
 use lib.ListN.{length}
 use Rattle.units.specs.declared.Refusal.{Refusal}
 use Rattle.units.specs.declared.Refusal.the-variants.{NoRoom}
@@ -13,12 +12,12 @@ use Rattle.packed.specs.declared.Checked.the-variants.{NoSeries}
 use Rattle.units.specs.Units.{series-limit}
 use Rattle.packed.specs.Series.{Parsed, accepted, refused, parse, checked}
 use Rattle.limits.specs.Allowed.{term-count}
-use Rattle.packed.specs.machine.Tables.{table-blocks, unpacked}
+use Rattle.packed.specs.machine.Table.{ends, table-blocks, unpacked}
 use Rattle.packed.proofs.Theorems.{accepted-allowed}
 use Rattle.printer.specs.declared.Printed.the-variants.{Length, NoText}
 use Rattle.printer.specs.Printer.{plain-text, text-fits, printed, printed-out}
 use Rattle.printer.specs.machine.Writing.{Wrote, Ordered}
-use Rattle.printer.proofs.Tables.{ends-ordered}
+use Rattle.printer.proofs.TableText.{ends-ordered}
 
 -- The text fits, or not.
 module _ (blocks : List (List Term)) (out : List ℕ) (n : ℕ) (e : n ≡ length (plain-text blocks)) where
@@ -40,15 +39,15 @@ print-refused s out q e = go (parse s) e
     go (refused r) e = let p : r ≡ q = cc in (rw p, refl)
 
 -- An accepted series, and its table.
-pub record Opened (s : List ℕ) (la : List ℤ) (lb : List ℕ) (lc : List ℤ) (ends : List ℕ) : Type 0 where
-  pub is : parse s ≡ accepted (table-blocks la lb lc ends)
-  pub ordered : Ordered 0 ends
+pub record Opened (s : List ℕ) (rows : List (List ℕ)) : Type 0 where
+  pub is : parse s ≡ accepted (table-blocks rows)
+  pub ordered : Ordered 0 (ends rows)
 
-pub opened : (s : List ℕ) (la : List ℤ) (lb : List ℕ) (lc : List ℤ) (ends : List ℕ) → ((q : Refusal) → checked (parse s) ≡ NoSeries q → ⊥) → unpacked (parse s) la lb lc ends → Opened s la lb lc ends
+pub opened : (s : List ℕ) (rows : List (List ℕ)) → ((q : Refusal) → checked (parse s) ≡ NoSeries q → ⊥) → unpacked (parse s) rows → Opened s rows
 unfolding checked unpacked
-opened s la lb lc ends n u = go (parse s) refl n u
+opened s rows n u = go (parse s) refl n u
   where
-    go : (p : Parsed) → parse s ≡ p → ((q : Refusal) → checked p ≡ NoSeries q → ⊥) → unpacked p la lb lc ends → Opened s la lb lc ends
+    go : (p : Parsed) → parse s ≡ p → ((q : Refusal) → checked p ≡ NoSeries q → ⊥) → unpacked p rows → Opened s rows
     go (accepted blocks) f n h =
         record { is = f ∙ ap accepted (sym (h .table)); ordered = rw (h .places) (ends-ordered 0 blocks (plus (accepted-allowed s blocks f .few))) }
       where

@@ -1,13 +1,13 @@
 -- What the proofs of the printer's functions use.
-pub mod Writing
-pub mod Figures
-pub mod Pieces
-pub mod Tables
+pub mod PieceByPiece
+pub mod DigitsWritten
+pub mod LinePieces
+pub mod TableText
 pub mod Answers
-pub mod Numerals
+pub mod DigitsAndNumbers
 pub mod Spacing
-pub mod Reading
-pub mod Series
+pub mod PlainLines
+pub mod PlainSeries
 pub mod Longest
-pub mod Printing
+pub mod PrintedSpacing
 pub mod Theorems

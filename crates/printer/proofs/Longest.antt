@@ -14,18 +14,18 @@ use Rattle.limits.specs.Allowed.{term-count}
 use Rattle.packed.proofs.Accepting.{GoodTerm}
 use Rattle.packed.proofs.Limits as limits
 use Rattle.packed.proofs.Judged as judged
-use Rattle.text.specs.Grammar.{sign, count-bytes, decimal}
-use Rattle.printer.specs.Printer.{plain-decimal, plain-count, plain-text}
+use Rattle.text.specs.Grammar.{feed, sign, count-bytes, decimal}
+use Rattle.printer.specs.Printer.{places, plain-decimal, plain-count, plain-text}
 use Rattle.printer.specs.machine.Writing.{whole-text, line-text, lines-text, block-text}
-use Rattle.printer.proofs.Figures.{whole-length}
-use Rattle.printer.proofs.Pieces.{decimal-size, sign-length, line-length}
-use Rattle.printer.proofs.Numerals.{further-few}
-use Rattle.printer.proofs.Tables.{lines-cons, lines-none, text-cons, text-none}
+use Rattle.printer.proofs.DigitsWritten.{whole-length}
+use Rattle.printer.proofs.LinePieces.{decimal-size, sign-length, line-length}
+use Rattle.printer.proofs.DigitsAndNumbers.{further-few}
+use Rattle.printer.proofs.TableText.{lines-cons, lines-none, text-cons, text-none}
 
 whole-short : (n v : ℕ) → v < 10 ^ suc n → length (whole-text v) ≤ suc n
 whole-short n v h = omega (arith, whole-length v, further-few n v h)
 
-decimal-short : (minus : Bool) (n v : ℕ) → v / parts < 10 ^ suc n → length (decimal (plain-decimal minus v)) ≤ length (sign minus) + suc n + 12
+decimal-short : (minus : Bool) (n v : ℕ) → v / parts < 10 ^ suc n → length (decimal (plain-decimal minus v)) ≤ length (sign minus) + suc n + (1 + places)
 decimal-short minus n v h = omega (arith, decimal-size minus v, whole-short n (v / parts) h)
 
 line-short : (f : ℕ) (s : Tally) (t : Term) → GoodTerm f s t → length (line-text t) ≤ 53
@@ -49,7 +49,7 @@ unfolding block-text count-bytes plain-count
 block-short k s ts g =
     let w = whole-short 3 (length ts) (omega (arith, g .few)) in
     let e : count-bytes (plain-count (length ts)) ≡ whole-text (length ts) = unfold whole-text in refl in
-    omega (arith, ap length e, length-append (count-bytes (plain-count (length ts))) (10 ∷ lines-text ts), lines-short (g .terms))
+    omega (arith, ap length e, length-append (count-bytes (plain-count (length ts))) (feed ∷ lines-text ts), lines-short (g .terms))
 
 pub text-short : {k : ℕ} {s : Tally} {bs : List (List Term)} → judged.GoodBlocks k s bs → length (plain-text bs) ≤ 5 * length bs + 53 * term-count bs
 unfolding term-count

@@ -2,7 +2,7 @@
 use mathlib.Core.Path.{_≡_, refl}
 use mathlib.Core.List.{List, [], _∷_, _++_, append-assoc}
 use Prim.Native.Nat.{ℕ, zero, suc}
-use Rattle.text.specs.Grammar.{spaces, decimal, count-bytes, TermLine, term-bytes, lines-bytes, Block, blocks-bytes}
+use Rattle.text.specs.Grammar.{feed, spaces, decimal, count-bytes, TermLine, term-bytes, lines-bytes, Block, blocks-bytes}
 use Rattle.printer.specs.Plain.{Spaced, PlainText}
 
 pub record PlainLine (l : TermLine) : Type 0 where
@@ -34,7 +34,7 @@ past p [] ys h = record { before = p; is = h }
 past p (x ∷ xs) ys h = past x xs ys (h .1)
 
 -- No spaces after a line feed or a space.
-none-leading : (n : ℕ) (ys : List ℕ) → Spaced 10 (spaces n ++ ys) → n ≡ 0
+none-leading : (n : ℕ) (ys : List ℕ) → Spaced feed (spaces n ++ ys) → n ≡ 0
 unfolding Spaced spaces
 none-leading zero ys h = refl
 none-leading (suc n) ys h = absurd (h .0 refl .1 refl)
@@ -44,13 +44,13 @@ unfolding Spaced spaces
 no-more p zero ys h = refl
 no-more p (suc n) ys h = absurd (h .1 .0 refl .0 refl)
 
-line-plain : (l : TermLine) → Spaced 10 (term-bytes l) → PlainLine l
+line-plain : (l : TermLine) → Spaced feed (term-bytes l) → PlainLine l
 unfolding term-bytes
 line-plain l h =
     let e = decimal (l .c) in
     let d = (32 ∷ spaces (l .after-b)) ++ e in
     let b = (32 ∷ spaces (l .after-a)) ++ (decimal (l .b) ++ d) in
-    let at-a = past 10 (spaces (l .lead)) (decimal (l .a) ++ b) h in
+    let at-a = past feed (spaces (l .lead)) (decimal (l .a) ++ b) h in
     let past-a = past (at-a .before) (decimal (l .a)) b (at-a .is) in
     let at-b = past (past-a .before) (32 ∷ spaces (l .after-a)) (decimal (l .b) ++ d) (past-a .is) in
     let past-b = past (at-b .before) (decimal (l .b)) d (at-b .is) in
@@ -61,21 +61,21 @@ line-plain l h =
     }
 
 -- What follows a line feed.
-fed : (p : ℕ) (xs ys : List ℕ) → Spaced p (xs ++ (10 ∷ ys)) → Spaced 10 ys
+fed : (p : ℕ) (xs ys : List ℕ) → Spaced p (xs ++ (feed ∷ ys)) → Spaced feed ys
 unfolding Spaced
-fed p xs ys h = past p xs (10 ∷ ys) h .is .1
+fed p xs ys h = past p xs (feed ∷ ys) h .is .1
 
-lines-plain : (ls : List TermLine) (ys : List ℕ) → Spaced 10 (lines-bytes ls ++ ys) → PlainLines ls × Spaced 10 ys
+lines-plain : (ls : List TermLine) (ys : List ℕ) → Spaced feed (lines-bytes ls ++ ys) → PlainLines ls × Spaced feed ys
 unfolding lines-bytes PlainLines
 lines-plain [] ys h = (tt, h)
 lines-plain (l ∷ ls) ys h =
-    let k : Spaced 10 (term-bytes l ++ (10 ∷ (lines-bytes ls ++ ys))) = rw (append-assoc (term-bytes l) (10 ∷ lines-bytes ls) ys) at h in
-    let r = lines-plain ls ys (fed 10 (term-bytes l) (lines-bytes ls ++ ys) k) in
-    ((line-plain l (front 10 (term-bytes l) (10 ∷ (lines-bytes ls ++ ys)) k), r .0), r .1)
+    let k : Spaced feed (term-bytes l ++ (feed ∷ (lines-bytes ls ++ ys))) = rw (append-assoc (term-bytes l) (feed ∷ lines-bytes ls) ys) at h in
+    let r = lines-plain ls ys (fed feed (term-bytes l) (lines-bytes ls ++ ys) k) in
+    ((line-plain l (front feed (term-bytes l) (feed ∷ (lines-bytes ls ++ ys)) k), r .0), r .1)
 
 pub text-plain : (ks : List Block) → PlainText (blocks-bytes ks) → Plain ks
 unfolding blocks-bytes Plain
 text-plain [] h = tt
 text-plain (k ∷ ks) h =
-    let r = lines-plain (k .lines) (blocks-bytes ks) (fed 10 (count-bytes (k .head)) (lines-bytes (k .lines) ++ blocks-bytes ks) h) in
+    let r = lines-plain (k .lines) (blocks-bytes ks) (fed feed (count-bytes (k .head)) (lines-bytes (k .lines) ++ blocks-bytes ks) h) in
     (r .0, text-plain ks (r .1))

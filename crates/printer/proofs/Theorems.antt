@@ -21,8 +21,8 @@ use Rattle.printer.specs.declared.Printed.the-variants.{Length}
 use Rattle.printer.specs.Printer.{plain-block, plain-text, text-fits, printed, printed-out}
 use Rattle.printer.specs.Plain.{PlainText}
 use Rattle.printer.proofs.Spacing.{text-plain}
-use Rattle.printer.proofs.Series.{blocks-plain, series-in, blocks-good, blocks-unique}
-use Rattle.printer.proofs.Printing.{text-spaced}
+use Rattle.printer.proofs.PlainSeries.{blocks-plain, series-in, blocks-good, blocks-unique}
+use Rattle.printer.proofs.PrintedSpacing.{text-spaced}
 use Rattle.printer.proofs.Longest.{text-short}
 
 -- The text of an accepted series is never longer than that.

@@ -1,4 +1,4 @@
--- Document 01, "Series, as text and packed": the printer.
+-- RULES, "Series, as text and packed": the printer.
 pub mod Printer
 pub mod Plain
 pub mod machine

@@ -1,4 +1,4 @@
--- Document 01, "Series, as text and packed": which texts are plain, "single spaces, none leading".
+-- RULES, "Series, as text and packed": which texts are plain, as to their spaces.
 use mathlib.Core.Path.{_≡_}
 use mathlib.Core.List.{List, [], _∷_}
 use Prim.Native.Nat.{ℕ}

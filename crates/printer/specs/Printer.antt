@@ -1,5 +1,5 @@
--- Document 01, "Series, as text and packed": "A printer gives the plain text: single spaces, none leading." A text is lines of the reader's
--- grammar (crate text, specs/Grammar.antt); here is which lines the printer gives, and what it answers and leaves.
+-- RULES, "Series, as text and packed": the plain text. A text is lines of the reader's grammar (crate text, specs/Grammar.antt); here is which
+-- lines the printer gives, and what it answers and leaves.
 use mathlib.Core.Bool.{Bool, false, cond}
 use mathlib.Core.List.{List, [], _∷_, _++_, map}
 use Prim.Native.Nat.{ℕ, zero, suc, _/_, _%_, _^_}
@@ -36,14 +36,18 @@ first-digit v = v / 10 ^ further-digits v
 unfoldable pub rest-digits : ℕ → List ℕ
 rest-digits v = last-digits (further-digits v) v
 
--- A number of parts as a decimal, with a minus or none, eleven digits after the point.
+-- The digits of a decimal after its point.
+abbrev pub places : ℕ
+places = 11
+
+-- A number of parts as a decimal, with a minus or none.
 unfoldable pub plain-decimal : Bool → ℕ → Decimal
 plain-decimal minus v =
     record {
       minus = minus;
       first = first-digit (v / units.parts);
       more = rest-digits (v / units.parts);
-      parts = last-digits 11 v;
+      parts = last-digits places v;
     }
 
 -- A count, a term, a block, each as its lines: no leading space, and none beside the one that parts two decimals.

@@ -1,15 +1,25 @@
 // Digits and decimals: their lengths, and writing them into a buffer with room.
+use units::PARTS;
 ghost use mathlib.Core.Path.{_≡_};
 ghost use mathlib.Core.List.{[], _∷_};
 ghost use lib.ListN.{length};
 ghost use Prim.Native.Nat.{_+_, _≤_};
 ghost use Rattle.text.specs.Grammar.{sign, digits, decimal};
 ghost use Rattle.printer.specs.Printer.{last-digits, further-digits, plain-decimal};
-ghost use Rattle.printer.specs.machine.Writing.{Room, Wrote, whole-text};
+ghost use Rattle.printer.specs.machine.Writing.{Room, Wrote, whole-text, further-most, whole-most, decimal-most};
+
+// The digits of a decimal after its point: those of a number below PARTS.
+const PLACES: usize = 11;
+
+// The point and those digits.
+const FRACTION: usize = 1 + PLACES;
+
+// The digit 0.
+const ZERO: u64 = b'0' as u64;
 
 // How many digits a number has after its first.
 fn further_digits(v: u64) -> usize
-    ensures { λ r. ⌜ (r ≡ further-digits v) × (r ≤ 19) ⌝ }
+    ensures { λ r. ⌜ (r ≡ further-digits v) × (r ≤ further-most) ⌝ }
 {
     let mut x = v;
     let mut n = 0;
@@ -37,7 +47,7 @@ fn put_digits(v: u64, n: usize, out: &mut [u8], at: usize) -> usize
     let mut i = n;
     while 0 < i {
         i = i - 1;
-        out[at + i] = (48 + x % 10) as u8;
+        out[at + i] = (ZERO + x % 10) as u8;
         x = x / 10;
     }
     at + n
@@ -45,7 +55,7 @@ fn put_digits(v: u64, n: usize, out: &mut [u8], at: usize) -> usize
 
 // A whole number with no needless leading zero.
 pub fn whole_length(v: u64) -> usize
-    ensures { λ r. ⌜ (r ≡ length (whole-text v)) × (r ≤ 20) ⌝ }
+    ensures { λ r. ⌜ (r ≡ length (whole-text v)) × (r ≤ whole-most) ⌝ }
 {
     further_digits(v) + 1
 }
@@ -62,16 +72,16 @@ fn put_sign(minus: bool, out: &mut [u8], at: usize) -> usize
     ensures { λ r. ⌜ Wrote (sign minus) at (now (out .entry)) r (now (out .exit)) ⌝ }
 {
     if minus {
-        return put_byte(45, out, at);
+        return put_byte(b'-', out, at);
     }
     at
 }
 
 // A number of parts as a decimal, with a minus or none.
 pub fn decimal_length(minus: bool, v: u64) -> usize
-    ensures { λ r. ⌜ (r ≡ length (decimal (plain-decimal minus v))) × (r ≤ 33) ⌝ }
+    ensures { λ r. ⌜ (r ≡ length (decimal (plain-decimal minus v))) × (r ≤ decimal-most) ⌝ }
 {
-    let n = whole_length(v / 100000000000) + 12;
+    let n = whole_length(v / PARTS) + FRACTION;
     if minus {
         return n + 1;
     }
@@ -83,7 +93,7 @@ pub fn put_decimal(minus: bool, v: u64, out: &mut [u8], at: usize) -> usize
     ensures { λ r. ⌜ Wrote (decimal (plain-decimal minus v)) at (now (out .entry)) r (now (out .exit)) ⌝ }
 {
     let whole = put_sign(minus, out, at);
-    let point = put_whole(v / 100000000000, out, whole);
-    let part = put_byte(46, out, point);
-    put_digits(v, 11, out, part)
+    let point = put_whole(v / PARTS, out, whole);
+    let part = put_byte(b'.', out, point);
+    put_digits(v, PLACES, out, part)
 }

@@ -1,4 +1,4 @@
-// The printer: from a packed series to its plain text. Document 01, "Series, as text and packed".
+// The printer: from a packed series to its plain text. RULES, "Series, as text and packed".
 mod blocks;
 mod digits;
 mod lines;
@@ -6,13 +6,13 @@ mod lines;
 use blocks::put_blocks;
 use blocks::text_length;
 use packed::Checked;
+use packed::table::TABLE_ROWS;
+use packed::table::Table;
 use packed::table::unpack;
 use units::Refusal;
 ghost use mathlib.Core.Path.{_≡_};
-ghost use lib.ListN.{length};
-ghost use Rattle.units.specs.Units.{block-count};
 ghost use Rattle.packed.specs.Series.{accepted, parse};
-ghost use Rattle.packed.specs.machine.Tables.{Sized, table-blocks};
+ghost use Rattle.packed.specs.machine.Table.{Sized, ends, table-blocks};
 ghost use Rattle.printer.specs.Printer.{printed, printed-out};
 ghost use Rattle.printer.specs.machine.Writing.{Ordered};
 
@@ -23,21 +23,16 @@ pub enum Printed {
 }
 
 // Prints the blocks of a term table, where their text fits.
-fn print_table(
-    a: &[i64; 8192],
-    b: &[u64; 8192],
-    c: &[i64; 8192],
-    ends: &[u64; 18],
-    out: &mut [u8],
-) -> Printed
-    requires { ⌜ Sized (now a) (now b) (now c) × (length (now ends) ≡ block-count) × Ordered 0 (now ends) ⌝ }
-    ensures { λ r. ⌜ (r ≡ printed (accepted (table-blocks (now (a .entry)) (now (b .entry)) (now (c .entry)) (now (ends .entry)))) (now (out .entry))) × (now (out .exit) ≡ printed-out (accepted (table-blocks (now (a .entry)) (now (b .entry)) (now (c .entry)) (now (ends .entry)))) (now (out .entry))) ⌝ }
+fn print_table(table: &Table, out: &mut [u8]) -> Printed
+    requires { ⌜ Sized (now table) × Ordered 0 (ends (now table)) ⌝ }
+    ensures { λ r. ⌜ (r ≡ printed (accepted (table-blocks (now (table .entry)))) (now (out .entry)))
+        × (now (out .exit) ≡ printed-out (accepted (table-blocks (now (table .entry)))) (now (out .entry))) ⌝ }
 {
-    let n = text_length(a, b, c, ends);
+    let n = text_length(table);
     if out.len() < n {
         return Printed::NoText(Refusal::NoRoom(n));
     }
-    put_blocks(a, b, c, ends, out);
+    put_blocks(table, out);
     Printed::Length(n)
 }
 
@@ -45,13 +40,10 @@ fn print_table(
 pub fn print(packed: &[u8], out: &mut [u8]) -> Printed
     ensures { λ r. ⌜ (r ≡ printed (parse (now (packed .entry))) (now (out .entry))) × (now (out .exit) ≡ printed-out (parse (now (packed .entry))) (now (out .entry))) ⌝ }
 {
-    let mut a = [0i64; 8192];
-    let mut b = [0u64; 8192];
-    let mut c = [0i64; 8192];
-    let mut ends = [0u64; 18];
-    let read = unpack(packed, &mut a, &mut b, &mut c, &mut ends);
+    let mut table: Table = [[0; 3]; TABLE_ROWS];
+    let read = unpack(packed, &mut table);
     match read {
         Checked::NoSeries(r) => Printed::NoText(r),
-        Checked::Terms(_) => print_table(&a, &b, &c, &ends, out),
+        Checked::Terms(_) => print_table(&table, out),
     }
 }

@@ -1,7 +1,7 @@
 -- `block_length` meets its contract. Assumes nothing.
 use native.Mathlib.Omega.{arith}
-use Rattle.printer.proofs.Tables.{block-length}
 use borrow.Author.Needs.{needs}
+use Rattle.printer.proofs.TableText.{block-length}
 use Rattle.printer.proofs.blocks.block_length.Statement.{statement}
 use Rattle.printer.proofs.blocks.block_length.Tie as tie
 
@@ -21,7 +21,11 @@ add-result : tie.Need-add-result
 add-result c = search needs
 
 returns : tie.Need-returns
-returns c = let s = c .before .before in (block-length (s .args .a .now) (s .args .b .now) (s .args .c .now) (s .args .from) (s .args .end) _ _ (c .before .whole-length .ensures .0) (c .lines-length .ensures .0), omega (arith, c .before .whole-length .ensures .1, c .lines-length .ensures .1))
+returns c =
+    let s = c .before .before in
+    let n = c .before .whole-length .ensures in
+    let m = c .lines-length .ensures in
+    (block-length (s .args .table .now) (s .args .from) (s .args .end) _ _ (n .0) (m .0), omega (arith, n .1, m .1))
 
 pub block-length-spec : {M : Type 1} → statement M
 block-length-spec =

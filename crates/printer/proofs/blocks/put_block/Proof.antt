@@ -1,8 +1,7 @@
 -- `put_block` meets its contract. Assumes nothing.
-use Rattle.printer.proofs.Writing.{left-is, left-more, left-over, left-room}
-use Rattle.printer.proofs.Tables.{block-pieces}
-use Prim.Native.Nat.{_-_}
 use borrow.Author.Needs.{needs}
+use Rattle.printer.proofs.PieceByPiece.{left-is, left-more, left-over, left-room}
+use Rattle.printer.proofs.TableText.{block-pieces}
 use Rattle.printer.proofs.blocks.put_block.Statement.{statement}
 use Rattle.printer.proofs.blocks.put_block.Tie as tie
 
@@ -12,23 +11,24 @@ sub-put-whole c = search needs
 put-whole-requires : tie.Need-put-whole-requires
 put-whole-requires c κs =
     let s = c .before .before in
-    let l = left-is (block-pieces (s .args .a .now) (s .args .b .now) (s .args .c .now) (s .args .from) (s .args .end - s .args .from)) (s .args .at) (s .args .out .now) in
-    left-room l (s .pre .3)
+    let left = left-is (block-pieces (s .args .table .now) (s .args .from) (s .args .end)) (s .args .at) (s .args .out .now) in
+    left-room left (s .pre .3)
 
 put-byte-requires : tie.Need-put-byte-requires
 put-byte-requires c κs =
     let count = c .before .before .before in
     let s = count .before .before .before in
-    let l = left-is (block-pieces (s .args .a .now) (s .args .b .now) (s .args .c .now) (s .args .from) (s .args .end - s .args .from)) (s .args .at) (s .args .out .now) in
-    left-room (left-more l (count .put-whole .ensures)) (s .pre .3)
+    let left = left-is (block-pieces (s .args .table .now) (s .args .from) (s .args .end)) (s .args .at) (s .args .out .now) in
+    left-room (left-more left (count .put-whole .ensures)) (s .pre .3)
 
 put-lines-requires : tie.Need-put-lines-requires
 put-lines-requires c κs =
     let feed = c .before .before .before in
     let count = feed .before .before .before .before in
     let s = count .before .before .before in
-    let l = left-is (block-pieces (s .args .a .now) (s .args .b .now) (s .args .c .now) (s .args .from) (s .args .end - s .args .from)) (s .args .at) (s .args .out .now) in
-    (s .pre .0, s .pre .1, s .pre .2, left-room (left-more (left-more l (count .put-whole .ensures)) (feed .put-byte .ensures)) (s .pre .3))
+    let left = left-is (block-pieces (s .args .table .now) (s .args .from) (s .args .end)) (s .args .at) (s .args .out .now) in
+    let left1 = left-more left (count .put-whole .ensures) in
+    (s .pre .0, s .pre .1, s .pre .2, left-room (left-more left1 (feed .put-byte .ensures)) (s .pre .3))
 
 same-length : tie.Need-same-length
 same-length c = search needs
@@ -39,8 +39,10 @@ returns c =
     let feed = lines .before .before .before .before in
     let count = feed .before .before .before .before in
     let s = count .before .before .before in
-    let l = left-is (block-pieces (s .args .a .now) (s .args .b .now) (s .args .c .now) (s .args .from) (s .args .end - s .args .from)) (s .args .at) (s .args .out .now) in
-    left-over (left-more (left-more (left-more l (count .put-whole .ensures)) (feed .put-byte .ensures)) (lines .put-lines .ensures))
+    let left = left-is (block-pieces (s .args .table .now) (s .args .from) (s .args .end)) (s .args .at) (s .args .out .now) in
+    let left1 = left-more left (count .put-whole .ensures) in
+    let left2 = left-more left1 (feed .put-byte .ensures) in
+    left-over (left-more left2 (lines .put-lines .ensures))
 
 pub put-block-spec : {M : Type 1} → statement M
 put-block-spec =

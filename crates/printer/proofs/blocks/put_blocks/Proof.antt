@@ -1,44 +1,40 @@
 -- `put_blocks` meets its contract. Assumes nothing.
-use mathlib.Core.Path.{refl}
 use mathlib.Core.List.{[], _∷_}
-use Prim.Native.Nat.{_-_, _<_}
+use Prim.Native.Nat.{_-_}
 use native.Mathlib.Omega.{arith}
-use lib.ListN.{length, getD, drop}
-use Rattle.packed.specs.machine.Tables.{blocks-at, table-blocks}
+use lib.ListN.{drop}
+use Rattle.units.specs.Units.{block-count}
+use Rattle.packed.specs.machine.Table.{ends, table-blocks}
 use Rattle.printer.specs.Printer.{plain-text}
 use Rattle.printer.specs.machine.Writing.{Ordered}
-use Rattle.printer.proofs.Writing.{Left, left-one, left-more, left-empty, left-over, left-room}
-use Rattle.printer.proofs.Tables.{ordered-next, block-left, blocks-over}
+use Rattle.printer.proofs.PieceByPiece.{Left, left-one, left-more, left-empty, left-over, left-room}
+use Rattle.printer.proofs.TableText.{blocks-from, ordered-next, block-left, blocks-over}
 use Rattle.printer.proofs.blocks.put_blocks.Statement.{statement}
 use Rattle.printer.proofs.blocks.put_blocks.Tie as tie
 
 abbrev Inv-loop : tie.InvT-loop
-Inv-loop a b c ends out₀ p₀ from₀ k₀ out p from k = Ordered from (drop k ends) × Left (plain-text (table-blocks a b c ends)) 0 out₀ (plain-text (blocks-at a b c from (drop k ends)) ∷ []) p out
+Inv-loop table out₀ p₀ from₀ k₀ out p from k =
+    Ordered from (drop k (ends table)) × Left (plain-text (table-blocks table)) 0 out₀ (blocks-from table from k ∷ []) p out
 
 abbrev μ-loop : tie.MeasureT-loop
-μ-loop a b c ends out₀ p₀ from₀ k₀ out p from k = 18 - k
-
-above : (c : tie.In-loop Inv-loop μ-loop) → c .before .loop .k < length (c .before .before .before .args .ends .now)
-above c = omega (arith, c .before .before .before .pre .1, c .loop-test .taken)
+μ-loop table out₀ p₀ from₀ k₀ out p from k = block-count - k
 
 loop-holds : tie.Need-loop-holds Inv-loop μ-loop
 unfolding table-blocks
-loop-holds c = (c .before .pre .2, left-one _ _ _)
+loop-holds c = (c .before .pre .1, left-one _ _ _)
 
-mul-end : tie.Need-mul-end Inv-loop μ-loop
-mul-end c = omega (arith, c .loop-test .taken)
-
-element-copy-out-end : tie.Need-element-copy-out-end Inv-loop μ-loop
-element-copy-out-end c = omega (arith, c .loop-test .taken)
+block-end-requires : tie.Need-block-end-requires Inv-loop μ-loop
+block-end-requires c κs = (c .before .before .before .pre .0, c .loop-test .taken)
 
 put-block-requires : tie.Need-put-block-requires Inv-loop μ-loop
 put-block-requires c κs =
+    let e = c .before .block-end .ensures in
     let turn = c .before .before in
     let l = turn .before .loop in
     let s = turn .before .before .before in
-    let e = getD (s .args .ends .now) (l .k) 0 in
-    let w = ordered-next (s .args .ends .now) (l .from) (l .k) e (above turn) refl (l .inv .0) in
-    (s .pre .0, w .after, w .within, left-room (block-left (s .args .a .now) (s .args .b .now) (s .args .c .now) (s .args .ends .now) (l .from) (l .k) e (l .inv .1) (above turn) refl) (s .pre .3))
+    let w = ordered-next _ (s .pre .0) (l .from) (l .k) _ (turn .loop-test .taken) e (l .inv .0) in
+    let left = block-left (s .args .table .now) (s .pre .0) (l .from) (l .k) _ (l .inv .1) (turn .loop-test .taken) e in
+    (s .pre .0, w .after, w .within, left-room left (s .pre .2))
 
 add-k : tie.Need-add-k Inv-loop μ-loop
 add-k c = omega (arith, c .before .before .before .before .before .loop-test .taken)
@@ -48,18 +44,21 @@ loop-less c = omega (arith, c .before .before .before .before .before .loop-test
 
 loop-again : tie.Need-loop-again Inv-loop μ-loop
 loop-again c =
+    let e = c .before .before .before .before .block-end .ensures in
     let turn = c .before .before .before .before .before in
     let l = turn .before .loop in
     let s = turn .before .before .before in
-    let e = getD (s .args .ends .now) (l .k) 0 in
-    let w = ordered-next (s .args .ends .now) (l .from) (l .k) e (above turn) refl (l .inv .0) in
-    (w .rest, left-more (block-left (s .args .a .now) (s .args .b .now) (s .args .c .now) (s .args .ends .now) (l .from) (l .k) e (l .inv .1) (above turn) refl) (c .before .before .put-block .ensures))
+    let w = ordered-next _ (s .pre .0) (l .from) (l .k) _ (turn .loop-test .taken) e (l .inv .0) in
+    let left = block-left (s .args .table .now) (s .pre .0) (l .from) (l .k) _ (l .inv .1) (turn .loop-test .taken) e in
+    (w .rest, left-more left (c .before .before .put-block .ensures))
 
 same-length : tie.Need-same-length Inv-loop μ-loop
 same-length c = c .before .loop .inv .1 .same
 
 returns : tie.Need-returns Inv-loop μ-loop
-returns c = let s = c .before .before .before in left-over (left-empty (c .before .loop .inv .1) (blocks-over (s .args .a .now) (s .args .b .now) (s .args .c .now) (s .args .ends .now) (c .before .loop .from) (c .before .loop .k) (omega (arith, s .pre .1, c .loop-test .left))))
+returns c =
+    let s = c .before .before .before in
+    left-over (left-empty (c .before .loop .inv .1) (blocks-over (s .args .table .now) (s .pre .0) (c .before .loop .from) (c .before .loop .k) (c .loop-test .left)))
 
 pub put-blocks-spec : {M : Type 1} → statement M
 put-blocks-spec =
@@ -68,8 +67,7 @@ put-blocks-spec =
     Inv-loop
     μ-loop
     loop-holds
-    mul-end
-    element-copy-out-end
+    block-end-requires
     put-block-requires
     add-k
     loop-less

@@ -1,34 +1,29 @@
 -- `text_length` meets its contract. Assumes nothing.
 use Prim.Native.Nat.{_-_}
-use lib.ListN.{getD}
-use mathlib.Core.Path.{refl}
 use native.Mathlib.Omega.{arith}
-use Rattle.printer.proofs.Tables.{ordered-next, Totalled, totalled-none, totalled-more, totalled-last}
+use Rattle.units.specs.Units.{block-count}
+use Rattle.printer.proofs.TableText.{ordered-next, Totalled, totalled-none, totalled-more, totalled-last}
 use Rattle.printer.proofs.blocks.text_length.Statement.{statement}
 use Rattle.printer.proofs.blocks.text_length.Tie as tie
 
 abbrev Inv-loop : tie.InvT-loop
-Inv-loop a b c ends n₀ from₀ k₀ n from k = Totalled a b c ends n from k
+Inv-loop table n₀ from₀ k₀ n from k = Totalled table n from k
 
 abbrev μ-loop : tie.MeasureT-loop
-μ-loop a b c ends n₀ from₀ k₀ n from k = 18 - k
+μ-loop table n₀ from₀ k₀ n from k = block-count - k
 
 loop-holds : tie.Need-loop-holds Inv-loop μ-loop
-loop-holds c = totalled-none _ _ _ _ (c .pre .2)
+loop-holds c = totalled-none _ (c .pre .1)
 
-mul-end : tie.Need-mul-end Inv-loop μ-loop
-mul-end c = omega (arith, c .loop-test .taken)
-
-element-copy-out-end : tie.Need-element-copy-out-end Inv-loop μ-loop
-element-copy-out-end c = omega (arith, c .loop-test .taken)
+block-end-requires : tie.Need-block-end-requires Inv-loop μ-loop
+block-end-requires c κs = (c .before .before .pre .0, c .loop-test .taken)
 
 block-length-requires : tie.Need-block-length-requires Inv-loop μ-loop
 block-length-requires c κs =
     let turn = c .before in
     let l = turn .before .loop in
     let s = turn .before .before in
-    let e = getD (s .args .ends .now) (l .k) 0 in
-    let w = ordered-next (s .args .ends .now) (l .from) (l .k) e (omega (arith, s .pre .1, turn .loop-test .taken)) refl (l .inv .ordered) in
+    let w = ordered-next _ (s .pre .0) (l .from) (l .k) _ (turn .loop-test .taken) (c .block-end .ensures) (l .inv .ordered) in
     (s .pre .0, w .after, w .within)
 
 add-n : tie.Need-add-n Inv-loop μ-loop
@@ -36,8 +31,7 @@ add-n c =
     let turn = c .before .before in
     let l = turn .before .loop in
     let s = turn .before .before in
-    let e = getD (s .args .ends .now) (l .k) 0 in
-    let w = ordered-next (s .args .ends .now) (l .from) (l .k) e (omega (arith, s .pre .1, turn .loop-test .taken)) refl (l .inv .ordered) in
+    let w = ordered-next _ (s .pre .0) (l .from) (l .k) _ (turn .loop-test .taken) (c .before .block-end .ensures) (l .inv .ordered) in
     omega (arith, w .after, w .within, l .inv .few, turn .loop-test .taken, c .block-length .ensures .1)
 
 add-k : tie.Need-add-k Inv-loop μ-loop
@@ -51,12 +45,11 @@ loop-again c =
     let turn = c .before .before in
     let l = turn .before .loop in
     let s = turn .before .before in
-    let e = getD (s .args .ends .now) (l .k) 0 in
     let p = c .block-length .ensures in
-    totalled-more (s .args .a .now) (s .args .b .now) (s .args .c .now) (s .args .ends .now) _ (l .from) (l .k) e _ (l .inv) (omega (arith, s .pre .1, turn .loop-test .taken)) refl (p .0) (p .1)
+    totalled-more _ (s .pre .0) _ (l .from) (l .k) _ _ (l .inv) (turn .loop-test .taken) (c .before .block-end .ensures) (p .0) (p .1)
 
 returns : tie.Need-returns Inv-loop μ-loop
-returns c = totalled-last _ _ _ _ _ _ _ (c .before .loop .inv) (omega (arith, c .before .before .pre .1, c .loop-test .left))
+returns c = totalled-last _ (c .before .before .pre .0) _ _ _ (c .before .loop .inv) (c .loop-test .left)
 
 pub text-length-spec : {M : Type 1} → statement M
 text-length-spec =
@@ -65,8 +58,7 @@ text-length-spec =
     Inv-loop
     μ-loop
     loop-holds
-    mul-end
-    element-copy-out-end
+    block-end-requires
     block-length-requires
     add-n
     add-k

@@ -1,6 +1,6 @@
 -- `decimal_length` meets its contract. Assumes nothing.
 use native.Mathlib.Omega.{arith}
-use Rattle.printer.proofs.Pieces.{decimal-length, minus-length, plus-length}
+use Rattle.printer.proofs.LinePieces.{decimal-length, minus-length, plus-length}
 use borrow.Author.Needs.{needs}
 use Rattle.printer.proofs.digits.decimal_length.Statement.{statement}
 use Rattle.printer.proofs.digits.decimal_length.Tie as tie

@@ -1,6 +1,6 @@
 -- `further_digits` meets its contract. Assumes nothing.
 use native.Mathlib.Omega.{arith}
-use Rattle.printer.proofs.Figures.{Counting, counting-none, counting-more, counting-last}
+use Rattle.printer.proofs.DigitsWritten.{Counting, counting-none, counting-more, counting-last}
 use Rattle.printer.proofs.digits.further_digits.Statement.{statement}
 use Rattle.printer.proofs.digits.further_digits.Tie as tie
 

@@ -4,9 +4,9 @@ use Prim.Native.Nat.{_/_}
 use Rattle.text.specs.Grammar.{sign, digits, decimal}
 use Rattle.printer.specs.Printer.{last-digits, plain-decimal}
 use Rattle.printer.specs.machine.Writing.{whole-text}
-use Rattle.printer.proofs.Writing.{Left, left-is, left-more, left-over, left-room}
-use Rattle.printer.proofs.Figures.{digits-room}
-use Rattle.printer.proofs.Pieces.{decimal-pieces}
+use Rattle.printer.proofs.PieceByPiece.{Left, left-is, left-more, left-over, left-room}
+use Rattle.printer.proofs.DigitsWritten.{digits-room}
+use Rattle.printer.proofs.LinePieces.{decimal-pieces}
 use borrow.Author.Needs.{needs}
 use Rattle.printer.proofs.digits.put_decimal.Statement.{statement}
 use Rattle.printer.proofs.digits.put_decimal.Tie as tie

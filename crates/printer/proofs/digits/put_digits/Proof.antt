@@ -1,6 +1,6 @@
 -- `put_digits` meets its contract. Assumes nothing.
 use native.Mathlib.Omega.{arith}
-use Rattle.printer.proofs.Figures.{Backward, backward-none, backward-more, backward-last}
+use Rattle.printer.proofs.DigitsWritten.{Backward, backward-none, backward-more, backward-last}
 use Rattle.printer.proofs.digits.put_digits.Statement.{statement}
 use Rattle.printer.proofs.digits.put_digits.Tie as tie
 

@@ -1,6 +1,6 @@
 -- `put_sign` meets its contract. Assumes nothing.
 use borrow.Author.Needs.{needs}
-use Rattle.printer.proofs.Pieces.{minus-room, minus-wrote, plus-wrote}
+use Rattle.printer.proofs.LinePieces.{minus-room, minus-wrote, plus-wrote}
 use Rattle.printer.proofs.digits.put_sign.Statement.{statement}
 use Rattle.printer.proofs.digits.put_sign.Tie as tie
 

@@ -1,5 +1,5 @@
 -- `put_whole` meets its contract. Assumes nothing.
-use Rattle.printer.proofs.Figures.{whole-room, whole-wrote}
+use Rattle.printer.proofs.DigitsWritten.{whole-room, whole-wrote}
 use borrow.Author.Needs.{needs}
 use Rattle.printer.proofs.digits.put_whole.Statement.{statement}
 use Rattle.printer.proofs.digits.put_whole.Tie as tie

@@ -1,6 +1,6 @@
 -- `whole_length` meets its contract. Assumes nothing.
 use native.Mathlib.Omega.{arith}
-use Rattle.printer.proofs.Figures.{whole-length}
+use Rattle.printer.proofs.DigitsWritten.{whole-length}
 use borrow.Author.Needs.{needs}
 use Rattle.printer.proofs.digits.whole_length.Statement.{statement}
 use Rattle.printer.proofs.digits.whole_length.Tie as tie

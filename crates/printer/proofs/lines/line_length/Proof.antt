@@ -1,26 +1,46 @@
 -- `line_length` meets its contract. Assumes nothing.
 use native.Mathlib.Omega.{arith}
-use Rattle.arith.proofs.Signs.{back}
-use Rattle.printer.specs.machine.Writing.{term}
-use Rattle.printer.proofs.Pieces.{line-length}
 use borrow.Author.Needs.{needs}
+use Rattle.packed.specs.machine.Table.{term-at}
+use Rattle.printer.proofs.LinePieces.{line-length}
 use Rattle.printer.proofs.lines.line_length.Statement.{statement}
 use Rattle.printer.proofs.lines.line_length.Tie as tie
 
-is-neg-requires : tie.Need-is-neg-requires
-is-neg-requires c κs = search needs
+mul-row : tie.Need-mul-row
+mul-row c = search needs
 
-abs-requires : tie.Need-abs-requires
-abs-requires c κs = search needs
+element-copy-out-row : tie.Need-element-copy-out-row
+element-copy-out-row c = search needs
 
-is-neg-requires-2 : tie.Need-is-neg-requires-2
-is-neg-requires-2 c κs = search needs
+array-read-below-zero : tie.Need-array-read-below-zero
+array-read-below-zero c = search needs
 
-abs-requires-2 : tie.Need-abs-requires-2
-abs-requires-2 c κs = search needs
+below-zero-requires : tie.Need-below-zero-requires
+below-zero-requires c κs = search needs
+
+array-read-magnitude : tie.Need-array-read-magnitude
+array-read-magnitude c = search needs
+
+magnitude-requires : tie.Need-magnitude-requires
+magnitude-requires c κs = search needs
+
+array-read-below-zero-2 : tie.Need-array-read-below-zero-2
+array-read-below-zero-2 c = search needs
+
+below-zero-requires-2 : tie.Need-below-zero-requires-2
+below-zero-requires-2 c κs = search needs
+
+array-read-magnitude-2 : tie.Need-array-read-magnitude-2
+array-read-magnitude-2 c = search needs
+
+magnitude-requires-2 : tie.Need-magnitude-requires-2
+magnitude-requires-2 c κs = search needs
 
 decimal-length-requires : tie.Need-decimal-length-requires
 decimal-length-requires c κs = search needs
+
+array-read-decimal-length : tie.Need-array-read-decimal-length
+array-read-decimal-length c = search needs
 
 decimal-length-requires-2 : tie.Need-decimal-length-requires-2
 decimal-length-requires-2 c κs = search needs
@@ -38,25 +58,35 @@ add-result-3 : tie.Need-add-result-3
 add-result-3 c = search needs
 
 returns : tie.Need-returns
+unfolding term-at
 returns c =
     let known = c .before .before .before in
-    let s = known .before .before .before .before in
-    let a = back (s .args .a) (s .fits .a) in
-    let z = back (s .args .c) (s .fits .c) in
+    let s = known .before .before .before .before .before in
     let n = c .before .before .decimal-length .ensures in
     let m = c .before .decimal-length2 .ensures in
-    let k = c .decimal-length3 .ensures in
-    (line-length (term (s .args .a) (s .args .b) (s .args .c)) _ _ _ _ (rw a at (known .before .before .before .is-neg .ensures)) (rw a at (known .before .before .abs .ensures)) (rw z at (known .before .is-neg2 .ensures)) (rw z at (known .abs2 .ensures)) _ _ _ (n .0) (m .0) (k .0), omega (arith, n .1, m .1, k .1))
+    let l = c .decimal-length3 .ensures in
+    let minus-a = known .before .before .before .below-zero .ensures in
+    let size-a = known .before .before .magnitude .ensures in
+    let minus-c = known .before .below-zero2 .ensures in
+    let e = line-length (term-at (s .args .table .now) (s .args .k)) _ _ _ _ minus-a size-a minus-c (known .magnitude2 .ensures) _ _ _ (n .0) (m .0) (l .0) in
+    (e, omega (arith, n .1, m .1, l .1))
 
 pub line-length-spec : {M : Type 1} → statement M
 line-length-spec =
     tie.close
     (tie.spec
-    is-neg-requires
-    abs-requires
-    is-neg-requires-2
-    abs-requires-2
+    mul-row
+    element-copy-out-row
+    array-read-below-zero
+    below-zero-requires
+    array-read-magnitude
+    magnitude-requires
+    array-read-below-zero-2
+    below-zero-requires-2
+    array-read-magnitude-2
+    magnitude-requires-2
     decimal-length-requires
+    array-read-decimal-length
     decimal-length-requires-2
     decimal-length-requires-3
     add-result

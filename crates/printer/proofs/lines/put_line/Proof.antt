@@ -4,59 +4,89 @@ use mathlib.Core.Bool.{false}
 use mathlib.Core.List.{List, [], _∷_}
 use Prim.Native.Nat.{ℕ}
 use borrow.Author.Needs.{needs}
-use Rattle.arith.proofs.Signs.{back}
-use Rattle.text.specs.Grammar.{decimal}
+use Rattle.packed.specs.machine.Table.{number-at, term-at}
+use Rattle.text.specs.Grammar.{feed, decimal}
 use Rattle.printer.specs.Printer.{plain-decimal}
-use Rattle.printer.specs.machine.Writing.{term, line-text}
-use Rattle.printer.proofs.Writing.{joined, Left, left-is, left-more, left-over, left-room}
-use Rattle.printer.proofs.Pieces.{line-pieces}
+use Rattle.printer.specs.machine.Writing.{line-of}
+use Rattle.printer.proofs.PieceByPiece.{joined, Left, left-is, left-more, left-over, left-room}
+use Rattle.printer.proofs.LinePieces.{line-pieces}
 use Rattle.printer.proofs.lines.put_line.Statement.{statement}
 use Rattle.printer.proofs.lines.put_line.Tie as tie
 
-abbrev texts : tie.After-abs2 → List (List ℕ)
+abbrev texts : tie.After-magnitude2 → List (List ℕ)
 texts c =
-    let s = c .before .before .before .before .before in
-    decimal (plain-decimal (c .before .before .before .is-neg .result) (c .before .before .abs .result)) ∷ (32 ∷ []) ∷ decimal (plain-decimal false (s .args .b)) ∷ (32 ∷ []) ∷ decimal (plain-decimal (c .before .is-neg2 .result) (c .abs2 .result)) ∷ (10 ∷ []) ∷ []
-
-pieces : (c : tie.After-abs2) → line-text (term (c .before .before .before .before .before .args .a) (c .before .before .before .before .before .args .b) (c .before .before .before .before .before .args .c)) ≡ joined (texts c)
-pieces c =
-    let s = c .before .before .before .before .before in
-    line-pieces (term (s .args .a) (s .args .b) (s .args .c)) _ _ _ _ (rw (back (s .args .a) (s .fits .a)) at (c .before .before .before .is-neg .ensures)) (rw (back (s .args .a) (s .fits .a)) at (c .before .before .abs .ensures)) (rw (back (s .args .c) (s .fits .c)) at (c .before .is-neg2 .ensures)) (rw (back (s .args .c) (s .fits .c)) at (c .abs2 .ensures))
+    let s = c .before .before .before .before .before .before in
+    let a = decimal (plain-decimal (c .before .before .before .below-zero .result) (c .before .before .magnitude .result)) in
+    let b = decimal (plain-decimal false (number-at (s .args .table .now) (s .args .k) 1)) in
+    let l = decimal (plain-decimal (c .before .below-zero2 .result) (c .magnitude2 .result)) in
+    a ∷ (32 ∷ []) ∷ b ∷ (32 ∷ []) ∷ l ∷ (feed ∷ []) ∷ []
 
 -- Before the first write all pieces are left.
-begun : (c : tie.After-abs2) → Left (line-text (term (c .before .before .before .before .before .args .a) (c .before .before .before .before .before .args .b) (c .before .before .before .before .before .args .c))) (c .before .before .before .before .before .args .at) (c .before .before .before .before .before .args .out .now) (texts c) (c .before .before .before .before .before .args .at) (c .before .before .before .before .before .args .out .now)
-begun c = left-is (pieces c) (c .before .before .before .before .before .args .at) (c .before .before .before .before .before .args .out .now)
+pieces : (c : tie.After-magnitude2) → let s = c .before .before .before .before .before .before in line-of (s .args .table .now) (s .args .k) ≡ joined (texts c)
+unfolding term-at
+pieces c =
+    let s = c .before .before .before .before .before .before in
+    let minus-a = c .before .before .before .below-zero .ensures in
+    line-pieces (term-at (s .args .table .now) (s .args .k)) _ _ _ _ minus-a (c .before .before .magnitude .ensures) (c .before .below-zero2 .ensures) (c .magnitude2 .ensures)
 
-is-neg-requires : tie.Need-is-neg-requires
-is-neg-requires c κs = tt
+begun : (c : tie.After-magnitude2)
+    → let s = c .before .before .before .before .before .before in
+    Left (line-of (s .args .table .now) (s .args .k)) (s .args .at) (s .args .out .now) (texts c) (s .args .at) (s .args .out .now)
+begun c = let s = c .before .before .before .before .before .before in left-is (pieces c) (s .args .at) (s .args .out .now)
 
-abs-requires : tie.Need-abs-requires
-abs-requires c κs = tt
+mul-row : tie.Need-mul-row
+mul-row c = search needs
 
-is-neg-requires-2 : tie.Need-is-neg-requires-2
-is-neg-requires-2 c κs = tt
+element-copy-out-row : tie.Need-element-copy-out-row
+element-copy-out-row c = search needs
 
-abs-requires-2 : tie.Need-abs-requires-2
-abs-requires-2 c κs = tt
+array-read-below-zero : tie.Need-array-read-below-zero
+array-read-below-zero c = search needs
+
+below-zero-requires : tie.Need-below-zero-requires
+below-zero-requires c κs = search needs
+
+array-read-magnitude : tie.Need-array-read-magnitude
+array-read-magnitude c = search needs
+
+magnitude-requires : tie.Need-magnitude-requires
+magnitude-requires c κs = search needs
+
+array-read-below-zero-2 : tie.Need-array-read-below-zero-2
+array-read-below-zero-2 c = search needs
+
+below-zero-requires-2 : tie.Need-below-zero-requires-2
+below-zero-requires-2 c κs = search needs
+
+array-read-magnitude-2 : tie.Need-array-read-magnitude-2
+array-read-magnitude-2 c = search needs
+
+magnitude-requires-2 : tie.Need-magnitude-requires-2
+magnitude-requires-2 c κs = search needs
 
 put-decimal-requires : tie.Need-put-decimal-requires
 put-decimal-requires c κs =
-    left-room (begun (c .before)) (c .before .before .before .before .before .before .pre)
+    let known = c .before in
+    left-room (begun known) (known .before .before .before .before .before .before .pre .2)
 
 put-byte-requires : tie.Need-put-byte-requires
 put-byte-requires c κs =
     let first = c .before .before .before in
     let known = first .before .before in
-    let s = known .before .before .before .before .before in
-    left-room (left-more (begun known) (first .put-decimal .ensures)) (s .pre)
+    let left1 = left-more (begun known) (first .put-decimal .ensures) in
+    left-room left1 (known .before .before .before .before .before .before .pre .2)
+
+array-read-put-decimal : tie.Need-array-read-put-decimal
+array-read-put-decimal c = search needs
 
 put-decimal-requires-2 : tie.Need-put-decimal-requires-2
 put-decimal-requires-2 c κs =
     let space = c .before .before .before in
     let first = space .before .before .before .before in
     let known = first .before .before in
-    let s = known .before .before .before .before .before in
-    left-room (left-more (left-more (begun known) (first .put-decimal .ensures)) (space .put-byte .ensures)) (s .pre)
+    let left1 = left-more (begun known) (first .put-decimal .ensures) in
+    let left2 = left-more left1 (space .put-byte .ensures) in
+    left-room left2 (known .before .before .before .before .before .before .pre .2)
 
 put-byte-requires-2 : tie.Need-put-byte-requires-2
 put-byte-requires-2 c κs =
@@ -64,8 +94,10 @@ put-byte-requires-2 c κs =
     let space = second .before .before .before .before in
     let first = space .before .before .before .before in
     let known = first .before .before in
-    let s = known .before .before .before .before .before in
-    left-room (left-more (left-more (left-more (begun known) (first .put-decimal .ensures)) (space .put-byte .ensures)) (second .put-decimal2 .ensures)) (s .pre)
+    let left1 = left-more (begun known) (first .put-decimal .ensures) in
+    let left2 = left-more left1 (space .put-byte .ensures) in
+    let left3 = left-more left2 (second .put-decimal2 .ensures) in
+    left-room left3 (known .before .before .before .before .before .before .pre .2)
 
 put-decimal-requires-3 : tie.Need-put-decimal-requires-3
 put-decimal-requires-3 c κs =
@@ -74,8 +106,11 @@ put-decimal-requires-3 c κs =
     let space = second .before .before .before .before in
     let first = space .before .before .before .before in
     let known = first .before .before in
-    let s = known .before .before .before .before .before in
-    left-room (left-more (left-more (left-more (left-more (begun known) (first .put-decimal .ensures)) (space .put-byte .ensures)) (second .put-decimal2 .ensures)) (space2 .put-byte2 .ensures)) (s .pre)
+    let left1 = left-more (begun known) (first .put-decimal .ensures) in
+    let left2 = left-more left1 (space .put-byte .ensures) in
+    let left3 = left-more left2 (second .put-decimal2 .ensures) in
+    let left4 = left-more left3 (space2 .put-byte2 .ensures) in
+    left-room left4 (known .before .before .before .before .before .before .pre .2)
 
 put-byte-requires-3 : tie.Need-put-byte-requires-3
 put-byte-requires-3 c κs =
@@ -85,8 +120,12 @@ put-byte-requires-3 c κs =
     let space = second .before .before .before .before in
     let first = space .before .before .before .before in
     let known = first .before .before in
-    let s = known .before .before .before .before .before in
-    left-room (left-more (left-more (left-more (left-more (left-more (begun known) (first .put-decimal .ensures)) (space .put-byte .ensures)) (second .put-decimal2 .ensures)) (space2 .put-byte2 .ensures)) (third .put-decimal3 .ensures)) (s .pre)
+    let left1 = left-more (begun known) (first .put-decimal .ensures) in
+    let left2 = left-more left1 (space .put-byte .ensures) in
+    let left3 = left-more left2 (second .put-decimal2 .ensures) in
+    let left4 = left-more left3 (space2 .put-byte2 .ensures) in
+    let left5 = left-more left4 (third .put-decimal3 .ensures) in
+    left-room left5 (known .before .before .before .before .before .before .pre .2)
 
 same-length : tie.Need-same-length
 same-length c = search needs
@@ -100,18 +139,31 @@ returns c =
     let space = second .before .before .before .before in
     let first = space .before .before .before .before in
     let known = first .before .before in
-    left-over (left-more (left-more (left-more (left-more (left-more (left-more (begun known) (first .put-decimal .ensures)) (space .put-byte .ensures)) (second .put-decimal2 .ensures)) (space2 .put-byte2 .ensures)) (third .put-decimal3 .ensures)) (end .put-byte3 .ensures))
+    let left1 = left-more (begun known) (first .put-decimal .ensures) in
+    let left2 = left-more left1 (space .put-byte .ensures) in
+    let left3 = left-more left2 (second .put-decimal2 .ensures) in
+    let left4 = left-more left3 (space2 .put-byte2 .ensures) in
+    let left5 = left-more left4 (third .put-decimal3 .ensures) in
+    let left6 = left-more left5 (end .put-byte3 .ensures) in
+    left-over left6
 
 pub put-line-spec : {M : Type 1} → statement M
 put-line-spec =
     tie.close
     (tie.spec
-    is-neg-requires
-    abs-requires
-    is-neg-requires-2
-    abs-requires-2
+    mul-row
+    element-copy-out-row
+    array-read-below-zero
+    below-zero-requires
+    array-read-magnitude
+    magnitude-requires
+    array-read-below-zero-2
+    below-zero-requires-2
+    array-read-magnitude-2
+    magnitude-requires-2
     put-decimal-requires
     put-byte-requires
+    array-read-put-decimal
     put-decimal-requires-2
     put-byte-requires-2
     put-decimal-requires-3

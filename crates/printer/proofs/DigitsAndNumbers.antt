@@ -11,7 +11,7 @@ use lib.Dec.{ltb, lit<}
 use lib.ListN.{length}
 use Rattle.text.specs.Grammar.{AllDigits, numeral, Natural}
 use Rattle.printer.specs.Printer.{last-digits, further, further-digits, first-digit, rest-digits}
-use Rattle.printer.proofs.Figures.{div-power, first-small, further-bound, last-first, length-last}
+use Rattle.printer.proofs.DigitsWritten.{div-power, first-small, further-bound, last-first, length-last}
 
 -- The last n digits, after what stands before them, write the number.
 numeral-append : (v : ℕ) (xs : List ℕ) (d : ℕ) → numeral v (xs ++ d ∷ []) ≡ 10 * numeral v xs + d

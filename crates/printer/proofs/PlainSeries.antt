@@ -15,7 +15,7 @@ use Rattle.text.specs.Grammar.{count, TermLine, Block, term-of-line, terms-of-l
 use Rattle.text.proofs.Series.{length-terms, NoMinus, FromZero, blocks-in}
 use Rattle.printer.specs.Printer.{plain-decimal, plain-term, plain-block}
 use Rattle.printer.proofs.Spacing.{PlainLines, Plain}
-use Rattle.printer.proofs.Reading.{decimal-good, number-good, count-plain, count-good, count-unique, term-plain, term-unique}
+use Rattle.printer.proofs.PlainLines.{decimal-good, number-good, count-plain, count-good, count-unique, term-plain, term-unique}
 
 -- The numbers of the printed lines.
 pub terms-plain : (ts : List Term) → terms-of-lines (map plain-term ts) ≡ ts

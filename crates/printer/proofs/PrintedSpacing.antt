@@ -7,19 +7,20 @@ use native.Mathlib.Omega.{arith}
 use lib.IntN.{natAbs}
 use lib.ListN.{length}
 use Rattle.integers.specs.Signs.{negative}
+use Rattle.units.specs.Units.{parts}
 use Rattle.limits.specs.declared.Term.{Term}
-use Rattle.text.specs.Grammar.{sign, digits, decimal, count-bytes}
-use Rattle.printer.specs.Printer.{last-digits, first-digit, rest-digits, plain-decimal, plain-count, plain-text}
+use Rattle.text.specs.Grammar.{feed, sign, point, digits, decimal, count-bytes}
+use Rattle.printer.specs.Printer.{places, last-digits, first-digit, rest-digits, plain-decimal, plain-count, plain-text}
 use Rattle.printer.specs.Plain.{Spaced, PlainText}
 use Rattle.printer.specs.machine.Writing.{line-text, lines-text, block-text}
-use Rattle.printer.proofs.Writing.{joined}
-use Rattle.printer.proofs.Pieces.{line-pieces}
-use Rattle.printer.proofs.Tables.{lines-cons, lines-none, text-cons, text-none}
+use Rattle.printer.proofs.PieceByPiece.{joined}
+use Rattle.printer.proofs.LinePieces.{line-pieces}
+use Rattle.printer.proofs.TableText.{lines-cons, lines-none, text-cons, text-none}
 
 -- Bytes that are neither a space nor a line feed.
 record Solid (b : ℕ) : Type 0 where
   no-space : b ≡ 32 → ⊥
-  no-feed : b ≡ 10 → ⊥
+  no-feed : b ≡ feed → ⊥
 
 abbrev AllSolid : List ℕ → Type 0
 AllSolid [] = Unit {0}
@@ -41,12 +42,12 @@ solid-sign false = tt
 
 -- A decimal ends in such bytes: its whole digits, the point and the digits after it.
 abbrev solid-tail : ℕ → List ℕ
-solid-tail v = digits (rest-digits (v / 100000000000)) ++ (46 ∷ digits (last-digits 11 v))
+solid-tail v = digits (rest-digits (v / parts)) ++ (point ∷ digits (last-digits places v))
 
 solid-end : (v : ℕ) → AllSolid (solid-tail v)
 solid-end v =
-    solid-append (digits (rest-digits (v / 100000000000))) (46 ∷ digits (last-digits 11 v)) (solid-digits (rest-digits (v / 100000000000)))
-    (record { no-space = λ e. omega (arith, e); no-feed = λ e. omega (arith, e) }, solid-digits (last-digits 11 v))
+    solid-append (digits (rest-digits (v / parts))) (point ∷ digits (last-digits places v)) (solid-digits (rest-digits (v / parts)))
+    (record { no-space = λ e. omega (arith, e); no-feed = λ e. omega (arith, e) }, solid-digits (last-digits places v))
 
 -- What may follow solid bytes.
 abbrev Next : List ℕ → Type 0
@@ -62,39 +63,39 @@ digit-solid d = record { no-space = λ e. omega (arith, e); no-feed = λ e. omeg
 
 decimal-then : (p : ℕ) (minus : Bool) (v : ℕ) (ys : List ℕ) → Next ys → Spaced p (decimal (plain-decimal minus v) ++ ys)
 unfolding decimal plain-decimal sign digits
-decimal-then p true v ys k = solid-then p 45 ((48 + first-digit (v / 100000000000)) ∷ solid-tail v) ys (solid-sign true .0) (digit-solid (first-digit (v / 100000000000)), solid-end v) k
-decimal-then p false v ys k = solid-then p (48 + first-digit (v / 100000000000)) (solid-tail v) ys (digit-solid (first-digit (v / 100000000000))) (solid-end v) k
+decimal-then p true v ys k = solid-then p 45 ((48 + first-digit (v / parts)) ∷ solid-tail v) ys (solid-sign true .0) (digit-solid (first-digit (v / parts)), solid-end v) k
+decimal-then p false v ys k = solid-then p (48 + first-digit (v / parts)) (solid-tail v) ys (digit-solid (first-digit (v / parts))) (solid-end v) k
 
 space-then : (ys : List ℕ) → Spaced 32 ys → Next (32 ∷ ys)
 unfolding Spaced
 space-then ys h q s = (λ e. (s .no-space, s .no-feed), h)
 
-feed-then : (p : ℕ) (ys : List ℕ) → Spaced 10 ys → Spaced p (10 ∷ ys)
+feed-then : (p : ℕ) (ys : List ℕ) → Spaced feed ys → Spaced p (feed ∷ ys)
 unfolding Spaced
 feed-then p ys h = (λ e. absurd (omega (arith, e)), h)
 
 -- A line, the lines of a block, a block, and the whole text.
-line-then : (t : Term) (ys : List ℕ) → Spaced 10 ys → Spaced 10 (line-text t ++ ys)
+line-then : (t : Term) (ys : List ℕ) → Spaced feed ys → Spaced feed (line-text t ++ ys)
 unfolding joined
 line-then t ys h =
     let a = decimal (plain-decimal (negative (t .a)) (natAbs (t .a))) in
     let b = decimal (plain-decimal false (t .b)) in
     let c = decimal (plain-decimal (negative (t .c)) (natAbs (t .c))) in
-    let e : line-text t ++ ys ≡ a ++ (32 ∷ (b ++ (32 ∷ (c ++ (10 ∷ ys))))) = ap (λ (l : List ℕ). l ++ ys) (line-pieces t _ _ _ _ refl refl refl refl) ∙ (append-assoc a (32 ∷ (b ++ (32 ∷ (c ++ (10 ∷ []))))) ys ∙ ap (λ (l : List ℕ). a ++ (32 ∷ l)) (append-assoc b (32 ∷ (c ++ (10 ∷ []))) ys ∙ ap (λ (l : List ℕ). b ++ (32 ∷ l)) (append-assoc c (10 ∷ []) ys))) in
+    let e : line-text t ++ ys ≡ a ++ (32 ∷ (b ++ (32 ∷ (c ++ (feed ∷ ys))))) = ap (λ (l : List ℕ). l ++ ys) (line-pieces t _ _ _ _ refl refl refl refl) ∙ (append-assoc a (32 ∷ (b ++ (32 ∷ (c ++ (feed ∷ []))))) ys ∙ ap (λ (l : List ℕ). a ++ (32 ∷ l)) (append-assoc b (32 ∷ (c ++ (feed ∷ []))) ys ∙ ap (λ (l : List ℕ). b ++ (32 ∷ l)) (append-assoc c (feed ∷ []) ys))) in
     rw e
-    (decimal-then 10 (negative (t .a)) (natAbs (t .a)) _
+    (decimal-then feed (negative (t .a)) (natAbs (t .a)) _
     (space-then _ (decimal-then 32 false (t .b) _
     (space-then _ (decimal-then 32 (negative (t .c)) (natAbs (t .c)) _ (λ q s. feed-then q ys h))))))
 
-lines-then : (ts : List Term) (ys : List ℕ) → Spaced 10 ys → Spaced 10 (lines-text ts ++ ys)
+lines-then : (ts : List Term) (ys : List ℕ) → Spaced feed ys → Spaced feed (lines-text ts ++ ys)
 lines-then [] ys h = rw lines-none h
 lines-then (t ∷ ts) ys h = rw (lines-cons t ts, append-assoc (line-text t) (lines-text ts) ys) (line-then t (lines-text ts ++ ys) (lines-then ts ys h))
 
-block-then : (ts : List Term) (ys : List ℕ) → Spaced 10 ys → Spaced 10 (block-text ts ++ ys)
+block-then : (ts : List Term) (ys : List ℕ) → Spaced feed ys → Spaced feed (block-text ts ++ ys)
 unfolding block-text count-bytes plain-count digits
 block-then ts ys h =
-    rw (append-assoc (digits (first-digit (length ts) ∷ rest-digits (length ts))) (10 ∷ lines-text ts) ys)
-    (solid-then 10 (48 + first-digit (length ts)) (digits (rest-digits (length ts))) (10 ∷ (lines-text ts ++ ys)) (digit-solid (first-digit (length ts))) (solid-digits (rest-digits (length ts))) (λ q s. feed-then q (lines-text ts ++ ys) (lines-then ts ys h)))
+    rw (append-assoc (digits (first-digit (length ts) ∷ rest-digits (length ts))) (feed ∷ lines-text ts) ys)
+    (solid-then feed (48 + first-digit (length ts)) (digits (rest-digits (length ts))) (feed ∷ (lines-text ts ++ ys)) (digit-solid (first-digit (length ts))) (solid-digits (rest-digits (length ts))) (λ q s. feed-then q (lines-text ts ++ ys) (lines-then ts ys h)))
 
 pub text-spaced : (blocks : List (List Term)) → PlainText (plain-text blocks)
 text-spaced [] = rw text-none (unfold Spaced in tt)
