@@ -12,10 +12,10 @@ use Rattle.text.specs.Judge.{Verdict, count-end, term-end, verdict}
 use Rattle.text.specs.Reader.{stopped, wrote, step}
 use Rattle.text.specs.Grammar.{CountLine, count-bytes, GoodCount, TermLine, term-bytes, GoodTerm}
 use Rattle.integers.proofs.Tests.{by-cases}
-use Rattle.text.proofs.Stepping.{verdict-count, verdict-term, verdict-early}
-use Rattle.text.proofs.Lexing.{count-run, term-run}
-use Rattle.text.proofs.Parsing.{term-in}
-use Rattle.text.proofs.Counting.{count-in}
+use Rattle.text.proofs.Branches.{verdict-count, verdict-term, verdict-early}
+use Rattle.text.proofs.GoodLines.{count-run, term-run}
+use Rattle.text.proofs.TakenTerms.{term-in}
+use Rattle.text.proofs.TakenCounts.{count-in}
 use Rattle.text.proofs.Lines.{Going, step-feed}
 use Rattle.text.proofs.Verdicts.{not-count, not-term, is-whole, count-among, term-among, wrote-status}
 

@@ -1,18 +1,22 @@
+-- Laws of the reader of texts, each file on those above it. Digits: which digits go on; LineLimits: a line's numbers; WrittenTerm: its bytes;
+-- Branches: each way through the reader's code. GoodLines, GoodTexts: what follows the grammar is taken; OneByte, TakenTerms, TakenCounts,
+-- TakenTexts: what is taken follows the grammar. Lines, Verdicts: the reader a line at a time, and what it judges of one. Prefixes, Feeds:
+-- refusal 3. Output: what any text leaves. Acceptance: when a text is accepted. Theorems: the promises; Series: the bytes as a packed series.
 pub mod Digits
 pub mod LineLimits
-pub mod Writing
-pub mod Stepping
-pub mod Lexing
-pub mod Unlexing
-pub mod Parsing
-pub mod Counting
+pub mod WrittenTerm
+pub mod Branches
+pub mod GoodLines
+pub mod OneByte
+pub mod TakenTerms
+pub mod TakenCounts
 pub mod Lines
 pub mod Verdicts
-pub mod Accepting
-pub mod Taking
+pub mod TakenTexts
+pub mod GoodTexts
 pub mod Prefixes
 pub mod Feeds
-pub mod Leaving
-pub mod Ending
+pub mod Output
+pub mod Acceptance
 pub mod Theorems
 pub mod Series

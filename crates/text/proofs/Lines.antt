@@ -1,12 +1,12 @@
--- The machine, a line at a time: bytes within a line, its line feed, and what an answer without a refusal says of them. Assumes nothing.
+-- The reader, a line at a time: bytes within a line, its line feed, and what an answer without a refusal says of them. Assumes nothing.
 use mathlib.Core.Path.{_≡_, refl, sym, ap, _∙_}
 use mathlib.Core.List.{List, [], _∷_, _++_}
-use Prim.Native.Nat.{ℕ, suc, _+_, _≤_}
+use Prim.Native.Nat.{ℕ, suc, _+_, _≤_, _<_}
 use native.Mathlib.Nat.{add-zero}
 use native.Mathlib.Omega.{arith}
 use borrow.Author.Tests.{leb-true, eqb-true, eqb-false, eq-eqb, ne-eqb, le-leb}
 use lib.Dec.{leb, eqb}
-use lib.ListN.{length}
+use lib.ListN.{length, length-append}
 use lib.Seq.{sets}
 use Rattle.text.specs.declared.Line.{Line}
 use Rattle.text.specs.declared.Reader.{Reader}
@@ -16,7 +16,7 @@ use Rattle.text.specs.Reader.{last-offset, stopped, further-in-line, aft
 use Rattle.text.specs.Reader.{step, step-out, Run, run}
 use Rattle.text.proofs.Digits.{early}
 use Rattle.integers.proofs.Tests.{by-cases}
-use Rattle.text.proofs.Unlexing.{Lexed, none, digit, pointed, spaced, kept, negated, view}
+use Rattle.text.proofs.OneByte.{Lexed, none, digit, pointed, spaced, kept, negated, view}
 
 -- The reader r, so many bytes further, in a line.
 abbrev pub moved : Reader → Line → ℕ → Reader
@@ -193,6 +193,10 @@ pub record NextLine (r : Reader) (out xs : List ℕ) : Type 0 where
   pub good : verdict before .refusal ≡ 0
   pub room : before .written + length (verdict before .bytes) ≤ length out
   pub next : run r out xs ≡ run (after-line before (verdict before)) (sets out (before .written) (verdict before .bytes)) rest
+
+-- What comes after a line is shorter.
+pub shorter : (xs body rest : List ℕ) → xs ≡ body ++ (10 ∷ rest) → length rest < length xs
+shorter xs body rest e = omega (arith, ap length e, length-append body (10 ∷ rest))
 
 feed-good : (r : Reader) (out xs : List ℕ) → Going r → Taken (run (step r out 10) (step-out r out 10) xs)
     → (verdict r .refusal ≡ 0) × (r .written + length (verdict r .bytes) ≤ length out)

@@ -4,7 +4,7 @@ use mathlib.Core.Bool.{true, false}
 use mathlib.Core.List.{List, [], _∷_, _++_, append-nil}
 use mathlib.Core.Logic.{inr}
 use Prim.Native.Nat.{ℕ, zero, suc, _+_, _*_, _-_, _^_, _≤_, _<_}
-use native.Mathlib.Nat.{pow-succ', pow-le-pow-right}
+use native.Mathlib.Nat.{pow-le-pow-right}
 use native.Mathlib.Omega.{arith}
 use borrow.Author.Tests.{eq-eqb, eqb-true, eqb-false, lt-ltb, leb-true, leb-false}
 use lib.Dec.{eqb, leb, lit<}
@@ -15,10 +15,10 @@ use Rattle.text.specs.Grammar.{digits, AllDigits, numeral, Natural, Deci
 use Rattle.text.specs.Grammar.{CountLine, count-bytes, GoodCount, TermLine, term-bytes, GoodTerm}
 use Rattle.text.proofs.Digits.{early}
 use Rattle.integers.proofs.Tests.{by-cases}
-use Rattle.text.proofs.Lexing.{put, keep, flag, lexes-append, parts-run, lex-point, lex-keep, natural-run, whole-spots, decimal-run, count-run, term-run}
-use Rattle.text.proofs.Unlexing.{Lexed, none, digit, pointed, spaced, kept, negated, view}
-use Rattle.text.proofs.Parsing.{no-digit, term-in}
-use Rattle.text.proofs.Counting.{count-in}
+use Rattle.text.proofs.GoodLines.{put, keep, flag, ten, lexes-append, parts-run, lex-point, lex-keep, natural-run, whole-spots, decimal-run, count-run, term-run}
+use Rattle.text.proofs.OneByte.{Lexed, none, digit, pointed, spaced, kept, negated, view}
+use Rattle.text.proofs.TakenTerms.{no-digit, term-in}
+use Rattle.text.proofs.TakenCounts.{count-in}
 use Rattle.text.proofs.Lines.{Going, step-in, step-bad, bad-end}
 use Rattle.text.specs.declared.Reader.{Reader}
 use Rattle.text.specs.Reader.{stopped, step}
@@ -32,9 +32,6 @@ record Live (l : Line) : Type 0 where
 live-step : (l : Line) (byte : ℕ) → Live l → (lex l byte .spot ≡ 31 → ⊥) → Live (lex l byte)
 live-step l byte v = go (lex l byte) (view l byte)
   where
-    ten : (n : ℕ) → 10 ^ (n + 1) ≡ 10 * 10 ^ n
-    ten n = let e : n + 1 ≡ suc n = omega arith in ap (λ (k : ℕ). 10 ^ k) e ∙ pow-succ' 10 n
-
     seven : (n : ℕ) → n ≤ 7 → 10 ^ n ≤ 10 ^ 7
     seven n h = pow-le-pow-right (lit< tt) h
 

@@ -20,6 +20,7 @@ use Rattle.text.specs.Reader.{told, whole}
 use Rattle.text.specs.Grammar.{count, TermLine, Block, term-of-line, terms-of-lines, blocks-of-lines, GoodBlocks, GoodText}
 use Rattle.text.specs.Grammar.{TermInLimits, TermsInLimits, BlocksInLimits, InLimits}
 use Rattle.text.proofs.Theorems.{Reads, accepted-text}
+pub use Rattle.text.proofs.TakenTexts.{length-terms}
 
 -- ---- The limits of a term, as the text and as the packed series have them.
 
@@ -32,17 +33,12 @@ module _ (f : ℕ) (s : Tally) (l : TermLine) where
       let p = passes-of f s (term-of-line l) g in
       record { from-zero = u; a = p .a; b = p .b; c = p .c; total = p .total; coarse = p .coarse }
 
--- ---- The numbers of lines, as many as the lines.
+-- ---- As many blocks of terms as blocks.
 
 length-blocks : (ks : List Block) → length (blocks-of-lines ks) ≡ length ks
 unfolding blocks-of-lines
 length-blocks [] = refl
 length-blocks (k ∷ ks) = ap suc (length-blocks ks)
-
-pub length-terms : (ls : List TermLine) → length (terms-of-lines ls) ≡ length ls
-unfolding terms-of-lines
-length-terms [] = refl
-length-terms (l ∷ ls) = ap suc (length-terms ls)
 
 -- ---- Lines within the limits have numbers within the limits.
 

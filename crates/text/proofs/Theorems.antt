@@ -12,16 +12,16 @@ use Rattle.text.specs.declared.Reader.{Reader}
 use Rattle.text.specs.declared.Outcome.the-variants.{Accepted}
 use Rattle.text.specs.Reader.{last-offset, begun, next-spot, step, step-out, Run, run, stopped, ended, told, whole}
 use Rattle.text.specs.Grammar.{feed, Block, lines-bytes, terms-of-lines, blocks-bytes, blocks-of-lines, GoodText, InLimits}
-use Rattle.text.proofs.Lexing.{lexes-append}
+use Rattle.text.proofs.GoodLines.{lexes-append}
 use Rattle.text.proofs.Lines.{Going, stays}
 use Rattle.text.proofs.Prefixes.{BeginsTerm, term-begins, term-goes-on, BeginsCount, count-begins, count-goes-on, refused-by}
 use Rattle.text.proofs.Feeds.{IsTerm, IsCount, feed-term, feed-count}
-use Rattle.text.proofs.Leaving.{Leaves, leaves}
+use Rattle.text.proofs.Output.{Leaves, leaves}
 use Rattle.text.specs.declared.Line.{Line}
 use Rattle.text.specs.Lexer.{spot-decimal, spot-count, fresh, lex, lexes}
-use Rattle.text.proofs.Accepting.{rest-in}
-use Rattle.text.proofs.Ending.{accepted-by, nothing}
-use Rattle.text.proofs.Taking.{blocks-run}
+use Rattle.text.proofs.TakenTexts.{rest-in}
+use Rattle.text.proofs.Acceptance.{accepted-by, nothing}
+use Rattle.text.proofs.GoodTexts.{blocks-run}
 
 -- The cutting rule: two calls are one with the bytes of both.
 pub cut : (r : Reader) (out xs ys : List ℕ) → run r out (xs ++ ys) ≡ run (run r out xs .reader) (run r out xs .out) ys

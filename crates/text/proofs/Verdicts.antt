@@ -23,10 +23,10 @@ use Rattle.text.specs.Reader.{next-spot, after-line, fits, wrote}
 use Rattle.text.specs.Grammar.{size, value, CountLine, count, GoodCount, TermLine, term-of-line, TermInLimits}
 use Rattle.text.proofs.Digits.{early}
 use Rattle.integers.proofs.Tests.{by-cases}
-use Rattle.text.proofs.Stepping.{verdict-count, verdict-term, verdict-early}
-use Rattle.text.proofs.Lexing.{put, flag, line-of-term}
-use Rattle.text.proofs.Unlexing.{Lexed, none, digit, pointed, spaced, kept, negated, view, never, term-of, count-of}
-use Rattle.text.proofs.Parsing.{no-digit}
+use Rattle.text.proofs.Branches.{verdict-count, verdict-term, verdict-early}
+use Rattle.text.proofs.GoodLines.{put, flag, line-of-term}
+use Rattle.text.proofs.OneByte.{Lexed, none, digit, pointed, spaced, kept, negated, view, never, term-of, count-of}
+use Rattle.text.proofs.TakenTerms.{no-digit}
 use Rattle.text.proofs.Lines.{moved}
 
 -- A reader at the beginning of a line.

@@ -59,46 +59,23 @@ takes-digit spot minus value d =
     (cond (ltb spot (spot-count + count-digits)) (whole-digit (eqb spot spot-count) value)
     false))))))
 
--- A digit.
-unfoldable pub with-digit : Line → ℕ → Line
-with-digit l d =
-    cond (takes-digit (l .spot) (l .minus) (l .value) d)
+-- The line l, put at another spot with another number so far.
+abbrev pub put : Line → ℕ → ℕ → ℕ → Line
+put l spot minus value =
     record {
-      spot = l .spot + 1;
+      spot = spot;
       field = l .field;
-      minus = l .minus;
-      value = 10 * l .value + d;
+      minus = minus;
+      value = value;
       minusa = l .minusa;
       a = l .a;
       minusb = l .minusb;
       b = l .b;
     }
-    bad
 
--- A point, after whole digits.
-unfoldable pub with-point : Line → Line
-with-point l =
-    cond (leb 1 (l .spot))
-    (cond (leb (l .spot) whole-digits)
-    record {
-      spot = spot-point;
-      field = l .field;
-      minus = l .minus;
-      value = l .value;
-      minusa = l .minusa;
-      a = l .a;
-      minusb = l .minusb;
-      b = l .b;
-    }
-    bad)
-    bad
-
--- A space, before a decimal, or after the first or the second, which then is kept: after two decimals a and b hold them.
-unfoldable pub with-space : Line → Line
-with-space l =
-    cond (eqb (l .spot) spot-decimal) (cond (eqb (l .minus) 0) l bad)
-    (cond (eqb (l .spot) spot-done)
-    (cond (ltb (l .field) 2)
+-- The line l before its next decimal: the one that ended is kept, so that after two decimals a and b hold them.
+abbrev pub keep : Line → ℕ → ℕ → Line
+keep l minus value =
     record {
       spot = spot-decimal;
       field = l .field + 1;
@@ -106,29 +83,31 @@ with-space l =
       value = 0;
       minusa = l .minusb;
       a = l .b;
-      minusb = l .minus;
-      b = l .value;
+      minusb = minus;
+      b = value;
     }
-    bad)
+
+-- A digit.
+unfoldable pub with-digit : Line → ℕ → Line
+with-digit l d =
+    cond (takes-digit (l .spot) (l .minus) (l .value) d) (put l (l .spot + 1) (l .minus) (10 * l .value + d)) bad
+
+-- A point, after whole digits.
+unfoldable pub with-point : Line → Line
+with-point l =
+    cond (leb 1 (l .spot)) (cond (leb (l .spot) whole-digits) (put l spot-point (l .minus) (l .value)) bad) bad
+
+-- A space, before a decimal, or after the first or the second.
+unfoldable pub with-space : Line → Line
+with-space l =
+    cond (eqb (l .spot) spot-decimal) (cond (eqb (l .minus) 0) l bad)
+    (cond (eqb (l .spot) spot-done) (cond (ltb (l .field) 2) (keep l (l .minus) (l .value)) bad)
     bad)
 
 -- A minus, before a decimal.
 unfoldable pub with-minus : Line → Line
 with-minus l =
-    cond (eqb (l .spot) spot-decimal)
-    (cond (eqb (l .minus) 0)
-    record {
-      spot = spot-decimal;
-      field = l .field;
-      minus = 1;
-      value = l .value;
-      minusa = l .minusa;
-      a = l .a;
-      minusb = l .minusb;
-      b = l .b;
-    }
-    bad)
-    bad
+    cond (eqb (l .spot) spot-decimal) (cond (eqb (l .minus) 0) (put l spot-decimal 1 (l .value)) bad) bad
 
 -- One byte of a line before its line feed.
 unfoldable pub lex : Line → ℕ → Line

@@ -5,7 +5,7 @@ use native.Mathlib.Omega.{arith}
 use borrow.Author.Needs.{needs}
 use lib.ListN.{length}
 use lib.ListN.{drop}
-use Rattle.text.proofs.Stepping.{run-more, run-end}
+use Rattle.text.proofs.Branches.{run-more, run-end}
 use Rattle.text.specs.Reader.{Run, run}
 use Rattle.text.proofs.piece.Statement.{statement}
 use Rattle.text.proofs.piece.Tie as tie

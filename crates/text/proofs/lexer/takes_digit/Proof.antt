@@ -1,40 +1,33 @@
--- `text::lexer::takes_digit` meets its contract: each answer is the definition's at the tests that led to it. Assumes nothing.
+-- `text::lexer::takes_digit` meets its contract: each answer is that of the part of a line where the digit stands. Assumes nothing.
+use mathlib.Core.Path.{sym, _∙_}
 use native.Mathlib.Omega.{arith}
-use borrow.Author.Tests.{lt-ltb, le-ltb, le-leb, lt-leb}
-use Rattle.text.specs.Lexer.{takes-digit}
 use borrow.Author.Needs.{needs}
+use Rattle.text.proofs.Digits.{over-limit, in-whole, before-point, in-parts, at-last-part, after-decimal, in-count, after-count}
 use Rattle.text.proofs.lexer.takes_digit.Statement.{statement}
 use Rattle.text.proofs.lexer.takes_digit.Tie as tie
 
 returns : tie.Need-returns
-unfolding takes-digit
-returns c = let a = c .before .args in rw (le-leb 1000000000000000000 (a .value) (omega arith))
+returns c =
+    let a = c .before .args in
+    sym (over-limit (a .spot) (a .minus) (a .value) (a .d) (omega arith))
 
 whole-digit-requires : tie.Need-whole-digit-requires
 whole-digit-requires c κs = search needs
 
 returns-2 : tie.Need-returns-2
-unfolding takes-digit
 returns-2 c =
     let a = c .before .before .before .args in
-    rw (c .whole-digit .ensures, lt-leb 1000000000000000000 (a .value) (omega arith), lt-ltb (a .spot) 6 (omega arith))
+    c .whole-digit .ensures ∙ sym (in-whole (a .spot) (a .minus) (a .value) (a .d) (omega arith) (omega arith))
 
 returns-3 : tie.Need-returns-3
-unfolding takes-digit
 returns-3 c =
     let a = c .before .before .before .args in
-    rw (lt-leb 1000000000000000000 (a .value) (omega arith), le-ltb (a .spot) 6 (omega arith), lt-ltb (a .spot) 7 (omega arith))
+    sym (before-point (a .spot) (a .minus) (a .value) (a .d) (omega arith) (omega arith) (omega arith))
 
 returns-4 : tie.Need-returns-4
-unfolding takes-digit
 returns-4 c =
     let a = c .before .before .before .before .args in
-    rw (
-      lt-leb 1000000000000000000 (a .value) (omega arith),
-      le-ltb (a .spot) 6 (omega arith),
-      le-ltb (a .spot) 7 (omega arith),
-      lt-ltb (a .spot) 17 (omega arith),
-    )
+    sym (in-parts (a .spot) (a .minus) (a .value) (a .d) (omega arith) (omega arith) (omega arith))
 
 add-whole-digit : tie.Need-add-whole-digit
 add-whole-digit c = search needs
@@ -43,62 +36,27 @@ whole-digit-requires-2 : tie.Need-whole-digit-requires-2
 whole-digit-requires-2 c κs = search needs
 
 returns-5 : tie.Need-returns-5
-unfolding takes-digit
 returns-5 c =
     let a = c .before .before .before .before .before .before .args in
-    rw (
-      c .whole-digit2 .ensures,
-      lt-leb 1000000000000000000 (a .value) (omega arith),
-      le-ltb (a .spot) 6 (omega arith),
-      le-ltb (a .spot) 7 (omega arith),
-      le-ltb (a .spot) 17 (omega arith),
-      lt-ltb (a .spot) 18 (omega arith),
-    )
+    c .whole-digit2 .ensures ∙ sym (at-last-part (a .spot) (a .minus) (a .value) (a .d) (omega arith) (omega arith) (omega arith))
 
 returns-6 : tie.Need-returns-6
-unfolding takes-digit
 returns-6 c =
     let a = c .before .before .before .before .before .before .args in
-    rw (
-      lt-leb 1000000000000000000 (a .value) (omega arith),
-      le-ltb (a .spot) 6 (omega arith),
-      le-ltb (a .spot) 7 (omega arith),
-      le-ltb (a .spot) 17 (omega arith),
-      le-ltb (a .spot) 18 (omega arith),
-      lt-ltb (a .spot) 20 (omega arith),
-    )
+    sym (after-decimal (a .spot) (a .minus) (a .value) (a .d) (omega arith) (omega arith) (omega arith))
 
 whole-digit-requires-3 : tie.Need-whole-digit-requires-3
 whole-digit-requires-3 c κs = search needs
 
 returns-7 : tie.Need-returns-7
-unfolding takes-digit
 returns-7 c =
     let a = c .before .before .before .before .before .before .before .before .args in
-    rw (
-      c .whole-digit3 .ensures,
-      lt-leb 1000000000000000000 (a .value) (omega arith),
-      le-ltb (a .spot) 6 (omega arith),
-      le-ltb (a .spot) 7 (omega arith),
-      le-ltb (a .spot) 17 (omega arith),
-      le-ltb (a .spot) 18 (omega arith),
-      le-ltb (a .spot) 20 (omega arith),
-      lt-ltb (a .spot) 24 (omega arith),
-    )
+    c .whole-digit3 .ensures ∙ sym (in-count (a .spot) (a .minus) (a .value) (a .d) (omega arith) (omega arith) (omega arith))
 
 returns-8 : tie.Need-returns-8
-unfolding takes-digit
 returns-8 c =
     let a = c .before .before .before .before .before .before .before .args in
-    rw (
-      lt-leb 1000000000000000000 (a .value) (omega arith),
-      le-ltb (a .spot) 6 (omega arith),
-      le-ltb (a .spot) 7 (omega arith),
-      le-ltb (a .spot) 17 (omega arith),
-      le-ltb (a .spot) 18 (omega arith),
-      le-ltb (a .spot) 20 (omega arith),
-      le-ltb (a .spot) 24 (omega arith),
-    )
+    sym (after-count (a .spot) (a .minus) (a .value) (a .d) (omega arith) (omega arith))
 
 pub takes-digit-spec : {M : Type 1} → statement M
 takes-digit-spec =

@@ -4,7 +4,7 @@ use native.Mathlib.Omega.{arith}
 use borrow.Author.Needs.{needs}
 use Rattle.text.specs.Judge.{tally, count-end, count-refusal}
 use Rattle.text.proofs.LineLimits.{count-limits}
-use Rattle.text.proofs.Stepping.{wrote-refused, wrote-full, wrote-next, put-answer-is, put-out-is}
+use Rattle.text.proofs.Branches.{wrote-refused, wrote-full, wrote-next, put-answer-is, put-out-is}
 use Rattle.text.proofs.steps.end_count.Statement.{statement}
 use Rattle.text.proofs.steps.end_count.Tie as tie
 

@@ -2,7 +2,7 @@
 use mathlib.Core.Path.{sym, _∙_}
 use native.Mathlib.Omega.{arith}
 use borrow.Author.Needs.{needs}
-use Rattle.text.proofs.Stepping.{wrote-refused, verdict-count, verdict-term, verdict-early}
+use Rattle.text.proofs.Branches.{wrote-refused, verdict-count, verdict-term, verdict-early}
 use Rattle.text.proofs.steps.end_line.Statement.{statement}
 use Rattle.text.proofs.steps.end_line.Tie as tie
 

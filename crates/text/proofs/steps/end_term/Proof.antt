@@ -6,7 +6,7 @@ use borrow.Author.Needs.{needs}
 use Rattle.limits.specs.Limits.{factor, added}
 use Rattle.text.specs.Judge.{tally, term-on-line, term-line-refusal, term-end}
 use Rattle.text.proofs.LineLimits.{line-added, line-may-come, line-small}
-use Rattle.text.proofs.Stepping.{wrote-refused, wrote-full, wrote-next}
+use Rattle.text.proofs.Branches.{wrote-refused, wrote-full, wrote-next}
 use Rattle.text.proofs.steps.end_term.Statement.{statement}
 use Rattle.text.proofs.steps.end_term.Tie as tie
 

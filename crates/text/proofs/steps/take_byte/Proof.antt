@@ -1,7 +1,7 @@
 -- `text::steps::take_byte` meets its contract. Assumes nothing.
 use native.Mathlib.Omega.{arith}
 use borrow.Author.Needs.{needs}
-use Rattle.text.proofs.Stepping.{step-stopped, step-uncounted, step-after, step-feed, step-other}
+use Rattle.text.proofs.Branches.{step-stopped, step-uncounted, step-after, step-feed, step-other}
 use Rattle.text.proofs.steps.take_byte.Statement.{statement}
 use Rattle.text.proofs.steps.take_byte.Tie as tie
 

@@ -1,7 +1,7 @@
 -- `text::steps::take_other` meets its contract. Assumes nothing.
 use native.Mathlib.Omega.{arith}
 use borrow.Author.Needs.{needs}
-use Rattle.text.proofs.Stepping.{other-bad, other-good}
+use Rattle.text.proofs.Branches.{other-bad, other-good}
 use Rattle.text.proofs.steps.take_other.Statement.{statement}
 use Rattle.text.proofs.steps.take_other.Tie as tie
 

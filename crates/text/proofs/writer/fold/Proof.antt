@@ -2,7 +2,7 @@
 use mathlib.Core.Path.{sym}
 use native.Mathlib.Omega.{arith}
 use borrow.Author.Needs.{needs}
-use Rattle.text.proofs.Writing.{fold-plus, fold-zero, fold-minus}
+use Rattle.text.proofs.WrittenTerm.{fold-plus, fold-zero, fold-minus}
 use borrow.Author.Needs.{needs}
 use Rattle.text.proofs.writer.fold.Statement.{statement}
 use Rattle.text.proofs.writer.fold.Tie as tie

@@ -2,7 +2,7 @@
 use native.Mathlib.Omega.{arith}
 use borrow.Author.Needs.{needs}
 use Rattle.packed_numbers.proofs.Encode.{encode-short}
-use Rattle.text.proofs.Writing.{length-three}
+use Rattle.text.proofs.WrittenTerm.{length-three}
 use Rattle.text.proofs.writer.length_of_three.Statement.{statement}
 use Rattle.text.proofs.writer.length_of_three.Tie as tie
 

@@ -9,7 +9,7 @@ use lib.Seq.{sets}
 use Rattle.packed.specs.Series.{pack-term}
 use Rattle.text.specs.Judge.{term-on-line}
 use Rattle.text.specs.machine.Writer.{three-packed}
-use Rattle.text.proofs.Writing.{term-packed, put-full, put-next}
+use Rattle.text.proofs.WrittenTerm.{term-packed, put-full, put-next}
 use Rattle.text.proofs.writer.put_term.Statement.{statement}
 use Rattle.text.proofs.writer.put_term.Tie as tie
 

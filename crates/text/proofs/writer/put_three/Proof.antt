@@ -1,7 +1,7 @@
 -- `text::writer::put_three` meets its contract. Assumes nothing.
 use native.Mathlib.Omega.{arith}
 use borrow.Author.Needs.{needs}
-use Rattle.text.proofs.Writing.{length-three, stored-three}
+use Rattle.text.proofs.WrittenTerm.{length-three, stored-three}
 use Rattle.text.proofs.writer.put_three.Statement.{statement}
 use Rattle.text.proofs.writer.put_three.Tie as tie
 

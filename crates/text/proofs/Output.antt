@@ -20,14 +20,14 @@ use Rattle.text.specs.Reader.{last-offset, begun, stopped, further-in-li
 use Rattle.text.specs.Reader.{uncounted, step, step-out, Run, run}
 use Rattle.text.specs.Grammar.{AnyLine, a-count, a-term, line-bytes, line-packed, GoodLine, any-bytes, any-packed, GoodLines, NoFeed}
 use Rattle.integers.proofs.Tests.{by-cases}
-use Rattle.text.proofs.Writing.{sets-append}
-use Rattle.text.proofs.Stepping.{verdict-count, verdict-term}
-use Rattle.text.proofs.Lexing.{line-of-term}
-use Rattle.text.proofs.Parsing.{term-in}
-use Rattle.text.proofs.Counting.{count-in}
-use Rattle.text.proofs.Lines.{Going, step-in, step-bad, step-feed, stays, NextLine, feed-run, moved-none, byte-line, step-last}
+use Rattle.text.proofs.WrittenTerm.{sets-append}
+use Rattle.text.proofs.Branches.{verdict-count, verdict-term}
+use Rattle.text.proofs.GoodLines.{line-of-term}
+use Rattle.text.proofs.TakenTerms.{term-in}
+use Rattle.text.proofs.TakenCounts.{count-in}
+use Rattle.text.proofs.Lines.{Going, step-in, step-bad, step-feed, stays, NextLine, feed-run, moved-none, byte-line, step-last, shorter}
 use Rattle.text.proofs.Digits.{early}
-use Rattle.text.proofs.Unlexing.{Lexed, none, digit, pointed, spaced, kept, negated, view, term-of, count-of}
+use Rattle.text.proofs.OneByte.{Lexed, none, digit, pointed, spaced, kept, negated, view, term-of, count-of}
 use Rattle.text.proofs.Verdicts.{term-is, ends-count, ends-term, early-never}
 
 -- The byte at an offset, with no line feed between the beginning of xs, at the offset at, and it.
@@ -133,7 +133,8 @@ event [] r out s p =
     nil-status r out = unfold run in refl
 event (x ∷ xs) r out s p =
     by-cases (eqb (r .at) last-offset)
-    (λ z. inr (halt-now r out x xs 3 (λ e. omega (arith, e)) (step-last r out x s (eqb-true (r .at) last-offset z)) (last-out r out x s (eqb-true (r .at) last-offset z))))
+    (λ z. let e = eqb-true (r .at) last-offset z in
+    inr (halt-now r out x xs 3 (λ e. omega (arith, e)) (step-last r out x s e) (last-out r out x s e)))
     (λ z. by-cases (eqb (r .line .spot) 30)
     (λ y. let t = after-all r out x s (eqb-false (r .at) last-offset z) (eqb-true (r .line .spot) 30 y) in
     inr (halt-now r out x xs 9 (λ e. omega (arith, e)) (t .0) (t .1)))
@@ -324,9 +325,6 @@ lined r out xs n l e =
       refused = λ g. rw (n .next) (rw d at (e .refused (λ z. g (ap (λ (q : Run). q .reader .status) (n .next) ∙ z))));
       reading = λ z. e .reading (sym (ap (λ (q : Run). q .reader .status) (n .next)) ∙ z);
     }
-
-shorter : (xs body rest : List ℕ) → xs ≡ body ++ (10 ∷ rest) → length rest < length xs
-shorter xs body rest e = omega (arith, ap length e, length-append body (10 ∷ rest))
 
 leaves-step : (xs : List ℕ) (r : Reader) (out : List ℕ)
     → ((ys : List ℕ) (q : Reader) (o : List ℕ) → length ys < length xs → Begins q → q .written ≤ length o → Leaves (q .at) (q .written) o ys (run q o ys))

@@ -1,4 +1,4 @@
--- The parts of a line that was taken, from left to right: spaces, sign, digits, point, decimals. Assumes nothing.
+-- A term line that was taken follows the grammar, shown part by part: spaces, sign, digits, point, decimals. Assumes nothing.
 use mathlib.Core.Path.{_≡_, refl, sym, ap, _∙_}
 use mathlib.Core.Bool.{Bool, true, false}
 use mathlib.Core.List.{List, [], _∷_, _++_, append-assoc, append-nil}
@@ -7,18 +7,16 @@ use Prim.Native.Nat.{ℕ, zero, suc, _+_, _*_, _≤_, _<_}
 use native.Mathlib.Omega.{arith}
 use lib.ListN.{length}
 use Rattle.text.specs.declared.Line.{Line}
-use Rattle.text.specs.Lexer.{value-limit, fresh, takes-digit, lex, lexes, whole-term}
+use Rattle.text.specs.Lexer.{fresh, takes-digit, lex, lexes, whole-term}
 use Rattle.text.specs.Grammar.{spaces, sign, digits, AllDigits, numeral, Decimal, size, decimal, GoodDecimal, TermLine, term-bytes, GoodTerm}
-use Rattle.text.proofs.Lexing.{put, keep, flag, line-of-term}
-use Rattle.text.proofs.Unlexing.{Lexed, none, digit, pointed, spaced, kept, negated, view, term-of, no-term, never, takes-last, whole-more}
-use Rattle.text.proofs.Digits.{small}
-use borrow.Author.Tests.{lt-leb}
+use Rattle.text.proofs.GoodLines.{put, keep, flag, line-of-term}
+use Rattle.text.proofs.OneByte.{Lexed, none, digit, pointed, spaced, kept, negated, view, term-of, no-term, never, last-part, whole-more}
+use Rattle.text.proofs.Digits.{after-decimal, small}
 use lib.Dec.{lit<}
 
 -- No digit follows a whole decimal.
 pub no-digit : (m v d : ℕ) → takes-digit 18 m v d ≡ true → ⊥
-unfolding takes-digit
-no-digit m v d t = never (rw (lt-leb value-limit v (small 18 m v d t)) at t)
+no-digit m v d t = never (sym (after-decimal 18 m v d (small 18 m v d t) (omega arith) (omega arith)) ∙ t)
 
 -- The decimals of a line that comes to be whole.
 record Parts (l : Line) (m v n : ℕ) (xs : List ℕ) (F : Line) : Type 0 where
@@ -42,7 +40,7 @@ module _ (l : Line) (s m v : ℕ) (b : ℕ) (bs : List ℕ) (F : Line) (w : whol
         is = ap (λ (x : ℕ). x ∷ bs) i;
         all = (h, tt);
         long = refl;
-        sized = takes-last m v d (rw e at t);
+        sized = last-part m v d (rw e at t);
         rest = rw e at q;
       }
   parts-last e _ (pointed i h k) q = absurd (omega arith)

@@ -18,11 +18,11 @@ use Rattle.text.specs.Reader.{last-offset, Run, run}
 use Rattle.text.specs.Grammar.{CountLine, count, count-bytes, GoodCount, TermLine, term-bytes, GoodTerm, term-of-line}
 use Rattle.text.specs.Grammar.{Block, lines-bytes, blocks-bytes, terms-of-lines, blocks-of-lines, AllGood, GoodBlocks}
 use Rattle.text.specs.Grammar.{TermsInLimits, BlocksInLimits}
-use Rattle.text.proofs.Writing.{sets-append}
-use Rattle.text.proofs.Lexing.{put, line-of-term, count-run, term-run}
+use Rattle.text.proofs.WrittenTerm.{sets-append, sets-three}
+use Rattle.text.proofs.GoodLines.{put, line-of-term, count-run, term-run}
 use Rattle.text.proofs.Lines.{moved, Going, line-run, feed-run}
 use Rattle.text.proofs.Verdicts.{sp, st, count-verdict, term-verdict, count-zero, term-zero, is-whole}
-use Rattle.text.proofs.Accepting.{count-packed, term-packed, after-count, after-term, spot-term, spot-count, less, length-terms}
+use Rattle.text.proofs.TakenTexts.{count-packed, term-packed, after-count, after-term, spot-term, spot-count, less, length-terms}
 
 -- A line and its line feed, from the beginning of the line.
 module _ (spot at w k n : ℕ) (s : Tally) (out xs ys : List ℕ) (L : Line)
@@ -108,11 +108,6 @@ run-none : (r : Reader) (out : List ℕ) → run r out [] ≡ record { reader = 
 unfolding run
 run-none r out = refl
 
-three : (w : ℕ) (x y z out : List ℕ) → sets out w ((x ++ y) ++ z) ≡ sets (sets (sets out w x) (w + length x) y) (w + length x + length y) z
-three w x y z out =
-    let e : w + (length x + length y) ≡ w + length x + length y = omega arith in
-    sets-append (x ++ y) z out w ∙ (rw (sets-append x y out w, length-append x y, e))
-
 same-run : (s : Tally) (a a′ w w′ : ℕ) (o o′ : List ℕ) → a ≡ a′ → w ≡ w′ → o ≡ o′
     → _≡_ {A = Run} record { reader = st a w 18 0 s; out = o } record { reader = st a′ w′ 18 0 s; out = o′ }
 same-run s a a′ w w′ o o′ p q r = rw (p, q, r)
@@ -151,7 +146,7 @@ blocks-run (b ∷ bs) at w k s out g l e c h =
     let o₂ = length-sets (sets out w x) (w + length x) y in
     let i : at + m + 1 + u + v ≡ at + (m + suc (u + v)) = omega arith in
     let d : w + length x + length y + length z ≡ w + (length x + length y + length z) = omega arith in
-    let j = three w x y z out in
+    let j = sets-three x y z out w in
     let r : summed (factor (k + 1 - 1)) s₁ (terms-of-lines ls) ≡ after-block k s (terms-of-lines ls) = rw (less k, f) in
     let s₂ = after-block k s (terms-of-lines ls) in
     let s₃ = after-blocks (k + 1) s₂ bs in

@@ -21,11 +21,11 @@ use Rattle.text.specs.Grammar.{CountLine, count, count-bytes, GoodCount,
 use Rattle.text.specs.Grammar.{Block, lines-bytes, blocks-bytes, terms-of-lines, blocks-of-lines, AllGood, GoodBlocks}
 use Rattle.text.specs.Grammar.{TermsInLimits, BlocksInLimits}
 use Rattle.integers.proofs.Tests.{by-cases}
-use Rattle.text.proofs.Writing.{sets-append}
-use Rattle.text.proofs.Lexing.{flag}
-use Rattle.text.proofs.Parsing.{term-in}
-use Rattle.text.proofs.Counting.{count-in}
-use Rattle.text.proofs.Lines.{moved, Taken, not-stopped, next-line}
+use Rattle.text.proofs.WrittenTerm.{sets-append}
+use Rattle.text.proofs.GoodLines.{flag}
+use Rattle.text.proofs.TakenTerms.{term-in}
+use Rattle.text.proofs.TakenCounts.{count-in}
+use Rattle.text.proofs.Lines.{moved, Taken, not-stopped, next-line, shorter}
 use Rattle.text.proofs.LineLimits.{count-limits}
 use Rattle.text.proofs.Verdicts.{sp, st, count-verdict, term-verdict, term-limits, ends-count, ends-term}
 
@@ -249,9 +249,6 @@ spot-count k h = rw (ne-eqb k 18 h)
 pub spot-after : next-spot 18 0 ≡ 30
 unfolding next-spot
 spot-after = refl
-
-shorter : (xs body rest : List ℕ) → xs ≡ body ++ (10 ∷ rest) → length rest < length xs
-shorter xs body rest e = omega (arith, ap length e, length-append body (10 ∷ rest))
 
 -- Texts that are shorter than xs.
 abbrev Shorter : List ℕ → Type 0

@@ -9,8 +9,8 @@ use lib.ListN.{length}
 use Rattle.text.specs.declared.Line.{Line}
 use Rattle.text.specs.Lexer.{fresh, lex, lexes, whole-count}
 use Rattle.text.specs.Grammar.{digits, AllDigits, numeral, CountLine, count, count-bytes, GoodCount}
-use Rattle.text.proofs.Lexing.{put}
-use Rattle.text.proofs.Unlexing.{Lexed, none, digit, pointed, spaced, kept, negated, view, count-of, no-count, count-more}
+use Rattle.text.proofs.GoodLines.{put}
+use Rattle.text.proofs.OneByte.{Lexed, none, digit, pointed, spaced, kept, negated, view, count-of, no-count, count-more}
 
 -- The digits after the first.
 record More (l : Line) (s v : ℕ) (xs : List ℕ) (F : Line) : Type 0 where

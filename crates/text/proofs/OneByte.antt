@@ -1,18 +1,17 @@
--- A line that is taken follows the grammar, and the numbers in the line read are its own. Assumes nothing.
+-- What one byte does to a line, case by case, what a whole line is, and what a digit that goes on says. Assumes nothing.
 use mathlib.Core.Path.{_≡_, refl, sym, ap, _∙_}
 use mathlib.Core.Bool.{true, false}
 use mathlib.Core.List.{List, [], _∷_}
 use mathlib.Core.Logic.{_⊎_, inl, inr}
 use Prim.Native.Nat.{ℕ, _+_, _*_, _-_, _≤_, _<_}
 use native.Mathlib.Omega.{arith}
-use borrow.Author.Tests.{ltb-true, ltb-false, leb-true, eqb-true, ne-eqb, lt-ltb, le-ltb, lt-leb}
+use borrow.Author.Tests.{ltb-true, ltb-false, leb-true, eqb-true, ne-eqb}
 use lib.Dec.{leb, ltb, eqb}
 use Rattle.text.specs.declared.Line.{Line}
-use Rattle.text.specs.Lexer.{value-limit, bad, whole-digit, takes-digit, with-digit, with-point, with-space, with-minus, lex, lexes}
-use Rattle.text.specs.Lexer.{whole-count, whole-term}
+use Rattle.text.specs.Lexer.{bad, takes-digit, with-digit, with-point, with-space, with-minus, lex, lexes, whole-count, whole-term}
 use Rattle.integers.proofs.Tests.{by-cases}
-use Rattle.text.proofs.Digits.{small, early}
-use Rattle.text.proofs.Lexing.{put, keep}
+use Rattle.text.proofs.Digits.{in-whole, before-point, at-last-part, in-count, after-value, small, early}
+use Rattle.text.proofs.GoodLines.{put, keep}
 
 -- What a byte can do to a line.
 pub data Lexed (l : Line) (byte : ℕ) : Line → Type 0 where
@@ -114,36 +113,24 @@ no-term xs F e h = let t = term-of F h in let s = ap (λ (l : Line). l .spot) (s
 pub no-count : {P : Type 0} (xs : List ℕ) (F : Line) → lexes bad xs ≡ F → whole-count F ≡ true → P
 no-count xs F e h = let t = count-of F h in let s = ap (λ (l : Line). l .spot) (sym (bad-stays xs) ∙ e) in absurd (omega (arith, t .high))
 
--- The last decimal, and a digit after the first whole one.
-pub takes-last : (m v d : ℕ) → takes-digit 17 m v d ≡ true → (m ≡ 0) ⊎ (0 < 10 * v + d)
-unfolding takes-digit whole-digit
-takes-last m v d t =
+-- What a digit that goes on says of the number before it: as the last one of a decimal, after a whole one, and after one of a count.
+pub last-part : (m v d : ℕ) → takes-digit 17 m v d ≡ true → (m ≡ 0) ⊎ (0 < 10 * v + d)
+last-part m v d t =
+    let e = at-last-part 17 m v d (small 17 m v d t) (omega arith) (omega arith) in
     by-cases (eqb m 0)
     (λ p. inl (eqb-true _ _ p))
-    (λ p. let b = lt-leb value-limit v (small 17 m v d t) in let h = ltb-true 0 (v + d) (rw (b, p) at t) in inr (omega arith))
+    (λ p. let h = after-value (eqb m 0) (v + d) p (sym e ∙ t) in inr (omega arith))
 
 pub whole-more : (s m v d : ℕ) → 1 ≤ s → s ≤ 6 → takes-digit s m v d ≡ true → (s < 6) × (0 < v)
-unfolding takes-digit whole-digit
 whole-more s m v d h k t =
-    let b = lt-leb value-limit v (small s m v d t) in
+    let b = small s m v d t in
     by-cases (ltb s 6)
-    (λ p. (ltb-true _ _ p, ltb-true _ _ (rw (b, p, ne-eqb s 0 (λ e. omega (arith, e))) at t)))
-    (λ p. never (rw (b, p, lt-ltb s 7 (omega arith)) at t))
+    (λ p. let l = ltb-true s 6 p in
+    (l, after-value (eqb s 0) v (ne-eqb s 0 (λ e. omega (arith, e))) (sym (in-whole s m v d b l) ∙ t)))
+    (λ p. never (sym (before-point s m v d b (ltb-false s 6 p) (omega arith)) ∙ t))
 
 pub count-more : (s m v d : ℕ) → 21 ≤ s → takes-digit s m v d ≡ true → (s < 24) × (0 < v)
-unfolding takes-digit whole-digit
 count-more s m v d h t =
-    let b = lt-leb value-limit v (small s m v d t) in
-    let k = early s m v d t in (
-      k,
-      ltb-true 0 v (rw (
-        b,
-        le-ltb s 6 (omega arith),
-        le-ltb s 7 (omega arith),
-        le-ltb s 17 (omega arith),
-        le-ltb s 18 (omega arith),
-        le-ltb s 20 (omega arith),
-        lt-ltb s 24 k,
-        ne-eqb s 20 (λ e. omega (arith, e)),
-      ) at t),
-    )
+    let k = early s m v d t in
+    let e = in-count s m v d (small s m v d t) (omega arith) k in
+    (k, after-value (eqb s 20) v (ne-eqb s 20 (λ e. omega (arith, e))) (sym e ∙ t))

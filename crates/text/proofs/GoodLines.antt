@@ -6,42 +6,17 @@ use mathlib.Core.Logic.{_⊎_, inl, inr, ⊎-elim}
 use Prim.Native.Nat.{ℕ, zero, suc, _+_, _*_, _-_, _^_, _≤_, _<_}
 use native.Mathlib.Nat.{add-zero, pow-succ', pow-le-pow-right}
 use native.Mathlib.Omega.{arith}
-use borrow.Author.Tests.{eq-eqb, ne-eqb, lt-ltb, le-ltb, le-leb, lt-leb}
-use lib.Dec.{lit<}
+use borrow.Author.Tests.{eq-eqb, lt-ltb, le-ltb, le-leb}
+use lib.Dec.{eqb, lit<}
 use lib.ListN.{length}
 use Rattle.text.specs.declared.Line.{Line}
-use Rattle.text.specs.Lexer.{value-limit, fresh, whole-digit, takes-digit, with-digit, with-point, with-space, with-minus, lex, lexes}
+pub use Rattle.text.specs.Lexer.{put, keep}
+use Rattle.text.specs.Lexer.{value-limit, fresh, takes-digit, with-digit, with-point, with-space, with-minus, lex, lexes}
 use Rattle.text.specs.Grammar.{spaces, sign, digits, AllDigits, numeral, Natural, Decimal, size, decimal, GoodDecimal}
 use Rattle.text.specs.Grammar.{CountLine, count, count-bytes, GoodCount, TermLine, term-bytes, GoodTerm}
+use Rattle.text.proofs.Digits.{in-whole, in-parts, at-last-part, in-count, first-digit, later-digit}
 
--- The line l with another spot and decimal.
-abbrev pub put : Line → ℕ → ℕ → ℕ → Line
-put l spot minus value =
-    record {
-      spot = spot;
-      field = l .field;
-      minus = minus;
-      value = value;
-      minusa = l .minusa;
-      a = l .a;
-      minusb = l .minusb;
-      b = l .b;
-    }
-
--- The line after a decimal and a space.
-abbrev pub keep : Line → ℕ → ℕ → Line
-keep l minus value =
-    record {
-      spot = 0;
-      field = l .field + 1;
-      minus = 0;
-      value = 0;
-      minusa = l .minusb;
-      a = l .b;
-      minusb = minus;
-      b = value;
-    }
-
+-- A minus as the reader holds it.
 unfoldable pub flag : Bool → ℕ
 flag true = 1
 flag false = 0
@@ -58,16 +33,10 @@ lex-digit l s m v d h t =
     let e : 48 + d - 48 ≡ d = omega arith in
     rw (le-ltb (48 + d) 48 (omega arith), lt-ltb (48 + d) 58 (omega arith), e, t)
 
-takes-part : (s m v d : ℕ) → 7 ≤ s → s < 17 → v < value-limit → takes-digit s m v d ≡ true
-unfolding takes-digit
-takes-part s m v d h k b =
-    rw (lt-leb value-limit v b, le-ltb s 6 (omega arith), le-ltb s 7 (omega arith), lt-ltb s 17 (omega arith))
-
 takes-last : (m v d : ℕ) → v < value-limit → (m ≡ 0) ⊎ (0 < v + d) → takes-digit 17 m v d ≡ true
-unfolding takes-digit whole-digit
-takes-last m v d b (inl e) = rw (lt-leb value-limit v b, eq-eqb m 0 e)
-takes-last zero v d b (inr h) = rw (lt-leb value-limit v b)
-takes-last (suc m) v d b (inr h) = rw (lt-leb value-limit v b, ne-eqb (suc m) 0 (λ e. omega (arith, e)), lt-ltb 0 (v + d) h)
+takes-last m v d b h =
+    at-last-part 17 m v d b (omega arith) (omega arith)
+    ∙ ⊎-elim (λ e. first-digit (eqb m 0) (v + d) (eq-eqb m 0 e)) (λ k. later-digit (eqb m 0) (v + d) k) h
 
 -- The digits of a count (20 to 24) and the whole digits of a decimal (0 to 6).
 pub record Spots (base top : ℕ) : Type 0 where
@@ -75,34 +44,20 @@ pub record Spots (base top : ℕ) : Type 0 where
   pub more : (s m v d : ℕ) → base < s → s < top → v < value-limit → 0 < v → takes-digit s m v d ≡ true
 
 pub whole-spots : Spots 0 6
-unfolding takes-digit whole-digit
 whole-spots =
     record {
-      first = λ m v d b. rw (lt-leb value-limit v b);
-      more = λ s m v d h k b p. rw (lt-leb value-limit v b, lt-ltb s 6 k, ne-eqb s 0 (λ e. omega (arith, e)), lt-ltb 0 v p);
+      first = λ m v d b. in-whole 0 m v d b (omega arith) ∙ first-digit (eqb 0 0) v refl;
+      more = λ s m v d h k b p. in-whole s m v d b k ∙ later-digit (eqb s 0) v p;
     }
 
 count-spots : Spots 20 24
-unfolding takes-digit whole-digit
 count-spots =
     record {
-      first = λ m v d b. rw (lt-leb value-limit v b);
-      more =
-          λ s m v d h k b p.
-          rw (
-            lt-leb value-limit v b,
-            le-ltb s 6 (omega arith),
-            le-ltb s 7 (omega arith),
-            le-ltb s 17 (omega arith),
-            le-ltb s 18 (omega arith),
-            le-ltb s 20 (omega arith),
-            lt-ltb s 24 k,
-            ne-eqb s 20 (λ e. omega (arith, e)),
-            lt-ltb 0 v p,
-          );
+      first = λ m v d b. in-count 20 m v d b (omega arith) (omega arith) ∙ first-digit (eqb 20 20) v refl;
+      more = λ s m v d h k b p. in-count s m v d b (omega arith) k ∙ later-digit (eqb s 20) v p;
     }
 
-ten : (n : ℕ) → 10 ^ (n + 1) ≡ 10 * 10 ^ n
+pub ten : (n : ℕ) → 10 ^ (n + 1) ≡ 10 * 10 ^ n
 ten n = let e : n + 1 ≡ suc n = omega arith in ap (λ (k : ℕ). 10 ^ k) e ∙ pow-succ' 10 n
 
 under : (n v : ℕ) → n ≤ 17 → v < 10 ^ n → v < value-limit
@@ -141,7 +96,7 @@ parts-run (d ∷ []) l s m v n a h k p q z =
     let e : s ≡ 17 = omega arith in
     rw e (lex-digit l 17 m v d (a .0) (takes-last m v d (under n v (omega arith) p) (⊎-elim (λ x. inl x) (λ x. inr (omega arith)) z)))
 parts-run (d ∷ c ∷ ds) l s m v n a h k p q z =
-    ap (λ (x : Line). lexes x (digits (c ∷ ds))) (lex-digit l s m v d (a .0) (takes-part s m v d h (omega arith) (under n v (omega arith) p)))
+    ap (λ (x : Line). lexes x (digits (c ∷ ds))) (lex-digit l s m v d (a .0) (in-parts s m v d (under n v (omega arith) p) h (omega arith)))
     ∙ parts-run (c ∷ ds) l (s + 1) m (10 * v + d) (n + 1) (a .1) (omega arith) (omega arith) (omega (arith, ten n, a .0)) (omega arith) z
 
 spaces-run : (n : ℕ) (l : Line) (v : ℕ) → lexes (put l 0 0 v) (spaces n) ≡ put l 0 0 v

@@ -1,4 +1,4 @@
--- Runs of stores one after the other, and a decimal folded. Assumes nothing.
+-- Numbers stored one after the other, a decimal folded, and what the writer of a term answers. Assumes nothing.
 use mathlib.Core.Path.{_≡_, refl, sym, ap, _∙_}
 use mathlib.Core.Bool.{Bool, true, false}
 use mathlib.Core.List.{List, [], _∷_, _++_}
@@ -23,6 +23,11 @@ sets-append [] ys l i = rw (add-zero i)
 sets-append (x ∷ xs) ys l i =
     let e : suc i + length xs ≡ i + suc (length xs) = omega arith in
     sets-append xs ys (set l i x) (suc i) ∙ ap (λ (k : ℕ). sets (sets (set l i x) (suc i) xs) k ys) e
+
+pub sets-three : (x y z out : List ℕ) (at : ℕ)
+    → sets out at (x ++ y ++ z) ≡ sets (sets (sets out at x) (at + length x) y) (at + length x + length y) z
+sets-three x y z out at =
+    sets-append (x ++ y) z out at ∙ (rw (sets-append x y out at, length-append x y, add-assoc at (length x) (length y)))
 
 pub fold-plus : (minus value : ℕ) → minus ≡ 0 → folded (signed minus value) ≡ 2 * value
 unfolding signed sgn folded
@@ -54,13 +59,10 @@ module _ (a b c : ℕ) where
   pub stored-three : (out o₁ o₂ o₃ : List ℕ) (at i j : ℕ) → o₁ ≡ sets out at (encode a) → i ≡ at + length (encode a)
       → o₂ ≡ sets o₁ i (encode b) → j ≡ i + length (encode b) → o₃ ≡ sets o₂ j (encode c) → o₃ ≡ sets out at (three-packed a b c)
   stored-three out o₁ o₂ o₃ at i j e₁ f₁ e₂ f₂ e₃ =
-      let x = encode a in
-      let y = encode b in
-      let z = encode c in
-      let all : sets out at (x ++ y ++ z) ≡ sets (sets (sets out at x) (at + length x) y) (at + length x + length y) z =
-      sets-append (x ++ y) z out at ∙ (rw (sets-append x y out at, length-append x y, add-assoc at (length x) (length y)))
-      in
-      e₃ ∙ ap (λ (o : List ℕ). sets o j z) (e₂ ∙ ap (λ (o : List ℕ). sets o i y) e₁) ∙ (rw (f₂, f₁)) ∙ sym all
+      e₃
+      ∙ ap (λ (o : List ℕ). sets o j (encode c)) (e₂ ∙ ap (λ (o : List ℕ). sets o i (encode b)) e₁)
+      ∙ (rw (f₂, f₁))
+      ∙ sym (sets-three (encode a) (encode b) (encode c) out at)
 
 -- The numbers of a term are those of its packed form.
 pub term-packed : (t : Term) (a b c : ℕ) → a ≡ folded (t .a) → b ≡ t .b → c ≡ folded (t .c) → three-packed a b c ≡ pack-term t
