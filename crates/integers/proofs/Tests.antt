@@ -24,6 +24,11 @@ pub is-false : (b : Bool) → (T b → ⊥) → b ≡ false
 is-false true f = absurd (f tt)
 is-false false f = refl
 
+-- A test that goes either way.
+pub by-cases : {P : Type 0} (t : Bool) → (t ≡ true → P) → (t ≡ false → P) → P
+by-cases true f g = f refl
+by-cases false f g = g refl
+
 -- Both parts of a conjunction.
 pub and-left : (a b : Bool) → T (a && b) → T a
 and-left true b t = tt

@@ -1,11 +1,12 @@
--- Document 01, "Series, as text and packed": what the limits say of the blocks of a whole series.
+-- RULES, "Series, as text and packed": what the limits say of the blocks of a whole series.
 use mathlib.Core.Path.{_≡_}
 use mathlib.Core.Bool.{cond}
 use mathlib.Core.List.{List, [], _∷_}
 use Prim.Native.Nat.{ℕ, suc, _+_, _*_, _^_, _≤_, _<_}
 use lib.IntN.{natAbs}
 use lib.ListN.{length, getD, take, drop}
-use Rattle.units.specs.Units.{U, tau-limit, a-limit, b-limit, c-limit, block-limit, series-limit, total-limit, powers, block-count, coarse-share, coarse-base, coarse-limit}
+use Rattle.units.specs.Units.{U, tau-limit, a-limit, b-limit, c-limit, block-limit, series-limit, total-limit, powers, block-count}
+use Rattle.units.specs.Units.{coarse-share, coarse-base, coarse-limit}
 use Rattle.limits.specs.declared.Term.{Term}
 use Rattle.limits.specs.Limits.{constant}
 
@@ -38,7 +39,8 @@ pub record BlockFits (ts : List Term) : Type 0 where
   pub terms : AllFit ts
   pub total : total-of ts ≤ total-limit
 
--- The sum of 2^i(14 A_i + 10^9 n_i) over blocks, the first of which has power i.
+-- The coarseness sum over blocks, the first of which has power i: each block's share of A_i and U for each of its n_i terms, times the
+-- greatest |tau| to its power.
 unfoldable pub coarseness : ℕ → List (List Term) → ℕ
 coarseness i [] = 0
 coarseness i (ts ∷ blocks) = tau-limit ^ i * (coarse-share * moving-total ts + U * moving-count ts) + coarseness (suc i) blocks

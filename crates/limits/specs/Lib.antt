@@ -1,3 +1,4 @@
--- Document 01, "Series, as text and packed": the limits of a series.
+-- RULES, "Series, as text and packed": the limits of a series.
 pub mod Limits
 pub mod Allowed
+pub mod machine

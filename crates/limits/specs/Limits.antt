@@ -1,18 +1,21 @@
--- Document 01, "Series, as text and packed": the limits of a series and the rule "not too coarse", each once. The tally are
--- judged over the part so far, so each rule is a test of what the tally are with one count or one term more.
+-- RULES, "Series, as text and packed": the limits of a series, each once. They are judged over the part so far, so each rule is a test
+-- of what the tally of that part is with one count or one term more.
 use mathlib.Core.Bool.{Bool, cond, _&&_}
+use mathlib.Core.List.{List, [], _∷_}
 use Prim.Native.Nat.{ℕ, _+_, _*_, _%_, _^_}
 use lib.Dec.{leb, ltb, eqb}
 use lib.IntN.{ℤ, natAbs}
-use Rattle.units.specs.Units.{U, tau-limit, a-limit, b-limit, c-limit, block-limit, series-limit, total-limit, powers, coarse-share, coarse-base, coarse-limit}
+use lib.ListN.{length}
+use Rattle.units.specs.Units.{U, tau-limit, a-limit, b-limit, c-limit, block-limit, series-limit, total-limit, powers}
+use Rattle.units.specs.Units.{coarse-share, coarse-base, coarse-limit}
 use Rattle.limits.specs.declared.Term.{Term}
 use Rattle.limits.specs.declared.Tally.{Tally}
 
--- The factor 2^i of block number k, counted from 0: its power is k mod 6.
+-- The factor of block number k, counted from 0: the greatest |tau| to the block's power, which is k mod 6.
 unfoldable pub factor : ℕ → ℕ
 factor k = tau-limit ^ (k % powers)
 
--- "A term is constant if b = c = 0."
+-- A term that does not change with time.
 unfoldable pub constant : ℕ → ℤ → Bool
 constant b c = eqb b 0 && eqb (natAbs c) 0
 
@@ -42,6 +45,14 @@ added f s t =
       coarse = s .coarse + weight f (t .a) (t .b) (t .c);
     }
 
+-- With the terms of a block, one after the other, and with the whole block k.
+unfoldable pub summed : ℕ → Tally → List Term → Tally
+summed f s [] = s
+summed f s (t ∷ ts) = summed f (added f s t) ts
+
+unfoldable pub after-block : ℕ → Tally → List Term → Tally
+after-block k s ts = summed (factor k) (opened k (length ts) s) ts
+
 -- A count may come.
 unfoldable pub count-fits : Tally → ℕ → Bool
 count-fits s n = leb n block-limit && leb (s .terms + n) series-limit
@@ -68,3 +79,13 @@ coarse-fits f s a b c = leb (s .coarse + weight f a b c) coarse-limit
 unfoldable pub term-may-come : ℕ → Tally → Term → Bool
 term-may-come f s t =
     a-fits (t .a) && (total-fits s (t .a) && (b-fits (t .b) && (c-fits (t .c) && coarse-fits f s (t .a) (t .b) (t .c))))
+
+-- The refusal of a term that has come whole, or 0: 4 for its numbers, then 5 for the total, then 6 for the coarseness.
+unfoldable pub numbers-fit : Term → Bool
+numbers-fit t = a-fits (t .a) && (b-fits (t .b) && c-fits (t .c))
+
+unfoldable pub term-refusal : ℕ → Tally → Term → ℕ
+term-refusal f s t =
+    cond (numbers-fit t)
+    (cond (total-fits s (t .a)) (cond (coarse-fits f s (t .a) (t .b) (t .c)) 0 6) 5)
+    4

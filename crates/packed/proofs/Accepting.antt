@@ -2,13 +2,10 @@
 use mathlib.Core.Path.{_≡_, refl, sym, ap, _∙_, subst}
 use mathlib.Core.Bool.{Bool, true, false}
 use mathlib.Core.List.{List}
-use Prim.Native.Nat.{ℕ, _+_, _≤_, _<_}
+use Prim.Native.Nat.{ℕ}
 use native.Mathlib.Omega.{arith}
-use borrow.Author.Tests.{ltb-true, leb-true}
-use lib.Dec.{leb, ltb}
-use lib.IntN.{ℤ, natAbs}
+use lib.IntN.{ℤ}
 use lib.ListN.{drop}
-use Rattle.units.specs.Units.{a-limit, b-limit, c-limit, total-limit, coarse-limit}
 use Rattle.units.specs.declared.Refusal.{Refusal}
 use Rattle.units.specs.declared.Refusal.the-variants.{OverLimit, TotalOverLimit, TooCoarse}
 use Rattle.packed_numbers.specs.Numbers.{Read, got, bad, next, number, folded, unfolded}
@@ -17,11 +14,12 @@ use Rattle.packed_numbers.proofs.Folding.{folded-unfolded, unfolded-folded}
 use Rattle.packed_numbers.proofs.Reading.{After, moved}
 use Rattle.limits.specs.declared.Term.{Term}
 use Rattle.limits.specs.declared.Tally.{Tally}
-use Rattle.limits.specs.Limits.{weight, a-fits, b-fits, c-fits, total-fits, coarse-fits}
+use Rattle.limits.specs.Limits.{a-fits, b-fits, c-fits, total-fits, coarse-fits}
+use Rattle.limits.proofs.Passing.{Passes}
 use Rattle.packed.specs.Series.{judged, read-a, read-b, read-c, read-term}
 use Rattle.packed.specs.machine.Answers.{shown-term, term-of}
 use Rattle.packed.specs.declared.terms.TermRead.the-variants.{Found, Wrong}
-use Rattle.packed.proofs.Judging.{a-got, b-got, c-got}
+use Rattle.packed.proofs.ReadCases.{a-got, b-got, c-got}
 
 -- Two readers, one after the other.
 pub record Twice {A B : Type 0} (r : Read A) (f : A → ℕ → List ℕ → Read B) (z : Read B) : Type 0 where
@@ -57,63 +55,55 @@ read-as {y = y} {i = i} {j = j} {l = l} {m = m} h g v at x k e q =
     let t : l ≡ m = cc in
     rw (w, u, t) at e
 
--- The numbers of a term that are accepted after the tally s.
-pub record GoodA (s : Tally) (a : ℤ) : Type 0 where
-  pub small : natAbs a < a-limit
-  pub total : s .total + natAbs a ≤ total-limit
-
-pub record GoodC (f : ℕ) (s : Tally) (a : ℤ) (b : ℕ) (c : ℤ) : Type 0 where
-  pub small : natAbs c < c-limit
-  pub coarse : s .coarse + weight f a b c ≤ coarse-limit
-
-pub record GoodTerm (f : ℕ) (s : Tally) (t : Term) : Type 0 where
-  pub good-a : GoodA s (t .a)
-  pub good-b : t .b < b-limit
-  pub good-c : GoodC f s (t .a) (t .b) (t .c)
-
 -- A number that was read, and what holds of its value.
 pub record Accepted (P : Type 0) (at : ℕ) (x : List ℕ) (v to : ℕ) (rest : List ℕ) : Type 0 where
   pub read : number at x ≡ got v to rest
   pub good : P
 
-pub a-accepted : (s : Tally) (at : ℕ) (x : List ℕ) {a : ℤ} {to : ℕ} {rest : List ℕ} → read-a s at x ≡ got a to rest → Accepted (GoodA s a) at x (folded a) to rest
-unfolding read-a a-fits total-fits
+-- The tests that a and c pass.
+pub record PassedA (s : Tally) (a : ℤ) : Type 0 where
+  pub fits : a-fits a ≡ true
+  pub total : total-fits s a ≡ true
+
+record PassedC (f : ℕ) (s : Tally) (a : ℤ) (b : ℕ) (c : ℤ) : Type 0 where
+  fits : c-fits c ≡ true
+  coarse : coarse-fits f s a b c ≡ true
+
+pub a-accepted : (s : Tally) (at : ℕ) (x : List ℕ) {a : ℤ} {to : ℕ} {rest : List ℕ}
+    → read-a s at x ≡ got a to rest → Accepted (PassedA s a) at x (folded a) to rest
+unfolding read-a
 a-accepted s at x {a} e =
     let n = next-got (number at x) _ e in
     let v = n .x in
-    let p = judged-got (ltb (natAbs (unfolded v)) a-limit) OverLimit (n .at) _ (n .second) in
-    let q = judged-got (leb (s .total + natAbs (unfolded v)) total-limit) TotalOverLimit (n .at) _ (p .is) in
+    let p = judged-got (a-fits (unfolded v)) OverLimit (n .at) _ (n .second) in
+    let q = judged-got (total-fits s (unfolded v)) TotalOverLimit (n .at) _ (p .is) in
     let i : unfolded v ≡ a = same (q .is) in
-    let small : natAbs (unfolded v) < a-limit = ltb-true _ _ (p .passed) in
-    let total : s .total + natAbs (unfolded v) ≤ total-limit = leb-true _ _ (q .passed) in
     record {
       read = read-as folded unfolded v at x folded-unfolded (n .first) (q .is);
-      good = record { small = rw i at small; total = rw i at total };
+      good = record { fits = rw i at (p .passed); total = rw i at (q .passed) };
     }
 
-pub b-accepted : (at : ℕ) (x : List ℕ) {b to : ℕ} {rest : List ℕ} → read-b at x ≡ got b to rest → Accepted (b < b-limit) at x b to rest
-unfolding read-b b-fits
+b-accepted : (at : ℕ) (x : List ℕ) {b to : ℕ} {rest : List ℕ} → read-b at x ≡ got b to rest → Accepted (b-fits b ≡ true) at x b to rest
+unfolding read-b
 b-accepted at x {b} e =
     let n = next-got (number at x) _ e in
     let v = n .x in
-    let p = judged-got (ltb v b-limit) OverLimit (n .at) _ (n .second) in
+    let p = judged-got (b-fits v) OverLimit (n .at) _ (n .second) in
     let i : v ≡ b = same (p .is) in
-    let small : v < b-limit = ltb-true _ _ (p .passed) in
-    record { read = read-as plain plain v at x (λ n. refl) (n .first) (p .is); good = rw i at small }
+    record { read = read-as plain plain v at x (λ n. refl) (n .first) (p .is); good = rw i at (p .passed) }
 
-pub c-accepted : (f : ℕ) (s : Tally) (a : ℤ) (b at : ℕ) (x : List ℕ) {c : ℤ} {to : ℕ} {rest : List ℕ} → read-c f s a b at x ≡ got c to rest → Accepted (GoodC f s a b c) at x (folded c) to rest
-unfolding read-c c-fits coarse-fits
+c-accepted : (f : ℕ) (s : Tally) (a : ℤ) (b at : ℕ) (x : List ℕ) {c : ℤ} {to : ℕ} {rest : List ℕ}
+    → read-c f s a b at x ≡ got c to rest → Accepted (PassedC f s a b c) at x (folded c) to rest
+unfolding read-c
 c-accepted f s a b at x {c} e =
     let n = next-got (number at x) _ e in
     let v = n .x in
-    let p = judged-got (ltb (natAbs (unfolded v)) c-limit) OverLimit (n .at) _ (n .second) in
-    let q = judged-got (leb (s .coarse + weight f a b (unfolded v)) coarse-limit) TooCoarse (n .at) _ (p .is) in
+    let p = judged-got (c-fits (unfolded v)) OverLimit (n .at) _ (n .second) in
+    let q = judged-got (coarse-fits f s a b (unfolded v)) TooCoarse (n .at) _ (p .is) in
     let i : unfolded v ≡ c = same (q .is) in
-    let small : natAbs (unfolded v) < c-limit = ltb-true _ _ (p .passed) in
-    let coarse : s .coarse + weight f a b (unfolded v) ≤ coarse-limit = leb-true _ _ (q .passed) in
     record {
       read = read-as folded unfolded v at x folded-unfolded (n .first) (q .is);
-      good = record { small = rw i at small; coarse = rw i at coarse };
+      good = record { fits = rw i at (p .passed); coarse = rw i at (q .passed) };
     }
 
 abbrev whole : ℤ → ℕ → ℤ → Term
@@ -128,7 +118,7 @@ pub record TermAt (f : ℕ) (s : Tally) (at : ℕ) (x : List ℕ) (t : Term) (to
   pub number-a : number at x ≡ got (folded (t .a)) at-b from-b
   pub number-b : number at-b from-b ≡ got (t .b) at-c from-c
   pub number-c : number at-c from-c ≡ got (folded (t .c)) to rest
-  pub good : GoodTerm f s t
+  pub passes : Passes f s t
 
 pub term-accepted : (f : ℕ) (s : Tally) (at : ℕ) (x : List ℕ) {t : Term} {to : ℕ} {rest : List ℕ} → read-term f s at x ≡ got t to rest → TermAt f s at x t to rest
 unfolding read-term
@@ -151,7 +141,14 @@ term-accepted f s at x {t} {to} {rest} e =
       number-a = pa .read;
       number-b = pb .read;
       number-c = rw (m, l) at (pc .read);
-      good = record { good-a = pa .good; good-b = pb .good; good-c = pc .good };
+      passes =
+          record {
+            a = pa .good .fits;
+            total = pa .good .total;
+            b = pb .good;
+            c = pc .good .fits;
+            coarse = pc .good .coarse;
+          };
     })
   where
     at-of : {y z : Term} {i j : ℕ} {l m : List ℕ} → got y i l ≡ got z j m → i ≡ j
@@ -161,15 +158,18 @@ term-accepted f s at x {t} {to} {rest} e =
     rest-of h = cc
 
 -- And back: three numbers within the limits are read as a term.
-pub term-made : (f : ℕ) (s : Tally) (at : ℕ) (x : List ℕ) (t : Term) (to : ℕ) (rest : List ℕ) → TermAt f s at x t to rest → read-term f s at x ≡ got t to rest
+pub term-made : (f : ℕ) (s : Tally) (at : ℕ) (x : List ℕ) (t : Term) (to : ℕ) (rest : List ℕ)
+    → TermAt f s at x t to rest → read-term f s at x ≡ got t to rest
 unfolding read-term next
 term-made f s at x t to rest h =
-    let g = h .good in
+    let p = h .passes in
     let ea : unfolded (folded (t .a)) ≡ t .a = unfolded-folded (t .a) in
     let ec : unfolded (folded (t .c)) ≡ t .c = unfolded-folded (t .c) in
-    let ra : read-a s at x ≡ got (t .a) (h .at-b) (h .from-b) = rw ea at (a-got s at x _ _ _ (h .number-a) (rw ea (g .good-a .small)) (rw ea (g .good-a .total))) in
-    let rb : read-b (h .at-b) (h .from-b) ≡ got (t .b) (h .at-c) (h .from-c) = b-got _ _ _ _ _ (h .number-b) (g .good-b) in
-    let rc : read-c f s (t .a) (t .b) (h .at-c) (h .from-c) ≡ got (t .c) to rest = rw ec at (c-got f s (t .a) (t .b) (h .at-c) (h .from-c) _ _ _ (h .number-c) (rw ec (g .good-c .small)) (rw ec (g .good-c .coarse))) in
+    let ra : read-a s at x ≡ got (t .a) (h .at-b) (h .from-b) =
+    rw ea at (a-got s at x _ _ _ (h .number-a) (rw ea (p .a)) (rw ea (p .total))) in
+    let rb : read-b (h .at-b) (h .from-b) ≡ got (t .b) (h .at-c) (h .from-c) = b-got _ _ _ _ _ (h .number-b) (p .b) in
+    let rc : read-c f s (t .a) (t .b) (h .at-c) (h .from-c) ≡ got (t .c) to rest =
+    rw ec at (c-got f s (t .a) (t .b) (h .at-c) (h .from-c) _ _ _ (h .number-c) (rw ec (p .c)) (rw ec (p .coarse))) in
     rw (ra, rb, rc)
 
 -- The answers, from what was read.

@@ -13,8 +13,8 @@ use Rattle.packed_numbers.specs.Numbers.{Read, got, bad, next, closed, groups-f
 use Rattle.units.specs.Units.{block-count}
 use Rattle.limits.specs.declared.Term.{Term}
 use Rattle.limits.specs.declared.Tally.{Tally}
-use Rattle.limits.specs.Limits.{no-tally, opened, added, factor, count-fits, a-fits, b-fits, c-fits, total-fits, coarse-fits}
-use Rattle.packed.specs.Series.{judged, read-a, read-b, read-c, read-term, read-terms, read-block, read-blocks, read-series, after-block}
+use Rattle.limits.specs.Limits.{no-tally, opened, added, after-block, factor, count-fits, a-fits, b-fits, c-fits, total-fits, coarse-fits}
+use Rattle.packed.specs.Series.{judged, read-a, read-b, read-c, read-term, read-terms, read-block, read-blocks, read-series}
 
 -- The answer on x, and that on x ++ y.
 data Longer {A : Type 0} (y : List ℕ) : Read A → Read A → Type 0 where
@@ -95,10 +95,7 @@ longer-got {y = y} {v = v} {to = to} {rest = rest} (got u i l) (got u′ i′ l�
     rw (a, b, c)
 longer-got (bad q) r none e = let z : _≡_ {A = ℕ} 0 1 = cc in absurd (omega arith)
 
--- A number, and a series, with more bytes after it.
-pub number-append : (at : ℕ) (x y : List ℕ) {v to : ℕ} {rest : List ℕ} → number at x ≡ got v to rest → number at (x ++ y) ≡ got v to (rest ++ y)
-number-append at x y = longer-got _ _ (number-longer y at x)
-
+-- A series with more bytes after it.
 pub series-append : (at : ℕ) (x y : List ℕ) {blocks : List (List Term)} {to : ℕ} {rest : List ℕ} → read-series at x ≡ got blocks to rest → read-series at (x ++ y) ≡ got blocks to (rest ++ y)
 unfolding read-series
 series-append at x y = longer-got _ _ (blocks-longer y block-count 0 no-tally at x)

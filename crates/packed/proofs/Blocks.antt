@@ -1,26 +1,25 @@
 -- A block: each case of its count, and what holds of the tally after its terms. Assumes nothing.
 use mathlib.Core.Path.{_≡_, refl, sym, ap, _∙_}
-use mathlib.Core.Bool.{Bool, true, false, cond, _&&_}
+use mathlib.Core.Bool.{true, false}
 use mathlib.Core.List.{List, [], _∷_}
-use Prim.Native.Nat.{ℕ, zero, suc, _+_, _-_, _%_, _≤_, _<_}
+use Prim.Native.Nat.{ℕ, zero, suc, _+_, _-_, _≤_}
 use native.Mathlib.Nat.{le-refl}
 use native.Mathlib.Omega.{arith}
-use borrow.Author.Tests.{lt-leb, le-leb, leb-true}
-use lib.Dec.{leb, eqb}
 use lib.ListN.{length, drop}
-use Rattle.integers.proofs.Tests.{both}
 use Rattle.units.specs.declared.Refusal.{Refusal}
 use Rattle.units.specs.declared.Refusal.the-variants.{OverLimit}
 use Rattle.packed_numbers.specs.Numbers.{Read, got, bad, next, number}
 use Rattle.packed_numbers.proofs.Reading.{After, moved, later, next-after, number-after}
-use Rattle.units.specs.Units.{total-limit, coarse-limit, coarse-base, block-limit, series-limit, powers}
+use Rattle.units.specs.Units.{series-limit}
 use Rattle.limits.specs.declared.Term.{Term}
 use Rattle.limits.specs.declared.Tally.{Tally}
-use Rattle.limits.specs.Limits.{factor, opened, added, count-fits}
-use Rattle.packed.specs.Series.{judged, read-term, read-terms, read-block, summed, after-block}
+use Rattle.limits.specs.Limits.{factor, opened, added, summed, after-block, count-fits}
+use Rattle.limits.proofs.Passing.{count-passed}
+use Rattle.limits.proofs.Terms.{summed-terms}
+use Rattle.packed.specs.Series.{judged, read-term, read-terms, read-block}
 use Rattle.packed.specs.machine.Answers.{walked}
-use Rattle.packed.proofs.Judging.{judged-after, term-after}
-use Rattle.packed.proofs.Accepting.{next-got, judged-got, term-accepted}
+use Rattle.packed.proofs.ReadCases.{judged-after, term-after}
+use Rattle.packed.proofs.Accepting.{next-got, judged-got}
 
 -- The count of a block.
 module _ (k : ℕ) (s : Tally) (at : ℕ) (x : List ℕ) where
@@ -29,17 +28,13 @@ module _ (k : ℕ) (s : Tally) (at : ℕ) (x : List ℕ) where
   block-bad q e = rw e
 
   module _ (n to : ℕ) (rest : List ℕ) (e : number at x ≡ got n to rest) where
-    pub block-over : block-limit < n → read-block k s at x ≡ bad (OverLimit (to - 1))
-    unfolding read-block next judged count-fits
-    block-over h = rw (e, lt-leb n block-limit h)
+    pub block-over : count-fits s n ≡ false → read-block k s at x ≡ bad (OverLimit (to - 1))
+    unfolding read-block next judged
+    block-over h = rw (e, h)
 
-    pub series-over : n ≤ block-limit → series-limit < s .terms + n → read-block k s at x ≡ bad (OverLimit (to - 1))
-    unfolding read-block next judged count-fits
-    series-over h l = rw (e, le-leb n block-limit h, lt-leb (s .terms + n) series-limit l)
-
-    pub block-got : n ≤ block-limit → s .terms + n ≤ series-limit → read-block k s at x ≡ read-terms n (factor k) (opened k n s) to rest
-    unfolding read-block next judged count-fits
-    block-got h l = rw (e, le-leb n block-limit h, le-leb (s .terms + n) series-limit l)
+    pub block-got : count-fits s n ≡ true → read-block k s at x ≡ read-terms n (factor k) (opened k n s) to rest
+    unfolding read-block next judged
+    block-got h = rw (e, h)
 
 -- Where the readers of terms and blocks come to.
 pub terms-after : (s : List ℕ) (n f : ℕ) (tally : Tally) (at : ℕ) → After s at (read-terms n f tally at (drop at s))
@@ -85,79 +80,41 @@ pub terms-length : {f n : ℕ} {s : Tally} {at : ℕ} {x : List ℕ} {ts : List 
 terms-length no-terms = refl
 terms-length (a-term e h) = ap suc (terms-length h)
 
--- The tally after terms that were read: the number of terms stands, total and coarseness stay within their limits.
-pub record Within (s : Tally) : Type 0 where
-  pub total : s .total ≤ total-limit
-  pub coarse : s .coarse ≤ coarse-limit
-
-pub terms-within : {f n : ℕ} {s : Tally} {at : ℕ} {x : List ℕ} {ts : List Term} {to : ℕ} {rest : List ℕ} → TermsAt f n s at x ts to rest → Within s → Within (summed f s ts)
-unfolding summed added
-terms-within no-terms w = w
-terms-within {f} {s = s} {at = at} {x = x} (a-term e h) w =
-    let g = term-accepted f s at x e .good in
-    terms-within h (record { total = g .good-a .total; coarse = g .good-c .coarse })
-
-pub summed-terms : (f : ℕ) (s : Tally) (ts : List Term) → summed f s ts .terms ≡ s .terms
-unfolding summed added
-summed-terms f s [] = refl
-summed-terms f s (t ∷ ts) = summed-terms f (added f s t) ts
-
-pub opened-within : (k n : ℕ) (s : Tally) → s .coarse ≤ coarse-limit → Within (opened k n s)
-unfolding opened
-opened-within k n s h = record { total = omega arith; coarse = go (eqb (k % powers) 0) }
-  where
-    go : (t : Bool) → cond t coarse-base (s .coarse) ≤ coarse-limit
-    go true = omega arith
-    go false = h
-
 -- A block that was read: its count and its terms.
 pub record BlockAt (k : ℕ) (s : Tally) (at : ℕ) (x : List ℕ) (ts : List Term) (to : ℕ) (rest : List ℕ) : Type 0 where
   pub at-terms : ℕ
   pub from-terms : List ℕ
   pub count : number at x ≡ got (length ts) at-terms from-terms
-  pub few : length ts ≤ block-limit
-  pub fewer : s .terms + length ts ≤ series-limit
+  pub fits : count-fits s (length ts) ≡ true
   pub terms : TermsAt (factor k) (length ts) (opened k (length ts) s) at-terms from-terms ts to rest
 
-pub block-accepted : (k : ℕ) (s : Tally) (at : ℕ) (x : List ℕ) (ts : List Term) (to : ℕ) (rest : List ℕ) → read-block k s at x ≡ got ts to rest → BlockAt k s at x ts to rest
-unfolding read-block count-fits
+pub block-accepted : (k : ℕ) (s : Tally) (at : ℕ) (x : List ℕ) (ts : List Term) (to : ℕ) (rest : List ℕ)
+    → read-block k s at x ≡ got ts to rest → BlockAt k s at x ts to rest
+unfolding read-block
 block-accepted k s at x ts to rest e =
     let a = next-got (number at x) _ e in
     let n = a .x in
-    let p = judged-got (leb n block-limit && leb (s .terms + n) series-limit) OverLimit (a .at) _ (a .second) in
+    let p = judged-got (count-fits s n) OverLimit (a .at) _ (a .second) in
     let h = terms-accepted n (factor k) (opened k n s) (a .at) (a .rest) ts to rest (p .is) in
     let l : length ts ≡ n = terms-length h in
-    let b = both _ _ (p .passed) in
-    let u : n ≤ block-limit = leb-true _ _ (b .0) in
-    let v : s .terms + n ≤ series-limit = leb-true _ _ (b .1) in
     record {
       at-terms = a .at;
       from-terms = a .rest;
       count = rw l (a .first);
-      few = rw l u;
-      fewer = rw l v;
+      fits = rw l (p .passed);
       terms = rw l h;
     }
 
--- The tally after a block.
+-- The terms so far, after a block.
 pub record AfterBlock (k : ℕ) (s : Tally) (ts : List Term) : Type 0 where
   pub terms : after-block k s ts .terms ≡ s .terms + length ts
   pub few : after-block k s ts .terms ≤ series-limit
-  pub within : Within (after-block k s ts)
 
-pub block-sums : (k : ℕ) (s : Tally) (at : ℕ) (x : List ℕ) (ts : List Term) (to : ℕ) (rest : List ℕ) → s .coarse ≤ coarse-limit → BlockAt k s at x ts to rest → AfterBlock k s ts
+pub block-sums : (k : ℕ) (s : Tally) (ts : List Term) → count-fits s (length ts) ≡ true → AfterBlock k s ts
 unfolding after-block opened
-block-sums k s at x ts to rest h b =
-    let e = summed-terms (factor k) (opened k (length ts) s) ts in
-    let o = opened-terms k (length ts) s in
-    record {
-      terms = e ∙ o;
-      few = rw (e, o) (b .fewer);
-      within = terms-within (b .terms) (opened-within k (length ts) s h);
-    }
-  where
-    opened-terms : (k n : ℕ) (s : Tally) → opened k n s .terms ≡ s .terms + n
-    opened-terms k n s = refl
+block-sums k s ts h =
+    let e : after-block k s ts .terms ≡ s .terms + length ts = summed-terms (factor k) (opened k (length ts) s) ts in
+    record { terms = e; few = rw e (count-passed s (length ts) h .fewer) }
 
 -- The answer of a walk over n terms is that of the walk over the block.
 pub walked-block : (k n : ℕ) (s : Tally) (at : ℕ) (x : List ℕ) → walked (summed (factor k) (opened k n s)) (read-terms n (factor k) (opened k n s) at x) ≡ walked (after-block k s) (read-terms n (factor k) (opened k n s) at x)
@@ -168,15 +125,14 @@ walked-block k n s at x = go (read-terms n (factor k) (opened k n s) at x) (λ t
     go (got ts to rest) h = rw (h ts to rest refl)
     go (bad q) h = refl
 
--- The tally with a count that fits.
+-- The terms with a count that fits.
 pub record Ready (s r : Tally) : Type 0 where
-  pub within : Within r
   pub from : s .terms ≤ r .terms
   pub few : r .terms ≤ series-limit
 
-pub opened-ready : (k n : ℕ) (s r : Tally) → r ≡ opened k n s → s .coarse ≤ coarse-limit → s .terms + n ≤ series-limit → Ready s r
+pub opened-ready : (k n : ℕ) (s r : Tally) → r ≡ opened k n s → count-fits s n ≡ true → Ready s r
 unfolding opened
-opened-ready k n s r e h l = rw e (record { within = opened-within k n s h; from = omega arith; few = l })
+opened-ready k n s r e h = rw e (record { from = omega arith; few = count-passed s n h .fewer })
 
 -- The walk over the terms of a block, with the block's count, factor and tally, is the walk over the block.
 pub block-read : (k n f to : ℕ) (s r : Tally) (x : List ℕ) {b : Read (List Term)} → f ≡ factor k → r ≡ opened k n s → b ≡ read-terms n (factor k) (opened k n s) to x → read-terms (r .terms - s .terms) f r to x ≡ b

@@ -1,13 +1,10 @@
 pub mod Appending
-pub mod Judging
+pub mod ReadCases
 pub mod Accepting
 pub mod Walking
 pub mod Blocks
 pub mod Tabling
 pub mod Unpacking
-pub mod Limits
-pub mod Coarse
-pub mod Judged
 pub mod Packing
 pub mod Tabled
 pub mod Theorems

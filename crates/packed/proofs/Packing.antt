@@ -12,11 +12,13 @@ use Rattle.packed_numbers.proofs.Folding.{folded-natAbs}
 use Rattle.packed_numbers.proofs.Shortest.{AllBytes, bytes-append, encode-bytes, number-encoded, number-encodes}
 use Rattle.limits.specs.declared.Term.{Term}
 use Rattle.limits.specs.declared.Tally.{Tally}
-use Rattle.packed.specs.Series.{read-term, read-terms, read-block, read-blocks, after-block, pack-term, pack-terms, pack-block, pack}
-use Rattle.packed.proofs.Accepting.{GoodTerm, term-accepted, term-made, next-got}
+use Rattle.limits.specs.Limits.{after-block}
+use Rattle.limits.proofs.Passing.{GoodTerm, good-of, passes-of, count-passed, count-passes}
+use Rattle.limits.proofs.Terms.{GoodTerms, good-none, good-term}
+use Rattle.limits.proofs.Series.{GoodBlock, GoodBlocks, none, more}
+use Rattle.packed.specs.Series.{read-term, read-terms, read-block, read-blocks, pack-term, pack-terms, pack-block, pack}
+use Rattle.packed.proofs.Accepting.{term-accepted, term-made, next-got}
 use Rattle.packed.proofs.Blocks.{TermsAt, no-terms, a-term, block-accepted, block-got}
-use Rattle.packed.proofs.Limits.{GoodTerms, good-none, good-term}
-use Rattle.packed.proofs.Judged.{GoodBlock, GoodBlocks, none, more}
 
 -- Bytes that begin with a packed form, and what is left.
 pub record Begins (p x rest : List ℕ) : Type 0 where
@@ -84,7 +86,7 @@ blocks-begin (suc n) k s at x bs to rest a e =
 -- What was read is good, one by one.
 terms-are-good : {f n : ℕ} {s : Tally} {at : ℕ} {x : List ℕ} {ts : List Term} {to : ℕ} {rest : List ℕ} → TermsAt f n s at x ts to rest → GoodTerms f s ts
 terms-are-good no-terms = good-none
-terms-are-good {f} {s = s} {at = at} {x = x} (a-term e h) = good-term (term-accepted f s at x e .good) (terms-are-good h)
+terms-are-good {f} {s = s} {at = at} {x = x} (a-term e h) = good-term (good-of f s _ (term-accepted f s at x e .passes)) (terms-are-good h)
 
 pub record Blocks-are (n k : ℕ) (s : Tally) (bs : List (List Term)) : Type 0 where
   pub many : length bs ≡ n
@@ -98,8 +100,9 @@ blocks-are-good (suc n) k s at x bs to rest e =
     let v = next-got (read-blocks n (k + 1) (after-block k s (u .x)) (u .at) (u .rest)) _ (u .second) in
     let b = block-accepted k s at x (u .x) (u .at) (u .rest) (u .first) in
     let i = blocks-are-good n (k + 1) (after-block k s (u .x)) (u .at) (u .rest) (v .x) (v .at) (v .rest) (v .first) in
+    let c = count-passed s (length (u .x)) (b .fits) in
     carry (λ (l : List (List Term)) (r : List ℕ). Blocks-are (suc n) k s l) (v .second)
-    (record { many = ap suc (i .many); good = more (record { few = b .few; fewer = b .fewer; terms = terms-are-good (b .terms) }) (i .good) })
+    (record { many = ap suc (i .many); good = more (record { few = c .few; fewer = c .fewer; terms = terms-are-good (b .terms) }) (i .good) })
 
 -- The packed form is read.
 small : (v : ℕ) (z : ℤ) → natAbs z < c-limit → folded z < 2 ^ 63
@@ -122,7 +125,7 @@ term-packed f s at t rest g =
       number-a = number-encoded (folded (t .a)) at (b ++ (c ++ rest)) (small 0 (t .a) la);
       number-b = number-encoded (t .b) (at + length a) (c ++ rest) (omega (arith, g .good-b));
       number-c = number-encoded (folded (t .c)) (at + length a + length b) rest (small 0 (t .c) (g .good-c .small));
-      good = g;
+      passes = passes-of f s t g;
     }))
 
 -- Where a reader of a packed form comes to.
@@ -144,7 +147,8 @@ block-packed k s ts at rest g =
     let n = length ts in
     let c = number-encoded n at (pack-terms ts ++ rest) (omega (arith, g .few)) in
     let i = terms-packed (at + length (encode n)) rest (g .terms) in
-    let b = block-got k s at (encode n ++ (pack-terms ts ++ rest)) n (at + length (encode n)) (pack-terms ts ++ rest) c (g .few) (g .fewer) in
+    let f = count-passes s n (record { few = g .few; fewer = g .fewer }) in
+    let b = block-got k s at (encode n ++ (pack-terms ts ++ rest)) n (at + length (encode n)) (pack-terms ts ++ rest) c f in
     record { to = i .to; is = rw (append-assoc (encode n) (pack-terms ts) rest) (b ∙ i .is) }
 
 pub blocks-packed : {k : ℕ} {s : Tally} {bs : List (List Term)} (at : ℕ) (rest : List ℕ) → GoodBlocks k s bs → Comes (read-blocks (length bs) k s at (pack bs ++ rest)) bs rest

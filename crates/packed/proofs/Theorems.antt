@@ -9,10 +9,10 @@ use Rattle.packed_numbers.specs.Numbers.{Read, got, bad, next, closed, groups-f
 use Rattle.packed_numbers.proofs.Shortest.{AllBytes}
 use Rattle.units.specs.Units.{block-count}
 use Rattle.limits.specs.declared.Term.{Term}
-use Rattle.limits.specs.Limits.{no-tally, opened, count-fits}
-use Rattle.packed.specs.Series.{accepted, refused, judged, read-terms, read-block, summed, after-block, read-blocks, read-series, ended, parse, pack}
+use Rattle.limits.specs.Limits.{no-tally, opened, summed, after-block, count-fits}
+use Rattle.packed.specs.Series.{accepted, refused, judged, read-terms, read-block, read-blocks, read-series, ended, parse, pack}
 use Rattle.limits.specs.Allowed.{Allowed}
-use Rattle.packed.proofs.Judged.{good-allowed, allowed-good}
+use Rattle.limits.proofs.Series.{good-allowed, allowed-good}
 use Rattle.packed.proofs.Packing.{blocks-begin, blocks-are-good, blocks-packed}
 
 -- An accepted series was read to the end of its bytes.

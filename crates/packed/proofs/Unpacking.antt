@@ -9,12 +9,12 @@ use lib.Seq.{sets, take-suc-set, take-set-le, take-all, drop-cons}
 use Rattle.units.specs.declared.Refusal.{Refusal}
 use Rattle.units.specs.declared.Refusal.the-variants.{ByteAfterEnd}
 use Rattle.packed_numbers.specs.Numbers.{Read, got, bad, next}
-use Rattle.units.specs.Units.{coarse-limit, series-limit, block-count}
+use Rattle.units.specs.Units.{series-limit, block-count}
 use Rattle.limits.specs.declared.Term.{Term}
 use Rattle.limits.specs.declared.Tally.{Tally}
 use Rattle.packed.specs.declared.Checked.the-variants.{Terms, NoSeries}
-use Rattle.limits.specs.Limits.{no-tally}
-use Rattle.packed.specs.Series.{read-block, read-blocks, read-series, after-block, accepted, refused, ended, parse, checked}
+use Rattle.limits.specs.Limits.{no-tally, after-block}
+use Rattle.packed.specs.Series.{read-block, read-blocks, read-series, accepted, refused, ended, parse, checked}
 use Rattle.limits.specs.Allowed.{term-count}
 use Rattle.packed.specs.machine.Table.{Sized, Holds, ends, block-ends, unpacked}
 use Rattle.packed.specs.machine.Answers.{row-of, filled, Filled}
@@ -29,8 +29,6 @@ pub record Unpacking (s : List ℕ) (rows : List (List ℕ)) (tally : Tally) (i 
   pub bound : k ≤ block-count
   pub whole : read-series 0 s ≡ joined done (read-blocks (block-count - k) k tally i (drop i s))
   pub terms : tally .terms ≡ term-count done
-  pub few : tally .terms ≤ series-limit
-  pub coarse : tally .coarse ≤ coarse-limit
   pub held : take (tally .terms) rows ≡ all-rows done
   pub held-ends : take k (ends rows) ≡ block-ends 0 done
   pub sized : Sized rows
@@ -44,8 +42,6 @@ unpacking-none s rows z =
       bound = omega arith;
       whole = sym (joined-none (read-blocks block-count 0 no-tally 0 s));
       terms = refl;
-      few = omega arith;
-      coarse = omega arith;
       held = refl;
       held-ends = refl;
       sized = z;
@@ -108,7 +104,7 @@ module _ (s : List ℕ) (rows : List (List ℕ)) (tally : Tally) (i k : ℕ) (l 
       → Unpacking s (set after (series-limit + k) (more .terms ∷ 0 ∷ 0 ∷ [])) more to (k + 1)
   unpacking-more to more after h w f =
       let ts = w .x in
-      let g = block-sums k tally i (drop i s) ts to (drop to s) (l .coarse) (block-accepted k tally i (drop i s) ts to (drop to s) (w .is)) in
+      let g = block-sums k tally ts (block-accepted k tally i (drop i s) ts to (drop to s) (w .is) .fits) in
       let n : more .terms ≡ tally .terms + length ts = ap (λ (z : Tally). z .terms) (w .with) ∙ g .terms in
       let m : more .terms ≡ 0 + term-count (l .done) + length ts = n ∙ rw (l .terms) (omega arith) in
       let few : more .terms ≤ series-limit = rw (w .with) (g .few) in
@@ -119,8 +115,6 @@ module _ (s : List ℕ) (rows : List (List ℕ)) (tally : Tally) (i k : ℕ) (l 
         bound = omega arith;
         whole = left-got ts to h (w .is) ∙ rw (w .with);
         terms = n ∙ rw (count-more (l .done) ts, l .terms);
-        few = few;
-        coarse = rw (w .with) (g .within .coarse);
         held = rows-block rows after (tally .terms) (more .terms) k (l .done) ts few n (l .sized) new (l .held);
         held-ends = ends-block rows after (tally .terms) (more .terms) k (l .done) ts few n (l .sized) new h m (l .held-ends);
         sized = record { size = length-set after (series-limit + k) _ ∙ f .sized .size };

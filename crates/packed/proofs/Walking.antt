@@ -10,15 +10,13 @@ use Rattle.units.specs.declared.Refusal.{Refusal}
 use Rattle.packed_numbers.specs.Numbers.{Read, got, bad, next}
 use Rattle.packed_numbers.proofs.Folding.{folded-unfolded}
 use Rattle.packed_numbers.proofs.Reading.{After, moved}
-use Rattle.units.specs.Units.{total-limit, coarse-limit}
 use Rattle.limits.specs.declared.Term.{Term}
 use Rattle.limits.specs.declared.Tally.{Tally}
 use Rattle.packed.specs.declared.table.Walk.the-variants.{Moved, Stopped}
-use Rattle.limits.specs.Limits.{added}
-use Rattle.packed.specs.Series.{read-term, read-terms, summed}
+use Rattle.limits.specs.Limits.{added, summed}
+use Rattle.packed.specs.Series.{read-term, read-terms}
 use Rattle.packed.specs.machine.Table.{Sized}
 use Rattle.packed.specs.machine.Answers.{term-of, walked, row-of, stored, filled, Filled}
-use Rattle.packed.proofs.Accepting.{term-accepted}
 
 -- What was read, from an answer that moved on, and from one that stopped.
 pub record Stepped {A : Type 0} (tally : A → Tally) (s : List ℕ) (r : Read A) (to : ℕ) (z : Tally) : Type 0 where
@@ -102,23 +100,19 @@ pub record Taken (s : List ℕ) (at f from end : ℕ) (first : Tally) (rows₀ r
   pub bound : k ≤ end
   pub whole : read-terms (end - from) f first at (drop at s) ≡ joined done (read-terms (end - k) f tally i (drop i s))
   pub with : tally ≡ summed f first done
-  pub total : tally .total ≤ total-limit
-  pub coarse : tally .coarse ≤ coarse-limit
   pub held : rows ≡ sets rows₀ from (map row-of done)
   pub sized : Sized rows
 
 module _ (s : List ℕ) (at f from end : ℕ) (first : Tally) (rows₀ : List (List ℕ)) where
-  pub taken-none : from ≤ end → first .total ≤ total-limit → first .coarse ≤ coarse-limit → Sized rows₀ → Taken s at f from end first rows₀ rows₀ first at from
+  pub taken-none : from ≤ end → Sized rows₀ → Taken s at f from end first rows₀ rows₀ first at from
   unfolding summed
-  taken-none h t c z =
+  taken-none h z =
       record {
         done = [];
         place = omega arith;
         bound = h;
         whole = sym (joined-none _);
         with = refl;
-        total = t;
-        coarse = c;
         held = refl;
         sized = z;
       }
@@ -147,7 +141,6 @@ module _ (s : List ℕ) (at f from end : ℕ) (first : Tally) (rows₀ : List (L
     unfolding added
     taken-more to more rows′ h w e =
         let t = w .x in
-        let g = term-accepted f tally i (drop i s) (w .is) .good in
         let p = e ∙ store k _ t to _ rows (w .is) in
         record {
           done = l .done ++ t ∷ [];
@@ -155,8 +148,6 @@ module _ (s : List ℕ) (at f from end : ℕ) (first : Tally) (rows₀ : List (L
           bound = omega arith;
           whole = left-got t to h (w .is) ∙ rw (w .with);
           with = w .with ∙ rw (l .with) (sym (summed-more f first (l .done) t));
-          total = rw (w .with) (g .good-a .total);
-          coarse = rw (w .with) (g .good-c .coarse);
           held = p ∙ rw (l .held, l .place) (put-more (l .done) t from rows₀);
           sized = record { size = ap length p ∙ length-set rows k _ ∙ l .sized .size };
         }

@@ -1,3 +1,3 @@
--- Document 01, "Series, as text and packed" and what "Refusals" says of packed input.
+-- RULES, "Series, as text and packed", and what "Refusals and what they leave" says of packed input.
 pub mod Series
 pub mod machine

@@ -1,5 +1,5 @@
--- Document 01, "Packed" and "Refusals": from bytes to 18 blocks of terms, or to a refusal. "Packed input is judged number by
--- number, with the offset of its last byte: 10, then 4, then 5 at a or 6 at c."
+-- RULES, "Series, as text and packed" and "Refusals and what they leave": from bytes to 18 blocks of terms, or to a refusal. Each number is
+-- judged as it comes, and a refusal has the offset of the number's last byte: 10, then 4, then 5 at a or 6 at c.
 use mathlib.Core.Bool.{Bool, cond}
 use mathlib.Core.List.{List, [], _∷_, _++_}
 use Prim.Native.Nat.{ℕ, zero, suc, _+_, _-_}
@@ -14,7 +14,7 @@ use Rattle.packed.specs.declared.Checked.{Checked}
 use Rattle.packed.specs.declared.Checked.the-variants.{Terms, NoSeries}
 use Rattle.limits.specs.declared.Tally.{Tally}
 use Rattle.limits.specs.Allowed.{term-count}
-use Rattle.limits.specs.Limits.{no-tally, opened, added, factor, count-fits, a-fits, b-fits, c-fits, total-fits, coarse-fits}
+use Rattle.limits.specs.Limits.{no-tally, opened, added, after-block, factor, count-fits, a-fits, b-fits, c-fits, total-fits, coarse-fits}
 
 -- A value that passes a test, or the refusal with the offset of the last byte before at.
 unfoldable pub judged : {A : Type 0} → Bool → (ℕ → Refusal) → ℕ → Read A → Read A
@@ -53,14 +53,6 @@ read-block k s at bytes =
     next (number at bytes) (λ n to rest.
     judged (count-fits s n) OverLimit to (read-terms n (factor k) (opened k n s) to rest))
 
--- The tally after a block's terms.
-unfoldable pub summed : ℕ → Tally → List Term → Tally
-summed f s [] = s
-summed f s (t ∷ ts) = summed f (added f s t) ts
-
-unfoldable pub after-block : ℕ → Tally → List Term → Tally
-after-block k s ts = summed (factor k) (opened k (length ts) s) ts
-
 -- n blocks from block k.
 unfoldable pub read-blocks : ℕ → ℕ → Tally → ℕ → List ℕ → Read (List (List Term))
 read-blocks zero k s at bytes = got [] at bytes
@@ -90,7 +82,7 @@ unfoldable pub checked : Parsed → Checked
 checked (accepted blocks) = Terms (term-count blocks)
 checked (refused r) = NoSeries r
 
--- The packed form: "the same numbers in order, a and c first folded".
+-- The packed form: the numbers in their order, a and c folded.
 unfoldable pub pack-term : Term → List ℕ
 pack-term t = encode (folded (t .a)) ++ encode (t .b) ++ encode (folded (t .c))
 

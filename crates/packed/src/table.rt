@@ -1,25 +1,27 @@
 // The one walk over a packed series: it judges every number and fills a term table. For the crates above.
 use crate::Checked;
 use crate::terms::TermRead;
-use crate::terms::add_term;
-use crate::terms::block_factor;
-use crate::terms::open_block;
 use crate::terms::read_term_at;
 use limits::Tally;
+use limits::add_term;
+use limits::block_factor;
+use limits::count_fits;
+use limits::empty_tally;
+use limits::open_block;
 use packed_numbers::Number;
+use packed_numbers::magnitude;
 use packed_numbers::number_at;
 use units::BLOCK_COUNT;
-use units::BLOCK_LIMIT;
-use units::COARSE_BASE;
 use units::Refusal;
 use units::SERIES_LIMIT;
 ghost use mathlib.Core.Path.{_≡_};
 ghost use lib.ListN.{getD};
 ghost use Prim.Native.Nat.{_-_, _<_, _≤_};
-ghost use Rattle.units.specs.Units.{total-limit, coarse-limit, series-limit, block-count};
+ghost use Rattle.units.specs.Units.{series-limit, block-count};
 ghost use Rattle.packed_numbers.specs.machine.Answers.{at-offset};
-ghost use Rattle.limits.specs.Limits.{added};
-ghost use Rattle.packed.specs.Series.{read-term, read-terms, summed, read-block, after-block, parse, checked};
+ghost use Rattle.limits.specs.Limits.{added, summed, after-block};
+ghost use Rattle.limits.specs.machine.Magnitudes.{factor-limit};
+ghost use Rattle.packed.specs.Series.{read-term, read-terms, read-block, parse, checked};
 ghost use Rattle.packed.specs.machine.Table.{Sized, ends, unpacked};
 ghost use Rattle.packed.specs.machine.Answers.{Begun, walked, stored, Filled};
 
@@ -41,7 +43,7 @@ pub enum Walk {
 
 // Reads the term at an offset into row k.
 fn take_term(bytes: &[u8], at: usize, f: u64, tally: Tally, k: usize, table: &mut Table) -> Walk
-    requires { ⌜ (f ≤ 32) × (tally .total ≤ total-limit) × (tally .coarse ≤ coarse-limit) × (k < series-limit) ⌝ }
+    requires { ⌜ (f ≤ factor-limit) × (k < series-limit) ⌝ }
     ensures { λ r. ⌜ (r ≡ walked (added f tally) (at-offset (read-term f tally) at (now (bytes .entry))))
         × (now (table .exit) ≡ stored k (at-offset (read-term f tally) at (now (bytes .entry))) (now (table .entry))) ⌝ }
 {
@@ -50,7 +52,7 @@ fn take_term(bytes: &[u8], at: usize, f: u64, tally: Tally, k: usize, table: &mu
         TermRead::Wrong(r) => Walk::Stopped(r),
         TermRead::Found(a, b, c, to) => {
             table[k] = [a, b, c];
-            Walk::Moved(to, add_term(f, tally, a, b, c))
+            Walk::Moved(to, add_term(f, tally, magnitude(a), b, magnitude(c)))
         }
     }
 }
@@ -83,7 +85,7 @@ fn take_terms(bytes: &[u8], at: usize, f: u64, tally: Tally, from: usize, table:
 
 // Reads block k, from the row where the terms so far end.
 fn take_block(bytes: &[u8], at: usize, k: usize, tally: Tally, table: &mut Table) -> Walk
-    requires { ⌜ (tally .terms ≤ series-limit) × (tally .coarse ≤ coarse-limit) × Sized (now table) ⌝ }
+    requires { ⌜ Sized (now table) ⌝ }
     ensures { λ r. ⌜ (r ≡ walked (after-block k tally) (at-offset (read-block k tally) at (now (bytes .entry))))
         × Filled (tally .terms) (at-offset (read-block k tally) at (now (bytes .entry))) (now (table .entry)) (now (table .exit)) ⌝ }
 {
@@ -92,14 +94,11 @@ fn take_block(bytes: &[u8], at: usize, k: usize, tally: Tally, table: &mut Table
     match n {
         Number::Bad(r) => Walk::Stopped(r),
         Number::Value(count, to) => {
-            if BLOCK_LIMIT < count {
+            if !count_fits(tally, count) {
                 return Walk::Stopped(Refusal::OverLimit(to - 1));
             }
-            if SERIES_LIMIT < terms + count {
-                return Walk::Stopped(Refusal::OverLimit(to - 1));
-            }
-            let f = block_factor(k);
-            let s = open_block(k, count, tally);
+            let f = block_factor(k as u64);
+            let s = open_block(k as u64, count, tally);
             take_terms(bytes, to, f, s, terms as usize, table)
         }
     }
@@ -111,11 +110,7 @@ pub fn unpack(bytes: &[u8], table: &mut Table) -> Checked
     requires { ⌜ Sized (now table) ⌝ }
     ensures { λ r. ⌜ (r ≡ checked (parse (now (bytes .entry)))) × unpacked (parse (now (bytes .entry))) (now (table .exit)) × Sized (now (table .exit)) ⌝ }
 {
-    let mut s = Tally {
-        terms: 0,
-        total: 0,
-        coarse: COARSE_BASE,
-    };
+    let mut s = empty_tally();
     let mut i = 0;
     let mut k = 0;
     while k < END_ROWS {

@@ -11,9 +11,9 @@ use Rattle.units.specs.Units.{parts}
 use Rattle.limits.specs.declared.Term.{Term}
 use Rattle.limits.specs.declared.Tally.{Tally}
 use Rattle.limits.specs.Allowed.{term-count}
-use Rattle.packed.proofs.Accepting.{GoodTerm}
-use Rattle.packed.proofs.Limits as limits
-use Rattle.packed.proofs.Judged as judged
+use Rattle.limits.proofs.Passing.{GoodTerm}
+use Rattle.limits.proofs.Terms as limits
+use Rattle.limits.proofs.Series as judged
 use Rattle.text.specs.Grammar.{feed, sign, count-bytes, decimal}
 use Rattle.printer.specs.Printer.{places, plain-decimal, plain-count, plain-text}
 use Rattle.printer.specs.machine.Writing.{whole-text, line-text, lines-text, block-text}

@@ -8,9 +8,9 @@ use lib.ListN.{length, length-map}
 use Rattle.limits.specs.declared.Term.{Term}
 use Rattle.limits.specs.declared.Tally.{Tally}
 use Rattle.limits.specs.Limits.{factor, opened, added}
-use Rattle.packed.specs.Series.{after-block}
-use Rattle.packed.proofs.Limits as limits
-use Rattle.packed.proofs.Judged as judged
+use Rattle.limits.specs.Limits.{after-block}
+use Rattle.limits.proofs.Terms as limits
+use Rattle.limits.proofs.Series as judged
 use Rattle.text.specs.Grammar.{count, TermLine, Block, term-of-line, terms-of-lines, blocks-of-lines, AllGood, GoodBlocks, TermsInLimits, BlocksInLimits}
 use Rattle.text.proofs.Series.{length-terms, NoMinus, FromZero, blocks-in}
 use Rattle.printer.specs.Printer.{plain-decimal, plain-term, plain-block}

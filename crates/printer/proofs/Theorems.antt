@@ -10,7 +10,7 @@ use Rattle.packed_numbers.proofs.Shortest.{AllBytes}
 use Rattle.limits.specs.declared.Term.{Term}
 use Rattle.limits.specs.Limits.{no-tally}
 use Rattle.packed.specs.Series.{accepted, parse, pack}
-use Rattle.packed.proofs.Judged.{allowed-good}
+use Rattle.limits.proofs.Series.{allowed-good}
 use Rattle.packed.proofs.Theorems.{accepted-allowed, pack-parse, parse-pack}
 use Rattle.text.specs.declared.Outcome.the-variants.{Accepted}
 use Rattle.text.specs.Reader.{told, whole}

@@ -25,7 +25,7 @@ use Rattle.cosine.proofs.Figures.{figures}
 use Rattle.limits.specs.declared.Term.{Term}
 use Rattle.limits.specs.Limits.{constant, weight}
 use Rattle.limits.specs.Allowed.{TermFits, AllFit, none, more, coarseness, moving-total, moving-count}
-use Rattle.packed.proofs.Limits.{burden, burden-more}
+use Rattle.limits.proofs.Terms.{burden, burden-more}
 use Rattle.pieces.specs.Sums.{block-sum}
 use Rattle.series.specs.Sums.{running-sum}
 use Rattle.series.specs.Exact.{tau, exact-term, exact-block, exact-sum}

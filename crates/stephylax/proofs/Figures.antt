@@ -7,9 +7,9 @@ use Rattle.units.specs.Units.{in-limit}
 use Rattle.calendar.proofs.Theorems.{figures as calendar-figures}
 use Rattle.cosine.proofs.Figures.{figures as cosine-figures}
 use Rattle.packed_numbers.specs.Numbers.{number, groups-from, closed, next, unfolded}
-use Rattle.limits.specs.Limits.{count-fits, opened, added, factor, weight, constant, a-fits, b-fits, c-fits, total-fits, coarse-fits}
-use Rattle.packed.specs.Series.{accepted, parse, judged, read-a, read-b, read-c, read-term, read-terms, read-block, summed, after-block}
-use Rattle.packed.specs.Series.{read-blocks, read-series, ended}
+use Rattle.limits.specs.Limits.{count-fits, opened, added, summed, after-block, factor, weight, constant, a-fits, b-fits, c-fits, total-fits}
+use Rattle.limits.specs.Limits.{coarse-fits}
+use Rattle.packed.specs.Series.{accepted, parse, judged, read-a, read-b, read-c, read-term, read-terms, read-block, read-blocks, read-series, ended}
 use Rattle.packed.proofs.Theorems.{padded}
 use Rattle.series.specs.Sums.{of-parsed, coordinates-answer}
 use Rattle.series.specs.declared.CoordinatesAnswer.the-variants.{At as AtCoordinates}

@@ -13,7 +13,7 @@ use Rattle.text.specs.Lexer.{lex, whole-count, whole-term}
 use Rattle.text.specs.Judge.{verdict}
 use Rattle.text.specs.Reader.{begun, other, uncounted, step, step-out, run, ended, refusal, told, whole}
 use Rattle.text.specs.Grammar.{TermLine}
-use Rattle.text.proofs.Judging.{by-cases}
+use Rattle.integers.proofs.Tests.{by-cases}
 use Rattle.text.proofs.Verdicts.{count-among, term-among, wrote-status}
 use Rattle.text.proofs.Lines.{Taken}
 

@@ -11,7 +11,7 @@ use Rattle.text.specs.Lexer.{fresh, lexes, whole-count, whole-term}
 use Rattle.text.specs.Judge.{Verdict, count-end, term-end, verdict}
 use Rattle.text.specs.Reader.{stopped, wrote, step}
 use Rattle.text.specs.Grammar.{CountLine, count-bytes, GoodCount, TermLine, term-bytes, GoodTerm}
-use Rattle.text.proofs.Judging.{by-cases}
+use Rattle.integers.proofs.Tests.{by-cases}
 use Rattle.text.proofs.Branches.{verdict-count, verdict-term, verdict-early}
 use Rattle.text.proofs.GoodLines.{count-run, term-run}
 use Rattle.text.proofs.TakenTerms.{term-in}

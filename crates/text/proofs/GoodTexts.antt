@@ -9,8 +9,8 @@ use lib.ListN.{length, length-append}
 use lib.Seq.{sets, length-sets}
 use Rattle.packed_numbers.specs.Numbers.{encode}
 use Rattle.limits.specs.declared.Tally.{Tally}
-use Rattle.limits.specs.Limits.{opened, added, factor, count-fits}
-use Rattle.packed.specs.Series.{summed, after-block, pack-term, pack-terms, pack-block, pack}
+use Rattle.limits.specs.Limits.{opened, added, summed, after-block, factor, count-fits}
+use Rattle.packed.specs.Series.{pack-term, pack-terms, pack-block, pack}
 use Rattle.text.specs.declared.Line.{Line}
 use Rattle.text.specs.declared.Reader.{Reader}
 use Rattle.text.specs.Lexer.{fresh, lexes}

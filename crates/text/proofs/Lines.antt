@@ -15,7 +15,7 @@ use Rattle.text.specs.Judge.{verdict}
 use Rattle.text.specs.Reader.{last-offset, stopped, further-in-line, after-line, fits, put-bytes, wrote, wrote-out, other, uncounted}
 use Rattle.text.specs.Reader.{step, step-out, Run, run}
 use Rattle.text.proofs.Digits.{early}
-use Rattle.text.proofs.Judging.{by-cases}
+use Rattle.integers.proofs.Tests.{by-cases}
 use Rattle.text.proofs.OneByte.{Lexed, none, digit, pointed, spaced, kept, negated, view}
 
 -- The reader r, so many bytes further, in a line.

@@ -9,7 +9,7 @@ use borrow.Author.Tests.{ltb-true, ltb-false, leb-true, eqb-true, ne-eqb}
 use lib.Dec.{leb, ltb, eqb}
 use Rattle.text.specs.declared.Line.{Line}
 use Rattle.text.specs.Lexer.{bad, takes-digit, with-digit, with-point, with-space, with-minus, lex, lexes, whole-count, whole-term}
-use Rattle.text.proofs.Judging.{by-cases}
+use Rattle.integers.proofs.Tests.{by-cases}
 use Rattle.text.proofs.Digits.{in-whole, before-point, at-last-part, in-count, after-value, small, early}
 use Rattle.text.proofs.GoodLines.{put, keep}
 

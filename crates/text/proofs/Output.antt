@@ -19,7 +19,7 @@ use Rattle.text.specs.Judge.{Verdict, term-on-line, verdict}
 use Rattle.text.specs.Reader.{last-offset, begun, stopped, further-in-line, next-spot, after-line, fits, put-bytes, wrote, wrote-out}
 use Rattle.text.specs.Reader.{uncounted, step, step-out, Run, run}
 use Rattle.text.specs.Grammar.{AnyLine, a-count, a-term, line-bytes, line-packed, GoodLine, any-bytes, any-packed, GoodLines, NoFeed}
-use Rattle.text.proofs.Judging.{by-cases}
+use Rattle.integers.proofs.Tests.{by-cases}
 use Rattle.text.proofs.WrittenTerm.{sets-append}
 use Rattle.text.proofs.Branches.{verdict-count, verdict-term}
 use Rattle.text.proofs.GoodLines.{line-of-term}

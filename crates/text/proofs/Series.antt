@@ -1,23 +1,19 @@
 -- The packed form of an accepted text is an accepted packed series of the same blocks, for a text and a packed series have the same limits.
 -- Assumes nothing.
 use mathlib.Core.Path.{_≡_, refl, sym, ap, _∙_}
-use mathlib.Core.Bool.{true, false}
+use mathlib.Core.Bool.{false}
 use mathlib.Core.List.{List, [], _∷_}
 use Prim.Native.Nat.{ℕ, suc, _+_, _≤_}
 use native.Mathlib.Omega.{arith}
-use borrow.Author.Tests.{lt-ltb, le-leb, ltb-true, leb-true}
-use lib.Dec.{leb}
 use lib.ListN.{length, take, drop}
 use lib.Seq.{sets, sets-eq, take-append-seam}
-use Rattle.integers.proofs.Tests.{both}
-use Rattle.units.specs.Units.{block-limit, series-limit}
 use Rattle.limits.specs.declared.Tally.{Tally}
-use Rattle.limits.specs.Limits.{factor, no-tally, opened, added, count-fits, a-fits, b-fits, c-fits, total-fits, coarse-fits}
-use Rattle.packed.specs.Series.{accepted, parse, pack, after-block}
+use Rattle.limits.specs.Limits.{factor, no-tally, opened, added, after-block}
+use Rattle.packed.specs.Series.{accepted, parse, pack}
 use Rattle.limits.specs.Allowed.{Allowed}
-use Rattle.packed.proofs.Accepting.{GoodTerm}
-use Rattle.packed.proofs.Limits as limits
-use Rattle.packed.proofs.Judged as judged
+use Rattle.limits.proofs.Passing.{GoodTerm, good-of, passes-of, count-passed, count-passes}
+use Rattle.limits.proofs.Terms as limits
+use Rattle.limits.proofs.Series as judged
 use Rattle.packed.proofs.Theorems.{pack-parse}
 use Rattle.text.specs.declared.Outcome.the-variants.{Accepted}
 use Rattle.text.specs.Reader.{told, whole}
@@ -26,37 +22,16 @@ use Rattle.text.specs.Grammar.{TermInLimits, TermsInLimits, BlocksInLimi
 use Rattle.text.proofs.Theorems.{Reads, accepted-text}
 pub use Rattle.text.proofs.TakenTexts.{length-terms}
 
--- ---- The limits of a term and of a count, as the text and as the packed series have them.
+-- ---- The limits of a term, as the text and as the packed series have them.
 
 module _ (f : ℕ) (s : Tally) (l : TermLine) where
   term-out : TermInLimits f s l → GoodTerm f s (term-of-line l)
-  unfolding a-fits b-fits c-fits total-fits coarse-fits
-  term-out g =
-      record {
-        good-a = record { small = ltb-true _ _ (g .a); total = leb-true _ _ (g .total) };
-        good-b = ltb-true _ _ (g .b);
-        good-c = record { small = ltb-true _ _ (g .c); coarse = leb-true _ _ (g .coarse) };
-      }
+  term-out g = good-of f s (term-of-line l) (record { a = g .a; total = g .total; b = g .b; c = g .c; coarse = g .coarse })
 
   term-in : l .b .minus ≡ false → GoodTerm f s (term-of-line l) → TermInLimits f s l
-  unfolding a-fits b-fits c-fits total-fits coarse-fits
   term-in u g =
-      record {
-        from-zero = u;
-        a = lt-ltb _ _ (g .good-a .small);
-        b = lt-ltb _ _ (g .good-b);
-        c = lt-ltb _ _ (g .good-c .small);
-        total = le-leb _ _ (g .good-a .total);
-        coarse = le-leb _ _ (g .good-c .coarse);
-      }
-
-count-out : (s : Tally) (n : ℕ) → count-fits s n ≡ true → (n ≤ block-limit) × (s .terms + n ≤ series-limit)
-unfolding count-fits
-count-out s n e = let b = both (leb n block-limit) (leb (s .terms + n) series-limit) e in (leb-true _ _ (b .0), leb-true _ _ (b .1))
-
-count-in : (s : Tally) (n : ℕ) → n ≤ block-limit → s .terms + n ≤ series-limit → count-fits s n ≡ true
-unfolding count-fits
-count-in s n h l = rw (le-leb n block-limit h, le-leb (s .terms + n) series-limit l)
+      let p = passes-of f s (term-of-line l) g in
+      record { from-zero = u; a = p .a; b = p .b; c = p .c; total = p .total; coarse = p .coarse }
 
 -- ---- As many blocks of terms as blocks.
 
@@ -77,9 +52,9 @@ unfolding GoodBlocks BlocksInLimits blocks-of-lines
 blocks-out k s [] g l = judged.none
 blocks-out k s (b ∷ bs) g l =
     let n : count (b .head) ≡ length (terms-of-lines (b .lines)) = sym (g .1) ∙ sym (length-terms (b .lines)) in
-    let c = count-out s (count (b .head)) (l .0) in
+    let c = count-passed s (count (b .head)) (l .0) in
     judged.more
-    (record { few = rw n at (c .0); fewer = rw n at (c .1); terms = rw n at (terms-out (factor k) (opened k (count (b .head)) s) (b .lines) (l .1)) })
+    (record { few = rw n at (c .few); fewer = rw n at (c .fewer); terms = rw n at (terms-out (factor k) (opened k (count (b .head)) s) (b .lines) (l .1)) })
     (blocks-out (k + 1) (after-block k s (terms-of-lines (b .lines))) bs (g .3) (l .2))
 
 pub text-allowed : (ks : List Block) → GoodText ks → InLimits ks → Allowed (blocks-of-lines ks)
@@ -107,7 +82,7 @@ unfolding GoodBlocks BlocksInLimits blocks-of-lines FromZero
 blocks-in k s [] g u h = tt
 blocks-in k s (b ∷ bs) g u (judged.more c h) =
     let n : length (terms-of-lines (b .lines)) ≡ count (b .head) = length-terms (b .lines) ∙ g .1 in (
-      count-in s (count (b .head)) (rw n at (c .few)) (rw n at (c .fewer)),
+      count-passes s (count (b .head)) (record { few = rw n at (c .few); fewer = rw n at (c .fewer) }),
       terms-in (factor k) (opened k (count (b .head)) s) (b .lines) (u .0) (rw n at (c .terms)),
       blocks-in (k + 1) (after-block k s (terms-of-lines (b .lines))) bs (g .3) (u .1) h,
     )

@@ -10,23 +10,24 @@ use lib.ListN.{length, length-append}
 use lib.Seq.{sets, length-sets}
 use Rattle.packed_numbers.specs.Numbers.{encode}
 use Rattle.limits.specs.declared.Tally.{Tally}
-use Rattle.limits.specs.Limits.{opened, added, factor}
-use Rattle.packed.specs.Series.{summed, after-block, pack-term, pack-terms, pack-block, pack}
+use Rattle.limits.specs.Limits.{opened, added, summed, after-block, factor}
+use Rattle.packed.specs.Series.{pack-term, pack-terms, pack-block, pack}
 use Rattle.text.specs.declared.Line.{Line}
 use Rattle.text.specs.declared.Reader.{Reader}
 use Rattle.text.specs.Lexer.{fresh, lexes}
-use Rattle.text.specs.Judge.{count-refusal, term-refusal}
+use Rattle.text.specs.Judge.{count-refusal, term-line-refusal}
 use Rattle.text.specs.Reader.{last-offset, stopped, next-spot, uncounted, step, step-out, Run, run}
 use Rattle.text.specs.Grammar.{CountLine, count, count-bytes, GoodCount, TermLine, term-bytes, GoodTerm, term-of-line}
 use Rattle.text.specs.Grammar.{Block, lines-bytes, blocks-bytes, terms-of-lines, blocks-of-lines, AllGood, GoodBlocks}
 use Rattle.text.specs.Grammar.{TermsInLimits, BlocksInLimits}
-use Rattle.text.proofs.Judging.{by-cases}
+use Rattle.integers.proofs.Tests.{by-cases}
 use Rattle.text.proofs.WrittenTerm.{sets-append}
 use Rattle.text.proofs.GoodLines.{flag}
 use Rattle.text.proofs.TakenTerms.{term-in}
 use Rattle.text.proofs.TakenCounts.{count-in}
 use Rattle.text.proofs.Lines.{moved, Taken, not-stopped, next-line, shorter}
-use Rattle.text.proofs.Verdicts.{sp, st, count-verdict, term-verdict, count-limits, term-limits, ends-count, ends-term}
+use Rattle.text.proofs.LineLimits.{count-limits}
+use Rattle.text.proofs.Verdicts.{sp, st, count-verdict, term-verdict, term-limits, ends-count, ends-term}
 
 -- The packed form of a count line and of a term line.
 abbrev pub count-packed : CountLine → List ℕ
@@ -82,7 +83,7 @@ record TermStep (at w k n : ℕ) (s : Tally) (out xs : List ℕ) : Type 0 where
   rest : List ℕ
   to : ℕ
   is : xs ≡ term-bytes t ++ (10 ∷ rest)
-  fits : term-refusal (factor (k - 1)) s (flag (t .b .minus)) (term-of-line t) ≡ 0
+  fits : term-line-refusal (factor (k - 1)) s (flag (t .b .minus)) (term-of-line t) ≡ 0
   room : w + length (term-packed t) ≤ length out
   next : run (sp 0 at w k n s) out xs ≡ run (after-term to w k n s t) (sets out w (term-packed t)) rest
 

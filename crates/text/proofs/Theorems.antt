@@ -6,8 +6,8 @@ use native.Mathlib.Omega.{arith}
 use borrow.Author.Tests.{ne-eqb}
 use lib.ListN.{length}
 use lib.Seq.{sets}
-use Rattle.limits.specs.Limits.{no-tally}
-use Rattle.packed.specs.Series.{summed, pack-terms, pack}
+use Rattle.limits.specs.Limits.{no-tally, summed}
+use Rattle.packed.specs.Series.{pack-terms, pack}
 use Rattle.text.specs.declared.Reader.{Reader}
 use Rattle.text.specs.declared.Outcome.the-variants.{Accepted}
 use Rattle.text.specs.Reader.{last-offset, begun, next-spot, step, step-out, Run, run, stopped, ended, told, whole}

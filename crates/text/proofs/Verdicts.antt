@@ -1,27 +1,28 @@
 -- What the judgement of a line that follows the grammar says, and that a good judgement is of such a line. Assumes nothing.
-use mathlib.Core.Path.{_≡_, refl, sym, _∙_}
+use mathlib.Core.Path.{_≡_, refl, sym, ap, _∙_}
 use mathlib.Core.Bool.{Bool, true, false, cond}
 use mathlib.Core.List.{List, [], _∷_}
 use mathlib.Core.Logic.{_⊎_, inl, inr, ⊎-elim}
 use Prim.Native.Nat.{ℕ, _+_, _-_, _≤_, _<_}
 use native.Mathlib.Omega.{arith}
-use borrow.Author.Tests.{ltb-true, lt-ltb}
+use borrow.Author.Tests.{lt-ltb}
 use lib.Dec.{ltb, eqb}
 use lib.ListN.{length}
 use Rattle.integers.specs.Signs.{sgn}
 use Rattle.packed_numbers.specs.Numbers.{encode}
 use Rattle.limits.specs.declared.Tally.{Tally}
 use Rattle.limits.specs.declared.Term.{Term}
-use Rattle.limits.specs.Limits.{opened, added, factor, count-fits, a-fits, b-fits, c-fits, total-fits, coarse-fits}
+use Rattle.limits.specs.Limits.{opened, added, factor, count-fits, term-refusal}
+use Rattle.limits.proofs.Passing.{Passes, refused-not, not-refused, refusal-among}
 use Rattle.packed.specs.Series.{pack-term}
 use Rattle.text.specs.declared.Line.{Line}
 use Rattle.text.specs.declared.Reader.{Reader}
 use Rattle.text.specs.Lexer.{fresh, lex, lexes, whole-count, whole-term}
-use Rattle.text.specs.Judge.{Verdict, signed, term-on-line, count-refusal, numbers-fit, term-refusal, verdict}
+use Rattle.text.specs.Judge.{Verdict, signed, term-on-line, count-refusal, term-line-refusal, verdict}
 use Rattle.text.specs.Reader.{next-spot, after-line, fits, wrote}
 use Rattle.text.specs.Grammar.{size, value, CountLine, count, GoodCount, TermLine, term-of-line, TermInLimits}
 use Rattle.text.proofs.Digits.{early}
-use Rattle.text.proofs.Judging.{by-cases}
+use Rattle.integers.proofs.Tests.{by-cases}
 use Rattle.text.proofs.Branches.{verdict-count, verdict-term, verdict-early}
 use Rattle.text.proofs.GoodLines.{put, flag, line-of-term}
 use Rattle.text.proofs.OneByte.{Lexed, none, digit, pointed, spaced, kept, negated, view, never, term-of, count-of}
@@ -66,7 +67,7 @@ module _ (spot at w k m : ℕ) (s : Tally) where
       let q = verdict-count (moved (sp spot at w k 0 s) L m) h in (rw (q, e), rw (q, e), rw (q, e))
 
   pub term-verdict : (n : ℕ) (t : TermLine)
-      → (verdict (moved (sp spot at w k n s) (line-of-term t) m) .refusal ≡ term-refusal (factor (k - 1)) s (flag (t .b .minus)) (term-of-line t))
+      → (verdict (moved (sp spot at w k n s) (line-of-term t) m) .refusal ≡ term-line-refusal (factor (k - 1)) s (flag (t .b .minus)) (term-of-line t))
       × (verdict (moved (sp spot at w k n s) (line-of-term t) m) .bytes ≡ pack-term (term-of-line t))
       × (after-line (moved (sp spot at w k n s) (line-of-term t) m) (verdict (moved (sp spot at w k n s) (line-of-term t) m))
       ≡ st (at + m + 1) (w + length (pack-term (term-of-line t))) k (n - 1) (added (factor (k - 1)) s (term-of-line t)))
@@ -80,41 +81,24 @@ pub count-zero : (k : ℕ) (s : Tally) (n : ℕ) → k < 18 → count-fits s n �
 unfolding count-refusal
 count-zero k s n h e = rw (lt-ltb k 18 h, e)
 
-pub count-limits : (k : ℕ) (s : Tally) (n : ℕ) → count-refusal k s n ≡ 0 → (k < 18) × (count-fits s n ≡ true)
-unfolding count-refusal
-count-limits k s n e =
-    by-cases (ltb k 18)
-    (λ p. by-cases (count-fits s n) (λ q. (ltb-true _ _ p, q)) (λ q. absurd (apart 4 (λ x. omega (arith, x)) (rw (p, q) at e))))
-    (λ p. absurd (apart 9 (λ x. omega (arith, x)) (rw p at e)))
+passes-of-line : (f : ℕ) (s : Tally) (t : TermLine) → TermInLimits f s t → Passes f s (term-of-line t)
+passes-of-line f s t l = record { a = l .a; total = l .total; b = l .b; c = l .c; coarse = l .coarse }
+
+pub term-zero : (f : ℕ) (s : Tally) (t : TermLine) → TermInLimits f s t → term-line-refusal f s (flag (t .b .minus)) (term-of-line t) ≡ 0
+unfolding term-line-refusal flag
+term-zero f s t l =
+    ap (λ (m : Bool). cond (eqb (flag m) 0) (term-refusal f s (term-of-line t)) 4) (l .from-zero)
+    ∙ refused-not f s (term-of-line t) (passes-of-line f s t l)
+
+pub term-limits : (f : ℕ) (s : Tally) (t : TermLine) → term-line-refusal f s (flag (t .b .minus)) (term-of-line t) ≡ 0 → TermInLimits f s t
+unfolding term-line-refusal flag
+term-limits f s t = go (t .b .minus) refl
   where
-    apart : (x : ℕ) → (x ≡ 0 → ⊥) → x ≡ 0 → ⊥
-    apart x h = h
-
-pub term-zero : (f : ℕ) (s : Tally) (t : TermLine) → TermInLimits f s t → term-refusal f s (flag (t .b .minus)) (term-of-line t) ≡ 0
-unfolding term-refusal numbers-fit flag b-fits size
-term-zero f s t l = rw (l .from-zero, l .a, l .b, l .c, l .total, l .coarse)
-
-flag-zero : (m : Bool) → eqb (flag m) 0 ≡ true → m ≡ false
-unfolding flag
-flag-zero true e = never e
-flag-zero false e = refl
-
-pub term-limits : (f : ℕ) (s : Tally) (t : TermLine) → term-refusal f s (flag (t .b .minus)) (term-of-line t) ≡ 0 → TermInLimits f s t
-unfolding term-refusal numbers-fit
-term-limits f s t e =
-    by-cases (eqb (flag (t .b .minus)) 0)
-    (λ p. by-cases (a-fits (value (t .a))) (λ q. by-cases (b-fits (size (t .b))) (λ r. by-cases (c-fits (value (t .c)))
-    (λ u. by-cases (total-fits s (value (t .a))) (λ v. by-cases (coarse-fits f s (value (t .a)) (size (t .b)) (value (t .c)))
-    (λ w. record { from-zero = flag-zero (t .b .minus) p; a = q; b = r; c = u; total = v; coarse = w })
-    (λ w. absurd (apart 6 (λ x. omega (arith, x)) (rw (p, q, r, u, v, w) at e))))
-    (λ v. absurd (apart 5 (λ x. omega (arith, x)) (rw (p, q, r, u, v) at e))))
-    (λ u. absurd (apart 4 (λ x. omega (arith, x)) (rw (p, q, r, u) at e))))
-    (λ r. absurd (apart 4 (λ x. omega (arith, x)) (rw (p, q, r) at e))))
-    (λ q. absurd (apart 4 (λ x. omega (arith, x)) (rw (p, q) at e))))
-    (λ p. absurd (apart 4 (λ x. omega (arith, x)) (rw p at e)))
-  where
-    apart : (x : ℕ) → (x ≡ 0 → ⊥) → x ≡ 0 → ⊥
-    apart x h = h
+    go : (m : Bool) → t .b .minus ≡ m → _≡_ {A = ℕ} (cond (eqb (flag m) 0) (term-refusal f s (term-of-line t)) 4) 0 → TermInLimits f s t
+    go true e h = absurd (omega arith)
+    go false e h =
+        let p = not-refused f s (term-of-line t) h in
+        record { from-zero = e; a = p .a; b = p .b; c = p .c; total = p .total; coarse = p .coarse }
 
 -- A line keeps its kind.
 count-kind : (xs : List ℕ) (l : Line) → 20 ≤ l .spot → 20 ≤ lexes l xs .spot
@@ -191,15 +175,13 @@ count-among P zero four nine k s n = go (ltb k 18) (count-fits s n)
     go true false = four
     go false u = nine
 
-pub term-among : (P : ℕ → Type 0) → P 0 → P 4 → P 5 → P 6 → (f : ℕ) (s : Tally) (m : ℕ) (t : Term) → P (term-refusal f s m t)
-unfolding term-refusal
-term-among P zero four five six f s m t = go (numbers-fit m t) (total-fits s (t .a)) (coarse-fits f s (t .a) (t .b) (t .c))
+pub term-among : (P : ℕ → Type 0) → P 0 → P 4 → P 5 → P 6 → (f : ℕ) (s : Tally) (m : ℕ) (t : Term) → P (term-line-refusal f s m t)
+unfolding term-line-refusal
+term-among P zero four five six f s m t = go (eqb m 0)
   where
-    go : (t u v : Bool) → P (cond t (cond u (cond v 0 6) 5) 4)
-    go true true true = zero
-    go true true false = six
-    go true false v = five
-    go false u v = four
+    go : (b : Bool) → P (cond b (term-refusal f s t) 4)
+    go true = refusal-among P zero four five six f s t
+    go false = four
 
 pub wrote-status : (n : ℕ) → (0 ≡ n → ⊥) → (7 ≡ n → ⊥) → (r : Reader) (out : List ℕ) (v : Verdict) → (v .refusal ≡ n → ⊥) → wrote r out v .status ≡ n → ⊥
 unfolding wrote

@@ -11,8 +11,8 @@ use Rattle.packed_numbers.specs.Numbers.{encode}
 use Rattle.units.specs.Units.{block-count}
 use Rattle.limits.specs.declared.Term.{Term}
 use Rattle.limits.specs.declared.Tally.{Tally}
-use Rattle.limits.specs.Limits.{no-tally, opened, added, factor, count-fits, a-fits, b-fits, c-fits, total-fits, coarse-fits}
-use Rattle.packed.specs.Series.{after-block, pack-term}
+use Rattle.limits.specs.Limits.{no-tally, opened, added, after-block, factor, count-fits, a-fits, b-fits, c-fits, total-fits, coarse-fits}
+use Rattle.packed.specs.Series.{pack-term}
 
 -- ---- Bytes.
 

@@ -1,6 +1,6 @@
--- Document 01, "Refusals": "4, 5, 6 and 7 at the line feed, in that order". What a whole line says: 3 where the line feed comes too early,
--- 4, 5, 6 for its numbers, and the packed bytes that the writer then has to find room for.
-use mathlib.Core.Bool.{Bool, false, cond}
+-- RULES, "Refusals and what they leave": the judgement of a line at its line feed. A whole line says 3 where the line feed comes too early,
+-- 4, 5 or 6 for its numbers, and the packed bytes that the writer then has to find room for.
+use mathlib.Core.Bool.{cond}
 use mathlib.Core.List.{List, []}
 use Prim.Native.Nat.{ℕ, _+_, _-_}
 use lib.Dec.{ltb, eqb}
@@ -10,7 +10,7 @@ use Rattle.packed_numbers.specs.Numbers.{encode}
 use Rattle.units.specs.Units.{block-count}
 use Rattle.limits.specs.declared.Term.{Term}
 use Rattle.limits.specs.declared.Tally.{Tally}
-use Rattle.limits.specs.Limits.{opened, added, factor, count-fits, a-fits, b-fits, c-fits, total-fits, coarse-fits}
+use Rattle.limits.specs.Limits.{opened, added, factor, count-fits, term-refusal}
 use Rattle.packed.specs.Series.{pack-term}
 use Rattle.text.specs.declared.Line.{Line}
 use Rattle.text.specs.declared.Reader.{Reader}
@@ -51,21 +51,14 @@ count-end r =
       tally = opened (r .blocks) (r .line .value) (tally r);
     }
 
--- A term, in a block with factor f after the tally s.
-unfoldable pub numbers-fit : ℕ → Term → Bool
-numbers-fit minusb t =
-    cond (eqb minusb 0) (cond (a-fits (t .a)) (cond (b-fits (t .b)) (c-fits (t .c)) false) false) false
-
-unfoldable pub term-refusal : ℕ → Tally → ℕ → Term → ℕ
-term-refusal f s minusb t =
-    cond (numbers-fit minusb t)
-    (cond (total-fits s (t .a)) (cond (coarse-fits f s (t .a) (t .b) (t .c)) 0 6) 5)
-    4
+-- A term, in a block with factor f after the tally s: the limits of every series, and b without a minus.
+unfoldable pub term-line-refusal : ℕ → Tally → ℕ → Term → ℕ
+term-line-refusal f s minusb t = cond (eqb minusb 0) (term-refusal f s t) 4
 
 abbrev pub term-end : Reader → Verdict
 term-end r =
     record {
-      refusal = term-refusal (factor (r .blocks - 1)) (tally r) (r .line .minusb) (term-on-line (r .line));
+      refusal = term-line-refusal (factor (r .blocks - 1)) (tally r) (r .line .minusb) (term-on-line (r .line));
       bytes = pack-term (term-on-line (r .line));
       blocks = r .blocks;
       left = r .left - 1;

@@ -1,22 +1,33 @@
 // The reader's steps: one byte, the end of a line, the end of the text.
+use crate::ACCEPTED;
+use crate::READING;
 use crate::Reader;
 use crate::judge::count_refusal;
-use crate::judge::factor_of;
-use crate::judge::judge_term;
-use crate::judge::open_block;
+use crate::judge::term_line_refusal;
+use crate::lexer::SPOT_AFTER;
+use crate::lexer::SPOT_BAD;
+use crate::lexer::SPOT_COUNT;
+use crate::lexer::SPOT_DECIMAL;
 use crate::lexer::fresh_line;
 use crate::lexer::lex;
 use crate::lexer::whole_count;
 use crate::lexer::whole_term;
 use crate::writer::put_term;
+use limits::Tally;
+use limits::add_term;
+use limits::block_factor;
+use limits::open_block;
 use packed_numbers::Put;
 use packed_numbers::put_number;
-use limits::Tally;
+use units::BLOCK_COUNT;
 use units::Refusal;
 ghost use mathlib.Core.Path.{_≡_};
 ghost use Prim.Native.Nat.{_+_, _-_, _<_};
 ghost use Rattle.text.specs.Judge.{count-end, term-end, verdict};
-ghost use Rattle.text.specs.Reader.{stopped, next-spot, advanced, wrote, wrote-out, other, step, step-out, ended, refusal};
+ghost use Rattle.text.specs.Reader.{last-offset, stopped, next-spot, advanced, wrote, wrote-out, other, step, step-out, ended, refusal};
+
+// The greatest offset; specs/Reader.antt has the same name.
+const LAST_OFFSET: usize = 18446744073709551615;
 
 // The reader with its answer.
 fn stop(r: Reader, status: u64) -> Reader
@@ -42,17 +53,17 @@ fn next_spot(blocks: u64, left: u64) -> u64
     ensures { λ s. ⌜ s ≡ next-spot blocks left ⌝ }
 {
     if left == 0 {
-        if blocks == 18 {
-            return 30;
+        if blocks == BLOCK_COUNT {
+            return SPOT_AFTER;
         }
-        return 20;
+        return SPOT_COUNT;
     }
-    0
+    SPOT_DECIMAL
 }
 
 // The reader after a line that was written up to written.
 fn advance(r: Reader, written: usize, blocks: u64, left: u64, s: Tally) -> Reader
-    requires { ⌜ r .at < 18446744073709551615 ⌝ }
+    requires { ⌜ r .at < last-offset ⌝ }
     ensures { λ n. ⌜ n ≡ advanced r written blocks left s ⌝ }
 {
     let l = fresh_line(next_spot(blocks, left));
@@ -65,14 +76,14 @@ fn advance(r: Reader, written: usize, blocks: u64, left: u64, s: Tally) -> Reade
         terms: s.terms,
         total: s.total,
         coarse: s.coarse,
-        status: 0,
+        status: READING,
         place: 0,
     }
 }
 
 // The line feed of a count.
 fn end_count(r: Reader, out: &mut [u8]) -> Reader
-    requires { ⌜ r .at < 18446744073709551615 ⌝ }
+    requires { ⌜ r .at < last-offset ⌝ }
     ensures { λ s. ⌜ (s ≡ wrote r (now (out .entry)) (count-end r)) × (now (out .exit) ≡ wrote-out r (now (out .entry)) (count-end r)) ⌝ }
 {
     let l = r.line;
@@ -94,6 +105,7 @@ fn end_count(r: Reader, out: &mut [u8]) -> Reader
     }
 }
 
+// One less, or 0.
 fn less_one(n: u64) -> u64
     ensures { λ r. ⌜ r ≡ n - 1 ⌝ }
 {
@@ -105,7 +117,7 @@ fn less_one(n: u64) -> u64
 
 // The line feed of a term.
 fn end_term(r: Reader, out: &mut [u8]) -> Reader
-    requires { ⌜ r .at < 18446744073709551615 ⌝ }
+    requires { ⌜ r .at < last-offset ⌝ }
     ensures { λ s. ⌜ (s ≡ wrote r (now (out .entry)) (term-end r)) × (now (out .exit) ≡ wrote-out r (now (out .entry)) (term-end r)) ⌝ }
 {
     let l = r.line;
@@ -114,21 +126,24 @@ fn end_term(r: Reader, out: &mut [u8]) -> Reader
         total: r.total,
         coarse: r.coarse,
     };
-    let j = judge_term(factor_of(r.blocks), s, l);
-    if j.refusal != 0 {
-        return stop(r, j.refusal);
+    let f = block_factor(less_one(r.blocks));
+    let refusal = term_line_refusal(f, s, l);
+    if refusal != 0 {
+        return stop(r, refusal);
     }
-    let more = j.tally;
     let put = put_term(l, out, r.written);
     match put {
         Put::NoRoom(_) => stop(r, 7),
-        Put::Next(next) => advance(r, next, r.blocks, less_one(r.left), more),
+        Put::Next(next) => {
+            let more = add_term(f, s, l.a, l.b, l.value);
+            advance(r, next, r.blocks, less_one(r.left), more)
+        }
     }
 }
 
 // A line feed.
 fn end_line(r: Reader, out: &mut [u8]) -> Reader
-    requires { ⌜ r .at < 18446744073709551615 ⌝ }
+    requires { ⌜ r .at < last-offset ⌝ }
     ensures { λ s. ⌜ (s ≡ wrote r (now (out .entry)) (verdict r)) × (now (out .exit) ≡ wrote-out r (now (out .entry)) (verdict r)) ⌝ }
 {
     let l = r.line;
@@ -143,12 +158,12 @@ fn end_line(r: Reader, out: &mut [u8]) -> Reader
 
 // A byte that is no line feed.
 fn take_other(r: Reader, byte: u8) -> Reader
-    requires { ⌜ r .at < 18446744073709551615 ⌝ }
+    requires { ⌜ r .at < last-offset ⌝ }
     ensures { λ s. ⌜ s ≡ other r byte ⌝ }
 {
     let l = r.line;
     let next = lex(l, byte);
-    if next.spot == 31 {
+    if next.spot == SPOT_BAD {
         return stop(r, 3);
     }
     Reader {
@@ -160,7 +175,7 @@ fn take_other(r: Reader, byte: u8) -> Reader
         terms: r.terms,
         total: r.total,
         coarse: r.coarse,
-        status: 0,
+        status: READING,
         place: 0,
     }
 }
@@ -169,17 +184,17 @@ fn take_other(r: Reader, byte: u8) -> Reader
 pub fn take_byte(r: Reader, byte: u8, out: &mut [u8]) -> Reader
     ensures { λ s. ⌜ (s ≡ step r (now (out .entry)) byte) × (now (out .exit) ≡ step-out r (now (out .entry)) byte) ⌝ }
 {
-    if r.status != 0 {
+    if r.status != READING {
         return r;
     }
-    if r.at == 18446744073709551615 {
+    if r.at == LAST_OFFSET {
         return stop(r, 3);
     }
     let l = r.line;
-    if l.spot == 30 {
+    if l.spot == SPOT_AFTER {
         return stop(r, 9);
     }
-    if byte == 10 {
+    if byte == b'\n' {
         return end_line(r, out);
     }
     take_other(r, byte)
@@ -189,12 +204,12 @@ pub fn take_byte(r: Reader, byte: u8, out: &mut [u8]) -> Reader
 pub fn close(r: Reader) -> Reader
     ensures { λ s. ⌜ s ≡ ended r ⌝ }
 {
-    if r.status != 0 {
+    if r.status != READING {
         return r;
     }
     let l = r.line;
-    if l.spot == 30 {
-        return stop(r, 1);
+    if l.spot == SPOT_AFTER {
+        return stop(r, ACCEPTED);
     }
     stop(r, 8)
 }

@@ -5,10 +5,11 @@ use mathlib.Core.List.{List, [], _∷_, map}
 use Prim.Native.Nat.{ℕ, _≤_}
 use lib.ListN.{set}
 use lib.Seq.{sets}
-use Rattle.units.specs.Units.{total-limit, coarse-limit, series-limit}
+use Rattle.units.specs.Units.{series-limit}
 use Rattle.packed_numbers.specs.Numbers.{Read, got, bad, folded, unfolded}
 use Rattle.limits.specs.declared.Term.{Term}
 use Rattle.limits.specs.declared.Tally.{Tally}
+use Rattle.limits.specs.machine.Magnitudes.{factor-limit}
 use Rattle.packed.specs.declared.terms.TermRead.{TermRead}
 use Rattle.packed.specs.declared.terms.TermRead.the-variants.{Found, Wrong}
 use Rattle.packed.specs.declared.table.Walk.{Walk}
@@ -39,9 +40,7 @@ stored k (bad r) rows = rows
 
 -- What reading the terms of a block asks: they go from row from up to the number of terms declared, within the table.
 pub record Begun (f : ℕ) (tally : Tally) (from : ℕ) (rows : List (List ℕ)) : Type 0 where
-  pub small : f ≤ 32
-  pub total : tally .total ≤ total-limit
-  pub coarse : tally .coarse ≤ coarse-limit
+  pub small : f ≤ factor-limit
   pub from-there : from ≤ tally .terms
   pub few : tally .terms ≤ series-limit
   pub sized : Sized rows

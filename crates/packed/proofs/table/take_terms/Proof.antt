@@ -3,11 +3,9 @@ use mathlib.Core.Path.{sym, _∙_}
 use Prim.Native.Nat.{ℕ, _+_, _-_, _<_}
 use native.Mathlib.Omega.{arith}
 use borrow.Author.Needs.{needs}
-use Rattle.limits.specs.Limits.{added}
-use Rattle.packed.specs.Series.{summed}
-use Rattle.packed.proofs.Judging.{term-after}
-use Rattle.packed.proofs.Walking.{Taken, taken-none, taken-more, taken-stop, taken-last, filled-last}
-use Rattle.packed.proofs.Walking.{filled-stop, walked-moved, walked-stopped, show-moved, show-stopped}
+use Rattle.limits.specs.Limits.{added, summed}
+use Rattle.packed.proofs.ReadCases.{term-after}
+use Rattle.packed.proofs.Walking.{Taken, taken-none, taken-more, taken-stop, taken-last, filled-last, filled-stop, walked-moved, walked-stopped, show-moved, show-stopped}
 use Rattle.packed.proofs.table.take_terms.Statement.{statement}
 use Rattle.packed.proofs.table.take_terms.Tie as tie
 
@@ -18,13 +16,12 @@ abbrev μ-loop : tie.MeasureT-loop
 μ-loop bytes at f from table₀ end s₀ i₀ k₀ table s i k = end - k
 
 loop-holds : tie.Need-loop-holds Inv-loop μ-loop
-loop-holds c = let p = c .before .pre in taken-none _ _ _ _ _ _ _ (p .from-there) (p .total) (p .coarse) (p .sized)
+loop-holds c = let p = c .before .pre in taken-none _ _ _ _ _ _ _ (p .from-there) (p .sized)
 
 take-term-requires : tie.Need-take-term-requires Inv-loop μ-loop
 take-term-requires c κs =
-    let l = c .before .before .loop .inv in
     let p = c .before .before .before .before .pre in
-    (p .small, l .total, l .coarse, omega (arith, c .before .loop-test .taken, p .few))
+    (p .small, omega (arith, c .before .loop-test .taken, p .few))
 
 enum-known-w : tie.Need-enum-known-w Inv-loop μ-loop
 enum-known-w c = search needs

@@ -4,7 +4,7 @@ use Prim.Native.Nat.{ℕ, _+_, _-_, _<_}
 use native.Mathlib.Omega.{arith}
 use borrow.Author.Needs.{needs}
 use Rattle.units.specs.Units.{block-count}
-use Rattle.packed.specs.Series.{after-block}
+use Rattle.limits.specs.Limits.{after-block}
 use Rattle.packed.proofs.Walking.{walked-moved, walked-stopped}
 use Rattle.packed.proofs.Blocks.{block-after}
 use Rattle.packed.proofs.Unpacking.{Unpacking, unpacking-none, unpacking-more, unpacking-stop, unpacking-over}
@@ -18,11 +18,14 @@ Inv-loop bytes table₀ s₀ i₀ k₀ table s i k = Unpacking bytes table s i k
 abbrev μ-loop : tie.MeasureT-loop
 μ-loop bytes table₀ s₀ i₀ k₀ table s i k = block-count - k
 
+empty-tally-requires : tie.Need-empty-tally-requires Inv-loop μ-loop
+empty-tally-requires c κs = search needs
+
 loop-holds : tie.Need-loop-holds Inv-loop μ-loop
-loop-holds c = unpacking-none _ _ (c .before .pre)
+loop-holds c = rw (c .empty-tally .ensures) (unpacking-none _ _ (c .before .before .pre))
 
 take-block-requires : tie.Need-take-block-requires Inv-loop μ-loop
-take-block-requires c κs = let l = c .before .before .loop .inv in (l .few, l .coarse, l .sized)
+take-block-requires c κs = c .before .before .loop .inv .sized
 
 enum-known-w : tie.Need-enum-known-w Inv-loop μ-loop
 enum-known-w c = search needs
@@ -59,7 +62,7 @@ loop-less c = less _ (c .before .before .before .before .before .loop-test .take
 
 loop-again : tie.Need-loop-again Inv-loop μ-loop
 loop-again c =
-    let a = c .before .before .before .before .before .before .before .before .args in
+    let a = c .before .before .before .before .before .before .before .before .before .args in
     let l = c .before .before .before .before .before .before .loop in
     let t = c .before .before .before .take-block in
     let h = c .before .before .before .before .before .loop-test .taken in
@@ -87,6 +90,7 @@ unpack-spec =
     (tie.spec
     Inv-loop
     μ-loop
+    empty-tally-requires
     loop-holds
     take-block-requires
     enum-known-w

@@ -7,7 +7,7 @@ use Rattle.packed_numbers.specs.Numbers.{folded, unfolded}
 use Rattle.packed_numbers.specs.machine.Answers.{plain}
 use Rattle.packed_numbers.proofs.Reading.{Got, got-plain, got-folded, was-bad}
 use Rattle.packed.specs.Series.{read-a, read-b, read-c}
-use Rattle.packed.proofs.Judging.{a-after, b-after, c-after, term-bad-a, term-bad-b, term-bad-c, term-got}
+use Rattle.packed.proofs.ReadCases.{a-after, b-after, c-after, term-bad-a, term-bad-b, term-bad-c, term-got}
 use Rattle.packed.proofs.Accepting.{a-accepted, show-wrong, show-found}
 use Rattle.packed.proofs.terms.read_term_slowly.Statement.{statement}
 use Rattle.packed.proofs.terms.read_term_slowly.Tie as tie
@@ -31,14 +31,28 @@ enum-known-rb-2 : tie.Need-enum-known-rb-2
 enum-known-rb-2 c = search needs
 
 -- The numbers that were read.
-got-a : (c : tie.After-known-told2) → Got (c .before .before .before .before .before .args .bytes .now) (c .before .before .before .before .before .args .at + 1) (read-a (c .before .before .before .before .before .args .tally) (c .before .before .before .before .before .args .at) (drop (c .before .before .before .before .before .args .at) (c .before .before .before .before .before .args .bytes .now))) (unfolded (c .before .ra2 .given .0 .0)) (c .before .ra2 .given .0 .1 .0)
-got-a c = let a = c .before .before .before .before .before .args in got-folded _ _ (a-after (a .bytes .now) (a .at) (a .tally)) (sym (c .before .before .before .read-a .ensures) ∙ c .before .ra2 .given .1)
+got-a : (c : tie.After-known-told2)
+    → let a = c .before .before .before .before .before .args in
+    let n = c .before .ra2 .given .0 in
+    Got (a .bytes .now) (a .at + 1) (read-a (a .tally) (a .at) (drop (a .at) (a .bytes .now))) (unfolded (n .0)) (n .1 .0)
+got-a c =
+    let a = c .before .before .before .before .before .args in
+    got-folded _ _ (a-after (a .bytes .now) (a .at) (a .tally)) (sym (c .before .before .before .read-a .ensures) ∙ c .before .ra2 .given .1)
 
-got-b : (c : tie.After-known-told4) → Got (c .before .before .before .before .before .before .before .before .before .args .bytes .now) (c .before .before .before .before .before .ra2 .given .0 .1 .0 + 1) (read-b (c .before .before .before .before .before .ra2 .given .0 .1 .0) (drop (c .before .before .before .before .before .ra2 .given .0 .1 .0) (c .before .before .before .before .before .before .before .before .before .args .bytes .now))) (c .before .rb2 .given .0 .0) (c .before .rb2 .given .0 .1 .0)
-got-b c = got-plain _ _ (b-after (c .before .before .before .before .before .before .before .before .before .args .bytes .now) (c .before .before .before .before .before .ra2 .given .0 .1 .0)) (sym (c .before .before .before .read-b .ensures) ∙ c .before .rb2 .given .1)
+got-b : (c : tie.After-known-told4)
+    → let a = c .before .before .before .before .before .before .before .before .before .args in
+    let at = c .before .before .before .before .before .ra2 .given .0 .1 .0 in
+    let n = c .before .rb2 .given .0 in
+    Got (a .bytes .now) (at + 1) (read-b at (drop at (a .bytes .now))) (n .0) (n .1 .0)
+got-b c =
+    let a = c .before .before .before .before .before .before .before .before .before .args in
+    let at = c .before .before .before .before .before .ra2 .given .0 .1 .0 in
+    got-plain _ _ (b-after (a .bytes .now) at) (sym (c .before .before .before .read-b .ensures) ∙ c .before .rb2 .given .1)
 
 read-c-requires : tie.Need-read-c-requires
-read-c-requires c κs = let p = c .before .before .before .before .before .before .before .before .before .pre in (p .0, a-accepted _ _ _ (got-a (c .before .before .before .before) .is) .good .small, p .2)
+read-c-requires c κs =
+    let b = c .before .before .before .before in
+    (b .before .before .before .before .before .pre, a-accepted _ _ _ (got-a b .is) .good .fits)
 
 enum-known-rc : tie.Need-enum-known-rc
 enum-known-rc c = search needs
@@ -47,20 +61,32 @@ enum-known-rc-2 : tie.Need-enum-known-rc-2
 enum-known-rc-2 c = search needs
 
 returns : tie.Need-returns
-returns c = show-wrong (term-bad-a _ _ _ _ _ (was-bad folded _ _ (sym (c .before .before .before .read-a .ensures) ∙ c .before .ra .given .1)))
+returns c =
+    let e = sym (c .before .before .before .read-a .ensures) ∙ c .before .ra .given .1 in
+    show-wrong (term-bad-a _ _ _ _ _ (was-bad folded _ _ e))
 
 returns-2 : tie.Need-returns-2
-returns-2 c = show-wrong (term-bad-b _ _ _ _ _ _ _ (got-a (c .before .before .before .before) .is) _ (was-bad plain _ _ (sym (c .before .before .before .read-b .ensures) ∙ c .before .rb .given .1)))
+returns-2 c =
+    let a = c .before .before .before .before in
+    let e = sym (c .before .before .before .read-b .ensures) ∙ c .before .rb .given .1 in
+    show-wrong (term-bad-b _ _ _ _ _ _ _ (got-a a .is) _ (was-bad plain _ _ e))
 
 returns-3 : tie.Need-returns-3
-returns-3 c = show-wrong (term-bad-c _ _ _ _ _ _ _ (got-a (c .before .before .before .before .before .before .before .before) .is) _ _ _ (got-b (c .before .before .before .before) .is) _ (was-bad folded _ _ (sym (c .before .before .before .read-c .ensures) ∙ c .before .rc .given .1)))
+returns-3 c =
+    let b = c .before .before .before .before in
+    let a = b .before .before .before .before in
+    let e = sym (c .before .before .before .read-c .ensures) ∙ c .before .rc .given .1 in
+    show-wrong (term-bad-c _ _ _ _ _ _ _ (got-a a .is) _ _ _ (got-b b .is) _ (was-bad folded _ _ e))
 
 returns-4 : tie.Need-returns-4
 returns-4 c =
-    let a = c .before .before .before .before .before .before .before .before .before .before .before .before .before .args in
-    let at-c = c .before .before .before .before .before .rb2 .given .0 .1 .0 in
-    let g = got-folded _ _ (c-after (a .bytes .now) (a .f) (a .tally) (unfolded (c .before .before .before .before .before .before .before .before .before .ra2 .given .0 .0)) (c .before .before .before .before .before .rb2 .given .0 .0) at-c) (sym (c .before .before .before .read-c .ensures) ∙ c .before .rc2 .given .1) in
-    show-found (term-got _ _ _ _ _ _ _ (got-a (c .before .before .before .before .before .before .before .before) .is) _ _ _ (got-b (c .before .before .before .before) .is) _ _ _ (g .is))
+    let b = c .before .before .before .before in
+    let a = b .before .before .before .before in
+    let s = a .before .before .before .before .before .args in
+    let n = b .before .rb2 .given .0 in
+    let l = c-after (s .bytes .now) (s .f) (s .tally) (unfolded (a .before .ra2 .given .0 .0)) (n .0) (n .1 .0) in
+    let g = got-folded _ _ l (sym (c .before .before .before .read-c .ensures) ∙ c .before .rc2 .given .1) in
+    show-found (term-got _ _ _ _ _ _ _ (got-a a .is) _ _ _ (got-b b .is) _ _ _ (g .is))
 
 pub read-term-slowly-spec : {M : Type 1} → statement M
 read-term-slowly-spec =

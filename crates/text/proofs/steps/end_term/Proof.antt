@@ -3,45 +3,56 @@ use mathlib.Core.Path.{_≡_, sym, ap, _∙_}
 use Prim.Native.Nat.{ℕ, _-_}
 use native.Mathlib.Omega.{arith}
 use borrow.Author.Needs.{needs}
-use Rattle.text.proofs.Judging.{small-of}
-use Rattle.text.proofs.Branches.{wrote-refused, wrote-full, wrote-next}
 use Rattle.limits.specs.Limits.{factor, added}
-use Rattle.text.specs.Judge.{tally, term-on-line, term-refusal, term-end}
+use Rattle.text.specs.Judge.{tally, term-on-line, term-line-refusal, term-end}
+use Rattle.text.proofs.LineLimits.{line-added, line-may-come, line-small}
+use Rattle.text.proofs.Branches.{wrote-refused, wrote-full, wrote-next}
 use Rattle.text.proofs.steps.end_term.Statement.{statement}
 use Rattle.text.proofs.steps.end_term.Tie as tie
 
-judged : (c : tie.After-judge-term) → let r = c .before .before .before .before .args .r in c .judge-term .result .refusal ≡ term-end r .refusal
+less-one-requires : tie.Need-less-one-requires
+less-one-requires c κs = search needs
+
+block-factor-requires : tie.Need-block-factor-requires
+block-factor-requires c κs = search needs
+
+-- The factor, the refusal, and that there is none.
+factor-is : (c : tie.After-block-factor) → c .block-factor .result ≡ factor (c .before .before .before .before .args .r .blocks - 1)
+factor-is c = c .block-factor .ensures .0 ∙ ap factor (c .before .less-one .ensures)
+
+judged : (c : tie.After-term-line-refusal)
+    → c .term-line-refusal .result ≡ term-end (c .before .before .before .before .before .args .r) .refusal
 judged c =
-    let r = c .before .before .before .before .args .r in
-    c .judge-term .ensures .0 ∙ ap (λ (f : ℕ). term-refusal f (tally r) (r .line .minusb) (term-on-line (r .line))) (c .before .factor-of .ensures .0)
+    let r = c .before .before .before .before .before .args .r in
+    c .term-line-refusal .ensures ∙
+    ap (λ (f : ℕ). term-line-refusal f (tally r) (r .line .minusb) (term-on-line (r .line))) (factor-is (c .before))
 
-good : (c : tie.Else1) → let r = c .before .before .before .before .before .before .args .r in term-end r .refusal ≡ 0
-good c = sym (judged (c .before .before)) ∙ (omega arith)
+good : (c : tie.Else1)
+    → let r = c .before .before .before .before .before .before .args .r in
+    term-line-refusal (c .before .before .block-factor .result) (tally r) (r .line .minusb) (term-on-line (r .line)) ≡ 0
+good c = sym (c .before .term-line-refusal .ensures) ∙ c .if1 .left
 
-more : (c : tie.Else1) → let r = c .before .before .before .before .before .before .args .r in c .before .before .judge-term .result .tally ≡ term-end r .tally
-more c =
-    let r = c .before .before .before .before .before .before .args .r in
-    c .before .before .judge-term .ensures .1 (omega arith) ∙ ap (λ (f : ℕ). added f (tally r) (term-on-line (r .line)))
-    (c .before .before .before .factor-of .ensures .0)
+unrefused : (c : tie.Else1) → term-end (c .before .before .before .before .before .before .args .r) .refusal ≡ 0
+unrefused c = sym (judged (c .before)) ∙ c .if1 .left
 
-factor-of-requires : tie.Need-factor-of-requires
-factor-of-requires c κs = search needs
-
-judge-term-requires : tie.Need-judge-term-requires
-judge-term-requires c κs = search needs
+term-line-refusal-requires : tie.Need-term-line-refusal-requires
+term-line-refusal-requires c κs = search needs
 
 stop-requires : tie.Need-stop-requires
 stop-requires c κs = search needs
 
 returns : tie.Need-returns
 returns c =
-    let a = c .before .before .before .before .before .before .before .args in
-    wrote-refused (a .r) _ _ (term-end (a .r)) _ (judged (c .before .before .before)) (λ e. omega (arith, e)) (c .stop .ensures)
+    let j = c .before .before in
+    let r = j .before .before .before .before .before .args .r in
+    wrote-refused r _ _ (term-end r) _ (judged j) (c .before .if1 .taken) (c .stop .ensures)
 
 put-term-requires : tie.Need-put-term-requires
 put-term-requires c κs =
-    let a = c .before .before .before .before .before .before .before .before .args in
-    let s = small-of (factor (a .r .blocks - 1)) (tally (a .r)) (a .r .line) (good (c .before .before)) in omega (arith, s .a, s .c)
+    let e = c .before in
+    let r = e .before .before .before .before .before .before .args .r in
+    let s = line-small (e .before .before .block-factor .result) (tally r) (r .line) (good e) in
+    omega (arith, s .0, s .1)
 
 enum-told : tie.Need-enum-told
 enum-told c = search needs
@@ -52,8 +63,14 @@ stop-requires-2 c κs = search needs
 enum-known-put : tie.Need-enum-known-put
 enum-known-put c = search needs
 
-less-one-requires : tie.Need-less-one-requires
-less-one-requires c κs = search needs
+add-term-requires : tie.Need-add-term-requires
+add-term-requires c κs =
+    let e = c .before .before .before .before .before .before .before in
+    let r = e .before .before .before .before .before .before .args .r in
+    (e .before .before .block-factor .ensures .1, line-may-come (e .before .before .block-factor .result) (tally r) (r .line) (good e))
+
+less-one-requires-2 : tie.Need-less-one-requires-2
+less-one-requires-2 c κs = search needs
 
 advance-requires : tie.Need-advance-requires
 advance-requires c κs = search needs
@@ -63,9 +80,10 @@ same-length c = search needs
 
 returns-2 : tie.Need-returns-2
 returns-2 c =
-    let a = c .before .before .before .before .before .before .before .before .before .before .before .before .before .before .args in
-    wrote-full (a .r) _ _ (term-end (a .r)) (good (c .before .before .before .before .before .before .before .before)) _ _ _ _
-    (c .before .before .before .before .before .put-term .ensures .0) (c .before .before .before .before .before .put-term .ensures .1)
+    let p = c .before .before .before .before .before in
+    let e = p .before .before in
+    let r = e .before .before .before .before .before .before .args .r in
+    wrote-full r _ _ (term-end r) (unrefused e) _ _ _ _ (p .put-term .ensures .0) (p .put-term .ensures .1)
     (c .before .enum-told .given .1) (c .stop2 .ensures)
 
 same-length-2 : tie.Need-same-length-2
@@ -73,26 +91,30 @@ same-length-2 c = search needs
 
 returns-3 : tie.Need-returns-3
 returns-3 c =
-    let a = c .before .before .before .before .before .before .before .before .before .before .before .before .before .before .before .before .args in
-    wrote-next (a .r) _ _ (term-end (a .r)) (good (c .before .before .before .before .before .before .before .before .before .before)) _ _ _ _
-    (c .before .before .before .before .before .before .before .put-term .ensures .0)
-    (c .before .before .before .before .before .before .before .put-term .ensures .1) (c .before .before .before .put .given .1)
-    (c .advance .ensures ∙
-    (rw (c .before .less-one .ensures, more (c .before .before .before .before .before .before .before .before .before .before))))
+    let p = c .before .before .before .before .before .before .before .before in
+    let e = p .before .before in
+    let f = e .before .before in
+    let r = f .before .before .before .before .args .r in
+    let t : c .before .before .add-term .result ≡ term-end r .tally =
+    c .before .before .add-term .ensures ∙ (line-added _ (tally r) (r .line) ∙ ap (λ (f : ℕ). added f (tally r) (term-on-line (r .line))) (factor-is f)) in
+    wrote-next r _ _ (term-end r) (unrefused e) _ _ _ _ (p .put-term .ensures .0) (p .put-term .ensures .1)
+    (c .before .before .before .before .put .given .1) (c .advance .ensures ∙ rw (c .before .less-one2 .ensures, t))
 
 pub end-term-spec : {M : Type 1} → statement M
 end-term-spec =
     tie.close
     (tie.spec
-    factor-of-requires
-    judge-term-requires
+    less-one-requires
+    block-factor-requires
+    term-line-refusal-requires
     stop-requires
     returns
     put-term-requires
     enum-told
     stop-requires-2
     enum-known-put
-    less-one-requires
+    add-term-requires
+    less-one-requires-2
     advance-requires
     same-length
     returns-2
