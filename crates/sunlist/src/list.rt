@@ -6,7 +6,7 @@ ghost use Rattle.packed.specs.Series.{parse, accepted};
 ghost use Rattle.packed.specs.machine.Tables.{table-blocks};
 ghost use Rattle.series.specs.machine.Tables.{Table};
 ghost use Rattle.sunlist.specs.SunList.{decision-at, of-minutes, of-series as series-outcome, answered, written};
-ghost use Rattle.sunlist.specs.machine.Working.{Window, Filled};
+ghost use Rattle.sunlist.specs.machine.Window.{Window, Flagged};
 use crate::Decision;
 use crate::ListAnswer;
 use crate::one_minute::decide;
@@ -59,7 +59,7 @@ fn fill(
     eends: &[u64; 18],
 ) -> usize
     requires { ⌜ Window t0 (length (now window)) k × Table (now pa) (now pb) (now pc) (now pends) × Table (now ea) (now eb) (now ec) (now eends) ⌝ }
-    ensures { λ r. ⌜ Filled (decision-at (table-blocks (now (pa .entry)) (now (pb .entry)) (now (pc .entry)) (now (pends .entry))) (table-blocks (now (ea .entry)) (now (eb .entry)) (now (ec .entry)) (now (eends .entry))) t0 k) (length (now (window .entry))) r (now (window .exit)) ⌝ }
+    ensures { λ r. ⌜ Flagged (decision-at (table-blocks (now (pa .entry)) (now (pb .entry)) (now (pc .entry)) (now (pends .entry))) (table-blocks (now (ea .entry)) (now (eb .entry)) (now (ec .entry)) (now (eends .entry))) t0 k) (length (now (window .entry))) r (now (window .exit)) ⌝ }
 {
     let mut j = 0;
     while j < window.len() {

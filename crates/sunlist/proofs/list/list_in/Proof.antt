@@ -3,7 +3,7 @@ use mathlib.Core.Path.{ap, _∙_, subst}
 use Prim.Native.Nat.{ℕ, _≤_}
 use lib.ListN.{length}
 use Rattle.sunlist.specs.SunList.{decision-at, answered, written}
-use Rattle.sunlist.specs.machine.Working.{Window}
+use Rattle.sunlist.specs.machine.Window.{Window}
 use Rattle.sunlist.proofs.Listing.{part-length, part-bad, part-size, part-numbers}
 use Rattle.packed.specs.machine.Tables.{table-blocks}
 use borrow.Author.Needs.{needs}
