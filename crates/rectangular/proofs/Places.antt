@@ -169,15 +169,15 @@ within-length v =
     let d = natAbs (v .z) in
     rw (squared-is v) (record {
       x-in = component a b d;
-      y-in = subst (λ (n : ℕ). b ≤ root n) (turned a b d) (component b a d);
-      z-in = subst (λ (n : ℕ). d ≤ root n) (swapped a b d) (component d a b);
+      y-in = subst (λ (n : ℕ). b ≤ root n) (y-first a b d) (component b a d);
+      z-in = subst (λ (n : ℕ). d ≤ root n) (z-first a b d) (component d a b);
     })
   where
-    turned : (a b d : ℕ) → b * b + a * a + d * d ≡ a * a + b * b + d * d
-    turned a b d = omega arith
+    y-first : (a b d : ℕ) → b * b + a * a + d * d ≡ a * a + b * b + d * d
+    y-first a b d = omega arith
 
-    swapped : (a b d : ℕ) → d * d + a * a + b * b ≡ a * a + b * b + d * d
-    swapped a b d = omega arith
+    z-first : (a b d : ℕ) → d * d + a * a + b * b ≡ a * a + b * b + d * d
+    z-first a b d = omega arith
 
 -- what a component of a unit vector asks, and is
 pub unit-asks : (x : ℤ) (l : ℕ) → 0 < l → l < 2 ^ 46 → natAbs x ≤ l → (0 < l) × (l ≤ 2 ^ 47) × (natAbs (Cell x) ≤ 2 ^ 47)
