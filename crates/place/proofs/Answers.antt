@@ -80,7 +80,7 @@ pub record Good (t : Instant) (g : Geocentric) : Type 0 where
   pub in-time : natAbs (t .ms) ≤ t-limit
   pub clear : Clear (g .vector) (g .distance)
 
-pub seen-good : (planet earth : List ℕ) (t : Instant) (g : Geocentric) → sighting planet earth t ≡ Seen g → Good t g
+seen-good : (planet earth : List ℕ) (t : Instant) (g : Geocentric) → sighting planet earth t ≡ Seen g → Good t g
 unfolding sighting
 seen-good planet earth t g e = either (in-limit (t .ms)) refl e
   where
@@ -93,7 +93,8 @@ seen-good planet earth t g e = either (in-limit (t .ms)) refl e
 
 pub apparent-in : (t : Instant) (v : Vector) (a : Apparent) → Components reach v → a ≡ apparent t v → Components equator-reach (a .vector)
 unfolding apparent
-apparent-in t v a c e = subst (λ (x : Apparent). Components equator-reach (x .vector)) (sym e) (at-equator (obliquity-angle (t .ms)) (nutation-angle (t .ms)) v c)
+apparent-in t v a c e =
+    subst (λ (x : Apparent). Components equator-reach (x .vector)) (sym e) (at-equator (obliquity-angle (t .ms)) (nutation-angle (t .ms)) v c)
 
 -- ---- the answers
 
@@ -102,7 +103,8 @@ module _ (planet earth : List ℕ) (t : Instant) (s : Sighting) (e : s ≡ sight
   unfolding place-answer of-sighting
   no-place r f = let h : sighting planet earth t ≡ NoSight r = sym e ∙ f in rw h
 
-  pub place-is : (g : Geocentric) (a : Apparent) (p : Equatorial) → s ≡ Seen g → a ≡ apparent t (g .vector) → p ≡ equatorial (a .vector) (g .distance) → Place p ≡ place-answer planet earth t
+  pub place-is : (g : Geocentric) (a : Apparent) (p : Equatorial) → s ≡ Seen g → a ≡ apparent t (g .vector) → p ≡ equatorial (a .vector) (g .distance)
+      → Place p ≡ place-answer planet earth t
   unfolding place-answer of-sighting
   place-is g a p f k l = let h : sighting planet earth t ≡ Seen g = sym e ∙ f in rw (l, k, h)
 

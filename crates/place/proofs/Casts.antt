@@ -38,7 +38,8 @@ unfolding astronomical-units
 astronomical-units-are k h = rw (cell k (omega arith), divisor-of-distances)
 
 -- The three figures, from the bits of the numbers.
-pub figures-are : (p : Equatorial) → Small p → (a b d : Float) → a ≡ degrees (Cell (p .«right_ascension»)) → b ≡ degrees (Cell (p .declination)) → d ≡ astronomical-units (Cell (p .distance))
+pub figures-are : (p : Equatorial) → Small p → (a b d : Float) → a ≡ degrees (Cell (p .«right_ascension»)) → b ≡ degrees (Cell (p .declination))
+    → d ≡ astronomical-units (Cell (p .distance))
     → _≡_ {A = MountPlace} (record { «right_ascension» = a; declination = b; distance = d }) (mount-place p)
 unfolding mount-place
 figures-are p h a b d ea eb ed =

@@ -37,7 +37,8 @@ unfolding turned-in
 turned-in-le zero x y = let h = in-quarter-le x y in omega arith
 turned-in-le (suc n) x y = either (first-quarter x y) (in-quarter-le x y) (turned-in-le n y (negℤ x))
   where
-    either : (b : Bool) → in-quarter x y ≤ quarter-steps → turned-in n y (negℤ x) ≤ (n + 1) * quarter-steps → cond b (in-quarter x y) (quarter-steps + turned-in n y (negℤ x)) ≤ (suc n + 1) * quarter-steps
+    either : (b : Bool) → in-quarter x y ≤ quarter-steps → turned-in n y (negℤ x) ≤ (n + 1) * quarter-steps
+        → cond b (in-quarter x y) (quarter-steps + turned-in n y (negℤ x)) ≤ (suc n + 1) * quarter-steps
     either true h k = omega arith
     either false h k = omega arith
 
@@ -51,7 +52,9 @@ direction-le x y = either (eqb (natAbs x + natAbs y) 0) (turned-in-le 3 x y)
 
 pub latitude-le : (x y z : ℤ) → natAbs (latitude x y z) ≤ turn-steps
 unfolding latitude
-latitude-le x y z = rw (natAbs-sgn (negative z) (direction (pos (root (natAbs (x *ℤ x +ℤ y *ℤ y)))) (pos (natAbs z)))) (direction-le (pos (root (natAbs (x *ℤ x +ℤ y *ℤ y)))) (pos (natAbs z)))
+latitude-le x y z =
+    rw (natAbs-sgn (negative z) (direction (pos (root (natAbs (x *ℤ x +ℤ y *ℤ y)))) (pos (natAbs z))))
+    (direction-le (pos (root (natAbs (x *ℤ x +ℤ y *ℤ y)))) (pos (natAbs z)))
 
 -- ---- what the calls of direction and latitude ask
 
@@ -67,7 +70,8 @@ flat-size x y h g =
     let q = mul-le-mul g g in
     omega arith
 
-pub latitudes-ask : (x y z : ℤ) → natAbs x ≤ equator-reach → natAbs y ≤ equator-reach → natAbs z ≤ equator-reach → (natAbs (Cell x *ℤ Cell x +ℤ Cell y *ℤ Cell y) < 2 ^ 92) × (natAbs (Cell z) < 2 ^ 47)
+pub latitudes-ask : (x y z : ℤ) → natAbs x ≤ equator-reach → natAbs y ≤ equator-reach → natAbs z ≤ equator-reach
+    → (natAbs (Cell x *ℤ Cell x +ℤ Cell y *ℤ Cell y) < 2 ^ 92) × (natAbs (Cell z) < 2 ^ 47)
 latitudes-ask x y z h g k = (rw (cell x (omega arith), cell y (omega arith)) (flat-size x y h g), rw (cell z (omega arith)) (omega arith))
 
 -- the answers, from the bits of the components
@@ -93,7 +97,8 @@ module _ (v : Vector) (h : Components equator-reach v) where
       let l = latitude-le (v .x) (v .y) (v .z) in
       cell k (subst (λ (s : ℤ). natAbs s < 2 ^ 63) (sym p) (omega arith)) ∙ p
 
-  pub equatorial-is : (d : ℕ) (a b u : ℤ) → d < 2 ^ 46 → a ≡ pos (direction (Cell (v .x)) (Cell (v .y))) → b ≡ latitude (Cell (v .x)) (Cell (v .y)) (Cell (v .z)) → u ≡ pos d
+  pub equatorial-is : (d : ℕ) (a b u : ℤ) → d < 2 ^ 46 → a ≡ pos (direction (Cell (v .x)) (Cell (v .y)))
+      → b ≡ latitude (Cell (v .x)) (Cell (v .y)) (Cell (v .z)) → u ≡ pos d
       → _≡_ {A = Equatorial} (record { «right_ascension» = Cell a; declination = Cell b; distance = Cell u }) (equatorial v d)
   unfolding equatorial
   equatorial-is d a b u l e f g = rw (direction-told a e, latitude-told b f, cell u (subst (λ (s : ℤ). natAbs s < 2 ^ 63) (sym g) (omega arith)) ∙ g)

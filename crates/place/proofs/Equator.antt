@@ -37,16 +37,22 @@ product-in x f h g = le-trans (scaled-size x f g) h
 
 product-is : (x f g w : ℤ) → natAbs x ≤ 2 ^ 61 → natAbs g ≤ U → f ≡ g → w ≡ rounded (Cell x *ℤ Cell f) U → Cell w ≡ rounded (x *ℤ g) U
 product-is x f g w h l e p =
-    let q : w ≡ rounded (x *ℤ g) U = p ∙ ap₂ (λ (s t : ℤ). rounded (s *ℤ t) U) (cell x (omega arith)) (cell f (subst (λ (t : ℤ). natAbs t < 2 ^ 63) (sym e) (omega arith)) ∙ e) in
+    let q : w ≡ rounded (x *ℤ g) U = p ∙ ap₂ (λ (s t : ℤ). rounded (s *ℤ t) U) (cell x (omega arith))
+    (cell f (subst (λ (t : ℤ). natAbs t < 2 ^ 63) (sym e) (omega arith)) ∙ e) in
     cell w (subst (λ (t : ℤ). natAbs t < 2 ^ 63) (sym q) (let k = product-in x g h l in omega arith)) ∙ q
 
 module _ (v : Vector) (h : Components (2 ^ 61) v) (e : ℕ) (c s : ℤ) (pc : c ≡ cosine (pos e)) (ps : s ≡ sine (pos e)) (yc ys zc zs : ℤ) where
-  module _ (eyc : yc ≡ rounded (Cell (v .y) *ℤ Cell c) U) (eys : ys ≡ rounded (Cell (v .y) *ℤ Cell s) U) (ezc : zc ≡ rounded (Cell (v .z) *ℤ Cell c) U) (ezs : zs ≡ rounded (Cell (v .z) *ℤ Cell s) U) where
+  module _ (eyc : yc ≡ rounded (Cell (v .y) *ℤ Cell c) U) (eys : ys ≡ rounded (Cell (v .y) *ℤ Cell s) U) (ezc : zc ≡ rounded (Cell (v .z) *ℤ Cell c) U)
+      (ezs : zs ≡ rounded (Cell (v .z) *ℤ Cell s) U) where
     y-is : Cell yc -ℤ Cell zs ≡ rounded (v .y *ℤ cosine (pos e)) U -ℤ rounded (v .z *ℤ sine (pos e)) U
-    y-is = ap₂ _-ℤ_ (product-is (v .y) c (cosine (pos e)) yc (h .y-in) (cosine-size (pos e)) pc eyc) (product-is (v .z) s (sine (pos e)) zs (h .z-in) (sine-size (pos e)) ps ezs)
+    y-is =
+        ap₂ _-ℤ_ (product-is (v .y) c (cosine (pos e)) yc (h .y-in) (cosine-size (pos e)) pc eyc)
+        (product-is (v .z) s (sine (pos e)) zs (h .z-in) (sine-size (pos e)) ps ezs)
 
     z-is : Cell ys +ℤ Cell zc ≡ rounded (v .y *ℤ sine (pos e)) U +ℤ rounded (v .z *ℤ cosine (pos e)) U
-    z-is = ap₂ _+ℤ_ (product-is (v .y) s (sine (pos e)) ys (h .y-in) (sine-size (pos e)) ps eys) (product-is (v .z) c (cosine (pos e)) zc (h .z-in) (cosine-size (pos e)) pc ezc)
+    z-is =
+        ap₂ _+ℤ_ (product-is (v .y) s (sine (pos e)) ys (h .y-in) (sine-size (pos e)) ps eys)
+        (product-is (v .z) c (cosine (pos e)) zc (h .z-in) (cosine-size (pos e)) pc ezc)
 
     y-in-range : natAbs (rounded (v .y *ℤ cosine (pos e)) U -ℤ rounded (v .z *ℤ sine (pos e)) U) < 2 ^ 63
     y-in-range =
@@ -68,7 +74,8 @@ module _ (v : Vector) (h : Components (2 ^ 61) v) (e : ℕ) (c s : ℤ) (pc : c 
     pub z-asks : SFits w64 (Cell ys +ℤ Cell zc)
     z-asks = subst (SFits w64) (sym z-is) (fits _ z-in-range)
 
-    pub to-equator-is : (y z : ℤ) → y ≡ Cell yc -ℤ Cell zs → z ≡ Cell ys +ℤ Cell zc → _≡_ {A = Vector} (record { x = Cell (v .x); y = Cell y; z = Cell z }) (to-equator (pos e) v)
+    pub to-equator-is : (y z : ℤ) → y ≡ Cell yc -ℤ Cell zs → z ≡ Cell ys +ℤ Cell zc
+        → _≡_ {A = Vector} (record { x = Cell (v .x); y = Cell y; z = Cell z }) (to-equator (pos e) v)
     unfolding to-equator
     to-equator-is y z ey ez =
         let p = ey ∙ y-is in

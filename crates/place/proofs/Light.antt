@@ -1,4 +1,4 @@
--- The light time and the earlier instant, as the code works them; document 01's figure. Assumes nothing.
+-- The light time and the earlier instant, as the code works them; a marked figure. Assumes nothing.
 use mathlib.Core.Path.{_≡_, refl, sym, ap₂, _∙_, subst}
 use Prim.Native.Nat.{ℕ, _*_, _^_, _≤_, _<_}
 use native.Mathlib.Omega.{arith}
@@ -23,7 +23,9 @@ unfolding light-time
 light-in d h = rounded-within (pos light-ns *ℤ pos d) (ns-per-ms * parts) (2 ^ 30) (omega arith) (rw (natAbs-* (pos light-ns) (pos d)) (omega arith))
 
 pub light-told : (d : ℕ) (z : ℤ) → d < 2 ^ 46 → z ≡ rounded (pos light-ns *ℤ pos d) (10000000 * 10000000000) → Cell z ≡ light-time d
-light-told d z h e = let p : z ≡ light-time d = e ∙ light-is d in cell z (subst (λ (w : ℤ). natAbs w < 2 ^ 63) (sym p) (let k = light-in d h in omega arith)) ∙ p
+light-told d z h e =
+    let p : z ≡ light-time d = e ∙ light-is d in
+    cell z (subst (λ (w : ℤ). natAbs w < 2 ^ 63) (sym p) (let k = light-in d h in omega arith)) ∙ p
 
 module _ (t : Instant) (d : ℕ) (h : natAbs (t .ms) ≤ t-limit) (l : d < 2 ^ 46) (z : ℤ) (e : z ≡ light-time d) where
   light-cell : Cell z ≡ light-time d

@@ -30,17 +30,20 @@ use Rattle.place.proofs.Equator.{equator-size}
 
 -- ---- the length
 
-pub length-less : (v : Vector) → Components reach v → length v < length-reach
+length-less : (v : Vector) → Components reach v → length v < length-reach
 unfolding length
 length-less v c =
     let s = root-spec (natAbs (squared v)) .low in
     let h = squared-size reach v c in
-    below (root (natAbs (squared v))) (by-contra (root (natAbs (squared v))) (length-reach - 1) (λ (g : length-reach - 1 < root (natAbs (squared v))). let m : length-reach * length-reach ≤ root (natAbs (squared v)) * root (natAbs (squared v)) = mul-le-mul g g in omega arith))
+    below (root (natAbs (squared v)))
+    (by-contra (root (natAbs (squared v))) (length-reach - 1)
+    (λ (g : length-reach - 1 < root (natAbs (squared v))). let m : length-reach * length-reach ≤ root (natAbs (squared v)) * root (natAbs (squared v)) =
+    mul-le-mul g g in omega arith))
   where
     below : (n : ℕ) → n ≤ length-reach - 1 → n < length-reach
     below n h = omega arith
 
-pub rebuilt-size : (n : ℤ) (v : Vector) → Components reach v → Components length-reach (rebuilt n v)
+rebuilt-size : (n : ℤ) (v : Vector) → Components reach v → Components length-reach (rebuilt n v)
 unfolding rebuilt
 rebuilt-size n v c = let l = length-less v c in smaller (length v) length-reach _ (omega arith) (rectangular-size (pos (length v)) _ _)
 
@@ -116,23 +119,29 @@ module _ (v : Vector) (n : ℤ) (c : Components reach v) (cn : Cell n ≡ n) (k 
 
 -- ---- turned to the equator by an angle less its whole turns
 
-pub to-equator-mod : (e : ℤ) (v : Vector) → to-equator (pos (modulo e turn)) v ≡ to-equator e v
+to-equator-mod : (e : ℤ) (v : Vector) → to-equator (pos (modulo e turn)) v ≡ to-equator e v
 unfolding to-equator
 to-equator-mod e v = rw (cosine-mod e, sine-mod e)
 
 pub to-equator-asks : (n e : ℤ) (v w : Vector) (x : ℕ) → Components reach v → w ≡ rebuilt n v → x ≡ modulo e turn → Components (2 ^ 61) w × (x < 2 ^ 63)
-to-equator-asks n e v w x c p q = (subst (Components (2 ^ 61)) (sym p) (smaller length-reach (2 ^ 61) _ (omega arith) (rebuilt-size n v c)), residue-small x e q)
+to-equator-asks n e v w x c p q =
+    (subst (Components (2 ^ 61)) (sym p) (smaller length-reach (2 ^ 61) _ (omega arith) (rebuilt-size n v c)), residue-small x e q)
 
-pub apparent-vector-is : (n e : ℤ) (v w r : Vector) (x : ℕ) → Cell n ≡ n → w ≡ rebuilt (Cell n) v → Cell e ≡ e → x ≡ modulo (Cell e) turn → r ≡ to-equator (pos x) w → r ≡ to-equator e (rebuilt n v)
-apparent-vector-is n e v w r x cn p f q g = g ∙ ap₂ (λ (m : ℕ) (u : Vector). to-equator (pos m) u) (q ∙ ap (λ (z : ℤ). modulo z turn) f) (p ∙ ap (λ (z : ℤ). rebuilt z v) cn) ∙ to-equator-mod e (rebuilt n v)
+pub apparent-vector-is : (n e : ℤ) (v w r : Vector) (x : ℕ) → Cell n ≡ n → w ≡ rebuilt (Cell n) v → Cell e ≡ e → x ≡ modulo (Cell e) turn
+    → r ≡ to-equator (pos x) w → r ≡ to-equator e (rebuilt n v)
+apparent-vector-is n e v w r x cn p f q g =
+    g ∙ ap₂ (λ (m : ℕ) (u : Vector). to-equator (pos m) u) (q ∙ ap (λ (z : ℤ). modulo z turn) f) (p ∙ ap (λ (z : ℤ). rebuilt z v) cn)
+    ∙ to-equator-mod e (rebuilt n v)
 
 -- ---- with the angles of an instant
 
-module _ (t : Instant) (v w : Vector) (n e : ℤ) (cn : Cell n ≡ n) (ce : Cell e ≡ e) (en : n ≡ nutation-angle (Cell (t .ms))) (ee : e ≡ obliquity-angle (Cell (t .ms))) (h : natAbs (t .ms) ≤ t-limit) where
+module _ (t : Instant) (v w : Vector) (n e : ℤ) (cn : Cell n ≡ n) (ce : Cell e ≡ e) (en : n ≡ nutation-angle (Cell (t .ms)))
+    (ee : e ≡ obliquity-angle (Cell (t .ms))) (h : natAbs (t .ms) ≤ t-limit) where
   at-t : Cell (t .ms) ≡ t .ms
   at-t = cell (t .ms) (omega arith)
 
-  pub apparent-is : w ≡ to-equator (Cell e) (rebuilt (Cell n) v) → _≡_ {A = Apparent} (record { vector = w; nutation = Cell n; obliquity = Cell e }) (apparent t v)
+  pub apparent-is : w ≡ to-equator (Cell e) (rebuilt (Cell n) v)
+      → _≡_ {A = Apparent} (record { vector = w; nutation = Cell n; obliquity = Cell e }) (apparent t v)
   unfolding apparent
   apparent-is p =
       let a : Cell n ≡ nutation-angle (t .ms) = cn ∙ en ∙ ap nutation-angle at-t in

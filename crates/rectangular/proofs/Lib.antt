@@ -1,4 +1,5 @@
--- Laws of the vectors: sizes of components, lengths, usable figures.
+-- Laws of places and vectors.
+-- `Places`: components and lengths; `Usable`: the checks of R and D; `Radii`: places whose R are usable; `Sights`: a planet seen from Earth.
 pub mod Places
 pub mod Usable
 pub mod Radii

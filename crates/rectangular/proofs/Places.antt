@@ -45,7 +45,8 @@ pub smaller : (k m : ℕ) (v : Vector) → k ≤ m → Components k v → Compon
 smaller k m v h c = record { x-in = le-trans (c .x-in) h; y-in = le-trans (c .y-in) h; z-in = le-trans (c .z-in) h }
 
 -- ---- from_angles
-module _ (r : ℤ) (b l : ℕ) (hr : natAbs r < 2 ^ 63) (cb sb cl sl flat x y z : ℤ) (e₁ : cb ≡ cosine (pos b)) (e₂ : sb ≡ sine (pos b)) (e₃ : cl ≡ cosine (pos l)) (e₄ : sl ≡ sine (pos l)) where
+module _ (r : ℤ) (b l : ℕ) (hr : natAbs r < 2 ^ 63) (cb sb cl sl flat x y z : ℤ) (e₁ : cb ≡ cosine (pos b)) (e₂ : sb ≡ sine (pos b))
+    (e₃ : cl ≡ cosine (pos l)) (e₄ : sl ≡ sine (pos l)) where
   cb-in : natAbs cb ≤ U
   cb-in = subst (λ (t : ℤ). natAbs t ≤ U) (sym e₁) (cosine-size (pos b))
 
@@ -75,8 +76,10 @@ module _ (r : ℤ) (b l : ℕ) (hr : natAbs r < 2 ^ 63) (cb sb cl sl flat x y z 
         → _≡_ {A = Vector} (record { x = Cell x; y = Cell y; z = Cell z }) (rectangular r (pos b) (pos l))
     unfolding rectangular
     from-angles-is ex ey ez =
-        let p : Cell x ≡ rounded (rounded (r *ℤ cosine (pos b)) U *ℤ cosine (pos l)) U = product x cl cl-in ex ∙ ap (λ (t : ℤ). rounded (rounded (r *ℤ cosine (pos b)) U *ℤ t) U) e₃ in
-        let q : Cell y ≡ rounded (rounded (r *ℤ cosine (pos b)) U *ℤ sine (pos l)) U = product y sl sl-in ey ∙ ap (λ (t : ℤ). rounded (rounded (r *ℤ cosine (pos b)) U *ℤ t) U) e₄ in
+        let p : Cell x ≡ rounded (rounded (r *ℤ cosine (pos b)) U *ℤ cosine (pos l)) U = product x cl cl-in ex
+        ∙ ap (λ (t : ℤ). rounded (rounded (r *ℤ cosine (pos b)) U *ℤ t) U) e₃ in
+        let q : Cell y ≡ rounded (rounded (r *ℤ cosine (pos b)) U *ℤ sine (pos l)) U = product y sl sl-in ey
+        ∙ ap (λ (t : ℤ). rounded (rounded (r *ℤ cosine (pos b)) U *ℤ t) U) e₄ in
         let w : z ≡ rounded (r *ℤ sine (pos b)) U = ez ∙ ap₂ (λ (s t : ℤ). rounded (s *ℤ t) U) (cell r hr) (cell sb (let h = sb-in in omega arith) ∙ e₂) in
         let g : natAbs z < 2 ^ 63 = let h = subst (λ (t : ℤ). natAbs t ≤ natAbs r) (sym w) (scaled-size r (sine (pos b)) (sine-size (pos b))) in omega arith in
         rw (p, q, cell z g ∙ w)
@@ -122,7 +125,11 @@ minus-is y z h e = difference-is (pos 0) y z (omega arith) h e ∙ ring! (y ∷ 
 -- the sum of squares, from the bits
 pub squared-cells : (v : Vector) → Components (2 ^ 45) v → Cell (v .x) *ℤ Cell (v .x) +ℤ Cell (v .y) *ℤ Cell (v .y) +ℤ Cell (v .z) *ℤ Cell (v .z) ≡ squared v
 unfolding squared
-squared-cells v c = let a = c .x-in in let b = c .y-in in let d = c .z-in in rw (cell (v .x) (omega arith), cell (v .y) (omega arith), cell (v .z) (omega arith))
+squared-cells v c =
+    let a = c .x-in in
+    let b = c .y-in in
+    let d = c .z-in in
+    rw (cell (v .x) (omega arith), cell (v .y) (omega arith), cell (v .z) (omega arith))
 
 pub squared-in : (v : Vector) → Components (2 ^ 45) v → natAbs (squared v) < 2 ^ 92
 squared-in v c = let h = squared-size (2 ^ 45) v c in omega arith
@@ -132,7 +139,10 @@ unfolding length
 length-in v c =
     let s = root-spec (natAbs (squared v)) .low in
     let h = squared-in v c in
-    below (root (natAbs (squared v))) (by-contra (root (natAbs (squared v))) (2 ^ 46 - 1) (λ (g : 2 ^ 46 - 1 < root (natAbs (squared v))). let m : 2 ^ 46 * 2 ^ 46 ≤ root (natAbs (squared v)) * root (natAbs (squared v)) = mul-le-mul g g in omega arith))
+    below (root (natAbs (squared v)))
+    (by-contra (root (natAbs (squared v))) (2 ^ 46 - 1)
+    (λ (g : 2 ^ 46 - 1 < root (natAbs (squared v))). let m : 2 ^ 46 * 2 ^ 46 ≤ root (natAbs (squared v)) * root (natAbs (squared v)) = mul-le-mul g g in
+    omega arith))
   where
     below : (n : ℕ) → n ≤ 2 ^ 46 - 1 → n < 2 ^ 46
     below n h = omega arith
@@ -159,18 +169,19 @@ within-length v =
     let d = natAbs (v .z) in
     rw (squared-is v) (record {
       x-in = component a b d;
-      y-in = subst (λ (n : ℕ). b ≤ root n) (turned a b d) (component b a d);
-      z-in = subst (λ (n : ℕ). d ≤ root n) (swapped a b d) (component d a b);
+      y-in = subst (λ (n : ℕ). b ≤ root n) (y-first a b d) (component b a d);
+      z-in = subst (λ (n : ℕ). d ≤ root n) (z-first a b d) (component d a b);
     })
   where
-    turned : (a b d : ℕ) → b * b + a * a + d * d ≡ a * a + b * b + d * d
-    turned a b d = omega arith
+    y-first : (a b d : ℕ) → b * b + a * a + d * d ≡ a * a + b * b + d * d
+    y-first a b d = omega arith
 
-    swapped : (a b d : ℕ) → d * d + a * a + b * b ≡ a * a + b * b + d * d
-    swapped a b d = omega arith
+    z-first : (a b d : ℕ) → d * d + a * a + b * b ≡ a * a + b * b + d * d
+    z-first a b d = omega arith
 
 -- what a component of a unit vector asks, and is
-pub unit-asks : (x : ℤ) (l : ℕ) → 0 < l → l < 2 ^ 46 → natAbs x ≤ l → (0 < l) × (l ≤ 2 ^ 47) × (natAbs (Cell x) ≤ 2 ^ 47) × (U * natAbs (Cell x) < l * (2 ^ 63 - 1))
+pub unit-asks : (x : ℤ) (l : ℕ) → 0 < l → l < 2 ^ 46 → natAbs x ≤ l → (0 < l) × (l ≤ 2 ^ 47) × (natAbs (Cell x) ≤ 2 ^ 47)
+    × (U * natAbs (Cell x) < l * (2 ^ 63 - 1))
 unit-asks x l h k m = (h, (omega arith), held-le x (2 ^ 47) (omega arith) (omega arith), rw (cell x (omega arith)) (omega arith))
 
 pub unit-part : (x z : ℤ) (l : ℕ) → 0 < l → l < 2 ^ 46 → natAbs x ≤ l → z ≡ rounded (pos U *ℤ Cell x) l → Cell z ≡ rounded (pos U *ℤ x) l
@@ -181,10 +192,12 @@ unit-part x z l h k m e =
 
 -- ---- place, from the bits of the coordinates
 pub place-is : (c : Coordinates) (b l : ℕ) (v : Vector) → Cell (c .latitude) ≡ c .latitude → Cell (c .longitude) ≡ c .longitude → natAbs (c .radius) < 2 ^ 63
-    → b ≡ modulo (pos angle-per-part *ℤ Cell (c .latitude)) turn → l ≡ modulo (pos angle-per-part *ℤ Cell (c .longitude)) turn → v ≡ rectangular (Cell (c .radius)) (pos b) (pos l) → v ≡ place c
+    → b ≡ modulo (pos angle-per-part *ℤ Cell (c .latitude)) turn → l ≡ modulo (pos angle-per-part *ℤ Cell (c .longitude)) turn
+    → v ≡ rectangular (Cell (c .radius)) (pos b) (pos l) → v ≡ place c
 unfolding place
 place-is c b l v e f h p q r =
-    r ∙ ap₃ (λ (x : ℤ) (m n : ℕ). rectangular x (pos m) (pos n)) (cell (c .radius) h) (p ∙ ap (λ (x : ℤ). modulo (pos angle-per-part *ℤ x) turn) e) (q ∙ ap (λ (x : ℤ). modulo (pos angle-per-part *ℤ x) turn) f)
+    r ∙ ap₃ (λ (x : ℤ) (m n : ℕ). rectangular x (pos m) (pos n)) (cell (c .radius) h) (p ∙ ap (λ (x : ℤ). modulo (pos angle-per-part *ℤ x) turn) e)
+    (q ∙ ap (λ (x : ℤ). modulo (pos angle-per-part *ℤ x) turn) f)
     ∙ reduced (c .radius) (pos angle-per-part *ℤ c .latitude) (pos angle-per-part *ℤ c .longitude)
   where
     ap₃ : (f : ℤ → ℕ → ℕ → Vector) {x x′ : ℤ} {m m′ n n′ : ℕ} → x ≡ x′ → m ≡ m′ → n ≡ n′ → f x m n ≡ f x′ m′ n′

@@ -57,7 +57,8 @@ module _ (planet earth : Coordinates) where
     pub planet-passes : not b ≡ false → radius-usable (planet .radius) ≡ true
     planet-passes h = ap radius-usable (sym cp) ∙ sym pb ∙ not-false b h
 
-  module _ (hp : radius-usable (planet .radius) ≡ true) (b : Bool) (ce : Cell (earth .radius) ≡ earth .radius) (pb : b ≡ radius-usable (Cell (earth .radius))) where
+  module _ (hp : radius-usable (planet .radius) ≡ true) (b : Bool) (ce : Cell (earth .radius) ≡ earth .radius)
+      (pb : b ≡ radius-usable (Cell (earth .radius))) where
     pub earth-refused : not b ≡ true → Unusable ≡ sight planet earth
     unfolding places-usable usable
     earth-refused h = let g : radius-usable (earth .radius) ≡ false = ap radius-usable (sym ce) ∙ sym pb ∙ not-true b h in refused (rw (hp, g))

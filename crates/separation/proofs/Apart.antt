@@ -20,6 +20,10 @@ apart-wider a b f g l h = record {
   lower-e = record { lt = tt };
   lower-f = h .lower-f;
   lower-g = h .lower-g;
-  most = cert! (a ∷ b ∷ f .upper ∷ f .lower ∷ g .upper ∷ g .lower ∷ []) 0 (gap (h .most) ⊞ gap l ⊛ (≺-≼ (h .lower-f) ⊛ ≺-≼ (h .lower-g))) (search polys depth 60 fits 100000) tt;
-  least = cert! (a ∷ b ∷ f .upper ∷ f .lower ∷ g .upper ∷ g .lower ∷ []) 0 (gap (h .least) ⊞ gap l ⊛ (≺-≼ (h .lower-f) ⊛ ≺-≼ (h .lower-g))) (search polys depth 60 fits 100000) tt;
+  most =
+      cert! (a ∷ b ∷ f .upper ∷ f .lower ∷ g .upper ∷ g .lower ∷ []) 0 (gap (h .most) ⊞ gap l ⊛ (≺-≼ (h .lower-f) ⊛ ≺-≼ (h .lower-g)))
+      (search polys depth 60 fits 100000) tt;
+  least =
+      cert! (a ∷ b ∷ f .upper ∷ f .lower ∷ g .upper ∷ g .lower ∷ []) 0 (gap (h .least) ⊞ gap l ⊛ (≺-≼ (h .lower-f) ⊛ ≺-≼ (h .lower-g)))
+      (search polys depth 60 fits 100000) tt;
 }

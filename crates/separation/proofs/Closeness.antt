@@ -13,9 +13,11 @@ use Rattle.integers.proofs.Bounds.{Bd, bd-*, bd-+, bd-neg, bd-self, bd-as}
 use Rattle.units.specs.Units.{U}
 use Rattle.rectangular.specs.declared.Vector.{Vector}
 use Rattle.rectangular.specs.Vectors.{geocentric, sun, length, unit}
+use Rattle.rectangular.specs.Sight.{least-radius, least-distance, distance-factor}
+use Rattle.separation.specs.machine.Near.{tolerance}
 use Rattle.separation.proofs.Form.{scl, sub, Bd³}
-use Rattle.separation.proofs.Sizes.{Unit³}
-use Rattle.separation.proofs.Halves.{Close}
+use Rattle.separation.proofs.Lengths.{Unit³}
+use Rattle.separation.proofs.BothWays.{Close}
 use Rattle.separation.proofs.Units.{unit-over, unit-near, unit-is, within-length}
 use Rattle.separation.proofs.Places.{Figures, Faithful, One-far, placed, toward, whole-place, place-near, long, times}
 
@@ -32,16 +34,17 @@ sun-part l q R p T u a n hq hp hu ha =
     (bd-+ (q *ℤ l) (pos 2 *ℤ T) (q *ℤ negℤ r) (pos 2 *ℤ t) (times q l (negℤ r) hq (bd-neg l r hu)) (times (pos 2) T t (nonneg 2) ha)))
 
 -- A place, with R's own error; Q·q is Q³.
-full-part : (Q q R p T a n : ℤ) → pos 0 ≼ Q → Bd q n → Bd (pos 200000 *ℤ Q) (Q *ℤ R -ℤ p) → Bd T (pos U *ℤ (q *ℤ a -ℤ R *ℤ n))
-    → Bd (Q *ℤ T +ℤ pos U *ℤ (pos 200000 *ℤ Q *ℤ q)) (pos U *ℤ (Q *ℤ q *ℤ a -ℤ p *ℤ n))
+full-part : (Q q R p T a n : ℤ) → pos 0 ≼ Q → Bd q n → Bd (pos tolerance *ℤ Q) (Q *ℤ R -ℤ p) → Bd T (pos U *ℤ (q *ℤ a -ℤ R *ℤ n))
+    → Bd (Q *ℤ T +ℤ pos U *ℤ (pos tolerance *ℤ Q *ℤ q)) (pos U *ℤ (Q *ℤ q *ℤ a -ℤ p *ℤ n))
 full-part Q q R p T a n hQ hn hR ha =
     let t = pos U *ℤ (q *ℤ a -ℤ R *ℤ n) in
     bd-as _ _ _ _ refl (ring! (Q ∷ q ∷ R ∷ p ∷ a ∷ n ∷ []) (search polys depth 60 fits 100000) tt)
-    (bd-+ (Q *ℤ T) (pos U *ℤ (pos 200000 *ℤ Q *ℤ q)) (Q *ℤ t) (pos U *ℤ ((Q *ℤ R -ℤ p) *ℤ n))
-    (times Q T t hQ ha) (times (pos U) (pos 200000 *ℤ Q *ℤ q) ((Q *ℤ R -ℤ p) *ℤ n) (nonneg U) (bd-* (pos 200000 *ℤ Q) q (Q *ℤ R -ℤ p) n hR hn)))
+    (bd-+ (Q *ℤ T) (pos U *ℤ (pos tolerance *ℤ Q *ℤ q)) (Q *ℤ t) (pos U *ℤ ((Q *ℤ R -ℤ p) *ℤ n))
+    (times Q T t hQ ha) (times (pos U) (pos tolerance *ℤ Q *ℤ q) ((Q *ℤ R -ℤ p) *ℤ n) (nonneg U) (bd-* (pos tolerance *ℤ Q) q (Q *ℤ R -ℤ p) n hR hn)))
 
 -- The planet: c is Q³, E and F are the bounds of the two places.
-planet-part : (D c E F v a b m n : ℤ) → pos 0 ≼ c → Bd D (pos 2 *ℤ (D *ℤ v -ℤ pos U *ℤ (a -ℤ b))) → Bd E (pos U *ℤ (c *ℤ a -ℤ m)) → Bd F (pos U *ℤ (c *ℤ b -ℤ n))
+planet-part : (D c E F v a b m n : ℤ) → pos 0 ≼ c → Bd D (pos 2 *ℤ (D *ℤ v -ℤ pos U *ℤ (a -ℤ b))) → Bd E (pos U *ℤ (c *ℤ a -ℤ m))
+    → Bd F (pos U *ℤ (c *ℤ b -ℤ n))
     → Bd (c *ℤ D +ℤ (pos 2 *ℤ E +ℤ pos 2 *ℤ F)) (pos 2 *ℤ pos U *ℤ (m -ℤ n) -ℤ pos 2 *ℤ (D *ℤ c) *ℤ v)
 planet-part D c E F v a b m n hc hv ha hb =
     let r = pos 2 *ℤ (D *ℤ v -ℤ pos U *ℤ (a -ℤ b)) in
@@ -54,10 +57,12 @@ planet-part D c E F v a b m n hc hv ha hb =
 -- The Sun is within 10,469/U of its direction, the planet within 118,721/U.
 sun-small : (l q R p : ℤ) → pos 0 ≼ q → pos 0 ≼ p → pos 47 *ℤ R ≼ pos 100 *ℤ l → pos 4700000000 ≼ l
     → p *ℤ (q *ℤ l +ℤ pos 2 *ℤ (q *ℤ (pos U +ℤ pos 4920 *ℤ R))) ≼ pos 10469 *ℤ (pos 2 *ℤ (l *ℤ q) *ℤ p)
-sun-small l q R p hq hp hR hl = cert! (l ∷ q ∷ R ∷ p ∷ []) 46 ((hp ⊛ hq) ⊛ (9840 · gap hR ⊞ 39 · gap hl ⊞ nonneg 89300000000)) (search polys depth 60 fits 100000) tt
+sun-small l q R p hq hp hR hl =
+    cert! (l ∷ q ∷ R ∷ p ∷ []) 46 ((hp ⊛ hq) ⊛ (9840 · gap hR ⊞ 39 · gap hl ⊞ nonneg 89300000000)) (search polys depth 60 fits 100000) tt
 
-planet-small : (D Q q R S : ℤ) → pos 0 ≼ Q → pos 0 ≼ q → R +ℤ S ≼ pos 16 *ℤ D → pos 10000000000 ≼ D
-    → Q *ℤ q *ℤ D +ℤ (pos 2 *ℤ (Q *ℤ (q *ℤ (pos U +ℤ pos 4920 *ℤ R)) +ℤ pos U *ℤ (pos 200000 *ℤ Q *ℤ q)) +ℤ pos 2 *ℤ (Q *ℤ (q *ℤ (pos U +ℤ pos 4920 *ℤ S)) +ℤ pos U *ℤ (pos 200000 *ℤ Q *ℤ q)))
+planet-small : (D Q q R S : ℤ) → pos 0 ≼ Q → pos 0 ≼ q → R +ℤ S ≼ pos distance-factor *ℤ D → pos least-distance ≼ D
+    → Q *ℤ q *ℤ D +ℤ (pos 2 *ℤ (Q *ℤ (q *ℤ (pos U +ℤ pos 4920 *ℤ R)) +ℤ pos U *ℤ (pos tolerance *ℤ Q *ℤ q)) +ℤ pos 2
+    *ℤ (Q *ℤ (q *ℤ (pos U +ℤ pos 4920 *ℤ S)) +ℤ pos U *ℤ (pos tolerance *ℤ Q *ℤ q)))
     ≼ pos 118721 *ℤ (pos 2 *ℤ (D *ℤ (Q *ℤ q)))
 planet-small D Q q R S hQ hq hR hD =
     cert! (D ∷ Q ∷ q ∷ R ∷ S ∷ []) 0 ((hQ ⊛ hq) ⊛ (9840 · gap hR ⊞ 80001 · gap hD ⊞ nonneg 6000000000)) (search polys depth 60 fits 100000) tt
@@ -71,9 +76,10 @@ unfolding geocentric scl
 wide m t a Y s u hm w =
     record { x = wide-part m t a Y (s .x) (u .x) hm (w .x); y = wide-part m t a Y (s .y) (u .y) hm (w .y); z = wide-part m t a Y (s .z) (u .z) hm (w .z) }
 
-common : (u v s g : Vector) (a b Y W η ζ : ℤ) → pos 0 ≺ a → pos 0 ≺ b → pos 0 ≺ Y → pos 0 ≺ W → Bd³ η (sub (scl a s) (scl Y u)) → Bd³ ζ (sub (scl b g) (scl W v))
+over-one : (u v s g : Vector) (a b Y W η ζ : ℤ) → pos 0 ≺ a → pos 0 ≺ b → pos 0 ≺ Y → pos 0 ≺ W → Bd³ η (sub (scl a s) (scl Y u))
+    → Bd³ ζ (sub (scl b g) (scl W v))
     → η ≼ pos 10469 *ℤ Y → ζ ≼ pos 118721 *ℤ W → Close u v s g
-common u v s g a b Y W η ζ ha hb hY hW ws wg hη hζ = record {
+over-one u v s g a b Y W η ζ ha hb hY hW ws wg hη hζ = record {
   a = W *ℤ a;
   b = Y *ℤ b;
   W = W *ℤ Y;
@@ -83,7 +89,9 @@ common u v s g a b Y W η ζ ha hb hY hW ws wg hη hζ = record {
   b-pos = product-pos Y b hY hb;
   W-pos = product-pos W Y hW hY;
   near-u = wide W η a Y s u (≺-≼ hW) ws;
-  near-v = subst (λ (m : ℤ). Bd³ (Y *ℤ ζ) (sub (scl (Y *ℤ b) g) (scl m v))) (ring! (W ∷ Y ∷ []) (search polys depth 60 fits 100000) tt) (wide Y ζ b W g v (≺-≼ hY) wg);
+  near-v =
+      subst (λ (m : ℤ). Bd³ (Y *ℤ ζ) (sub (scl (Y *ℤ b) g) (scl m v))) (ring! (W ∷ Y ∷ []) (search polys depth 60 fits 100000) tt)
+      (wide Y ζ b W g v (≺-≼ hY) wg);
   small = cert! (Y ∷ W ∷ η ∷ ζ ∷ []) 0 (≺-≼ hW ⊛ gap hη ⊞ ≺-≼ hY ⊛ gap hζ ⊞ 810 · (≺-≼ hW ⊛ ≺-≼ hY)) (search polys depth 60 fits 100000) tt;
 }
 
@@ -91,10 +99,10 @@ common u v s g a b Y W η ζ ha hb hY hW ws wg hη hζ = record {
 
 -- What of a usable place is needed.
 pub record Usable (planet earth : Figures) (D : ℕ) : Type 0 where
-  pub planet-far : pos 10000000000 ≼ planet .R
-  pub earth-far : pos 10000000000 ≼ earth .R
-  pub apart : pos 10000000000 ≼ pos D
-  pub ratio : planet .R +ℤ earth .R ≼ pos 16 *ℤ pos D
+  pub planet-far : pos least-radius ≼ planet .R
+  pub earth-far : pos least-radius ≼ earth .R
+  pub apart : pos least-distance ≼ pos D
+  pub ratio : planet .R +ℤ earth .R ≼ pos distance-factor *ℤ pos D
 
 sun-within : (l : ℤ) (a : Vector) → Bd³ l (sun a) → Bd³ l a
 unfolding sun scl
@@ -106,7 +114,11 @@ sun-within l a w = record { x = turn (a .x) (w .x); y = turn (a .y) (w .y); z = 
 toward-within : (Q : ℤ) (w e : Figures) → pos 0 ≼ Q → Faithful Q w e → Bd³ (Q *ℤ Q) (toward Q e)
 unfolding toward
 toward-within Q w e hQ h =
-    record { x = bd-* Q Q _ _ (h .cosB .exact) (h .cosL .exact); y = bd-* Q Q _ _ (h .cosB .exact) (h .sinL .exact); z = bd-* Q Q _ _ (bd-self Q hQ) (h .sinB .exact) }
+    record {
+      x = bd-* Q Q _ _ (h .cosB .exact) (h .cosL .exact);
+      y = bd-* Q Q _ _ (h .cosB .exact) (h .sinL .exact);
+      z = bd-* Q Q _ _ (bd-self Q hQ) (h .sinB .exact);
+    }
 
 module _ (Q : ℤ) (hQ : pos 0 ≺ Q) where
   Q₀ : pos 0 ≼ Q
@@ -123,10 +135,15 @@ module _ (Q : ℤ) (hQ : pos 0 ≺ Q) where
       let un = unit-near l (sun (placed w)) hl in
       let u = unit-over l (sun (placed w)) in
       let n = toward Q e in
-      record { x = sun-part (pos l) q (w .R) (e .R) T (u .x) (placed w .x) (n .x) (Q₀ ⊛ Q₀) hp (un .x) (near .x); y = sun-part (pos l) q (w .R) (e .R) T (u .y) (placed w .y) (n .y) (Q₀ ⊛ Q₀) hp (un .y) (near .y); z = sun-part (pos l) q (w .R) (e .R) T (u .z) (placed w .z) (n .z) (Q₀ ⊛ Q₀) hp (un .z) (near .z) }
+      record {
+        x = sun-part (pos l) q (w .R) (e .R) T (u .x) (placed w .x) (n .x) (Q₀ ⊛ Q₀) hp (un .x) (near .x);
+        y = sun-part (pos l) q (w .R) (e .R) T (u .y) (placed w .y) (n .y) (Q₀ ⊛ Q₀) hp (un .y) (near .y);
+        z = sun-part (pos l) q (w .R) (e .R) T (u .z) (placed w .z) (n .z) (Q₀ ⊛ Q₀) hp (un .z) (near .z);
+      }
 
   full-near : (w e : Figures) → pos 0 ≼ w .R → Faithful Q w e
-      → Bd³ (Q *ℤ (Q *ℤ Q *ℤ (pos U +ℤ pos 4920 *ℤ w .R)) +ℤ pos U *ℤ (pos 200000 *ℤ Q *ℤ (Q *ℤ Q))) (scl (pos U) (sub (scl (Q *ℤ (Q *ℤ Q)) (placed w)) (whole-place Q e)))
+      → Bd³ (Q *ℤ (Q *ℤ Q *ℤ (pos U +ℤ pos 4920 *ℤ w .R)) +ℤ pos U *ℤ (pos tolerance *ℤ Q *ℤ (Q *ℤ Q)))
+      (scl (pos U) (sub (scl (Q *ℤ (Q *ℤ Q)) (placed w)) (whole-place Q e)))
   unfolding geocentric scl whole-place
   full-near w e hR h =
       let q = Q *ℤ Q in
@@ -134,34 +151,45 @@ module _ (Q : ℤ) (hQ : pos 0 ≺ Q) where
       let near = place-near Q w e Q₀ hR h in
       let t = toward-within Q w e Q₀ h in
       let n = toward Q e in
-      record { x = full-part Q q (w .R) (e .R) T (placed w .x) (n .x) Q₀ (t .x) (h .radius) (near .x); y = full-part Q q (w .R) (e .R) T (placed w .y) (n .y) Q₀ (t .y) (h .radius) (near .y); z = full-part Q q (w .R) (e .R) T (placed w .z) (n .z) Q₀ (t .z) (h .radius) (near .z) }
+      record {
+        x = full-part Q q (w .R) (e .R) T (placed w .x) (n .x) Q₀ (t .x) (h .radius) (near .x);
+        y = full-part Q q (w .R) (e .R) T (placed w .y) (n .y) Q₀ (t .y) (h .radius) (near .y);
+        z = full-part Q q (w .R) (e .R) T (placed w .z) (n .z) Q₀ (t .z) (h .radius) (near .z);
+      }
 
   planet-near : (D : ℕ) (p pe w we : Figures) → 0 < D → pos 0 ≼ p .R → pos 0 ≼ w .R → Faithful Q p pe → Faithful Q w we
-      → Bd³ (Q *ℤ (Q *ℤ Q) *ℤ pos D +ℤ (pos 2 *ℤ (Q *ℤ (Q *ℤ Q *ℤ (pos U +ℤ pos 4920 *ℤ p .R)) +ℤ pos U *ℤ (pos 200000 *ℤ Q *ℤ (Q *ℤ Q))) +ℤ pos 2 *ℤ (Q *ℤ (Q *ℤ Q *ℤ (pos U +ℤ pos 4920 *ℤ w .R)) +ℤ pos U *ℤ (pos 200000 *ℤ Q *ℤ (Q *ℤ Q)))))
-      (sub (scl (pos 2 *ℤ pos U) (sub (whole-place Q pe) (whole-place Q we))) (scl (pos 2 *ℤ (pos D *ℤ (Q *ℤ (Q *ℤ Q)))) (unit-over D (sub (placed p) (placed w)))))
+      → Bd³ (Q *ℤ (Q *ℤ Q) *ℤ pos D +ℤ (pos 2 *ℤ (Q *ℤ (Q *ℤ Q *ℤ (pos U +ℤ pos 4920 *ℤ p .R)) +ℤ pos U *ℤ (pos tolerance *ℤ Q *ℤ (Q *ℤ Q))) +ℤ pos 2
+      *ℤ (Q *ℤ (Q *ℤ Q *ℤ (pos U +ℤ pos 4920 *ℤ w .R)) +ℤ pos U *ℤ (pos tolerance *ℤ Q *ℤ (Q *ℤ Q)))))
+      (sub (scl (pos 2 *ℤ pos U) (sub (whole-place Q pe) (whole-place Q we)))
+      (scl (pos 2 *ℤ (pos D *ℤ (Q *ℤ (Q *ℤ Q)))) (unit-over D (sub (placed p) (placed w)))))
   unfolding geocentric scl
   planet-near D p pe w we hD hp hw h k =
       let c = Q *ℤ (Q *ℤ Q) in
-      let E = Q *ℤ (Q *ℤ Q *ℤ (pos U +ℤ pos 4920 *ℤ p .R)) +ℤ pos U *ℤ (pos 200000 *ℤ Q *ℤ (Q *ℤ Q)) in
-      let F = Q *ℤ (Q *ℤ Q *ℤ (pos U +ℤ pos 4920 *ℤ w .R)) +ℤ pos U *ℤ (pos 200000 *ℤ Q *ℤ (Q *ℤ Q)) in
+      let E = Q *ℤ (Q *ℤ Q *ℤ (pos U +ℤ pos 4920 *ℤ p .R)) +ℤ pos U *ℤ (pos tolerance *ℤ Q *ℤ (Q *ℤ Q)) in
+      let F = Q *ℤ (Q *ℤ Q *ℤ (pos U +ℤ pos 4920 *ℤ w .R)) +ℤ pos U *ℤ (pos tolerance *ℤ Q *ℤ (Q *ℤ Q)) in
       let un = unit-near D (sub (placed p) (placed w)) hD in
       let v = unit-over D (sub (placed p) (placed w)) in
       let a = full-near p pe hp h in
       let b = full-near w we hw k in
-      record { x = planet-part (pos D) c E F (v .x) (placed p .x) (placed w .x) (whole-place Q pe .x) (whole-place Q we .x) (Q₀ ⊛ (Q₀ ⊛ Q₀)) (un .x) (a .x) (b .x); y = planet-part (pos D) c E F (v .y) (placed p .y) (placed w .y) (whole-place Q pe .y) (whole-place Q we .y) (Q₀ ⊛ (Q₀ ⊛ Q₀)) (un .y) (a .y) (b .y); z = planet-part (pos D) c E F (v .z) (placed p .z) (placed w .z) (whole-place Q pe .z) (whole-place Q we .z) (Q₀ ⊛ (Q₀ ⊛ Q₀)) (un .z) (a .z) (b .z) }
+      record {
+        x = planet-part (pos D) c E F (v .x) (placed p .x) (placed w .x) (whole-place Q pe .x) (whole-place Q we .x) (Q₀ ⊛ (Q₀ ⊛ Q₀)) (un .x) (a .x) (b .x);
+        y = planet-part (pos D) c E F (v .y) (placed p .y) (placed w .y) (whole-place Q pe .y) (whole-place Q we .y) (Q₀ ⊛ (Q₀ ⊛ Q₀)) (un .y) (a .y) (b .y);
+        z = planet-part (pos D) c E F (v .z) (placed p .z) (placed w .z) (whole-place Q pe .z) (whole-place Q we .z) (Q₀ ⊛ (Q₀ ⊛ Q₀)) (un .z) (a .z) (b .z);
+      }
 
 -- ---- Both together.
 
 at-least : (k l : ℕ) → 0 < k → pos k ≼ pos l → 0 < l
 at-least k l h g = let m : k ≤ l = leb→le k l (g .le) in omega arith
 
-pub sun-long : (w : Figures) → pos 10000000000 ≼ w .R → One-far (w .cosB) (w .sinB) → One-far (w .cosL) (w .sinL) → pos 47 *ℤ w .R ≼ pos 100 *ℤ pos (length (sun (placed w)))
+pub sun-long : (w : Figures) → pos least-radius ≼ w .R → One-far (w .cosB) (w .sinB) → One-far (w .cosL) (w .sinL)
+    → pos 47 *ℤ w .R ≼ pos 100 *ℤ pos (length (sun (placed w)))
 sun-long w h f g = long (pos (length (sun (placed w)))) w h f g (sun-within _ (placed w) (within-length (sun (placed w))))
 
-length-least : (R l : ℤ) → pos 10000000000 ≼ R → pos 47 *ℤ R ≼ pos 100 *ℤ l → pos 4700000000 ≼ l
+length-least : (R l : ℤ) → pos least-radius ≼ R → pos 47 *ℤ R ≼ pos 100 *ℤ l → pos 4700000000 ≼ l
 length-least R l h k = cert! (R ∷ l ∷ []) 99 (gap k ⊞ 47 · gap h) (search polys depth 60 fits 100000) tt
 
-radius-pos : (Q R p : ℤ) → pos 0 ≺ Q → pos 10000000000 ≼ R → Bd (pos 200000 *ℤ Q) (Q *ℤ R -ℤ p) → pos 0 ≺ p
+radius-pos : (Q R p : ℤ) → pos 0 ≺ Q → pos least-radius ≼ R → Bd (pos tolerance *ℤ Q) (Q *ℤ R -ℤ p) → pos 0 ≺ p
 radius-pos Q R p hQ hR b = cert<! (Q ∷ R ∷ p ∷ []) 0 (gap (b .high) ⊞ gap< hQ ⊛ gap hR ⊞ gap hR ⊞ 9999800000 · gap< hQ) (search polys depth 60 fits 100000) tt
 
 -- Exact figures over Q, working ones faithful to them, usable; and no working cosine and sine are both small.
@@ -181,10 +209,10 @@ module _ (Q : ℤ) (planet earth planet* earth* : Figures) (sky : Sky Q planet e
   D = length (sub (placed planet) (placed earth))
 
   R₀ : pos 0 ≼ earth .R
-  R₀ = ≤ℤ-trans (nonneg 10000000000) (sky .usable .earth-far)
+  R₀ = ≤ℤ-trans (nonneg least-radius) (sky .usable .earth-far)
 
   P₀ : pos 0 ≼ planet .R
-  P₀ = ≤ℤ-trans (nonneg 10000000000) (sky .usable .planet-far)
+  P₀ = ≤ℤ-trans (nonneg least-radius) (sky .usable .planet-far)
 
   l-long : pos 47 *ℤ earth .R ≼ pos 100 *ℤ pos l
   l-long = sun-long earth (sky .usable .earth-far) (sky .far-B) (sky .far-L)
@@ -199,19 +227,23 @@ module _ (Q : ℤ) (planet earth planet* earth* : Figures) (sky : Sky Q planet e
   l-pos = at-least 4700000000 l (omega arith) l-least
 
   D-pos : 0 < D
-  D-pos = at-least 10000000000 D (omega arith) (sky .usable .apart)
+  D-pos = at-least least-distance D (omega arith) (sky .usable .apart)
 
-  pub close : Close (unit (sun (placed earth))) (unit (sub (placed planet) (placed earth))) (sun (whole-place Q earth*)) (sub (whole-place Q planet*) (whole-place Q earth*))
+  pub close : Close (unit (sun (placed earth))) (unit (sub (placed planet) (placed earth))) (sun (whole-place Q earth*))
+      (sub (whole-place Q planet*) (whole-place Q earth*))
   unfolding unit unit-over
   close =
       let hQ = sky .Q-pos in
       let q = Q *ℤ Q in
       let Q₁ = ≺-≼ hQ in
-      common (unit (sun (placed earth))) (unit (sub (placed planet) (placed earth))) (sun (whole-place Q earth*)) (sub (whole-place Q planet*) (whole-place Q earth*))
+      over-one (unit (sun (placed earth))) (unit (sub (placed planet) (placed earth))) (sun (whole-place Q earth*))
+      (sub (whole-place Q planet*) (whole-place Q earth*))
       (pos 2 *ℤ pos U *ℤ earth .R) (pos 2 *ℤ pos U) (pos 2 *ℤ (pos l *ℤ q) *ℤ earth* .R) (pos 2 *ℤ (pos D *ℤ (Q *ℤ q))) _ _
-      (product-pos (pos 2 *ℤ pos U) (earth .R) (record { lt = tt }) (cert<! (earth .R ∷ []) 0 (gap (sky .usable .earth-far)) (search polys depth 60 fits 100000) tt))
+      (product-pos (pos 2 *ℤ pos U) (earth .R) (record { lt = tt })
+      (cert<! (earth .R ∷ []) 0 (gap (sky .usable .earth-far)) (search polys depth 60 fits 100000) tt))
       (record { lt = tt })
-      (product-pos (pos 2 *ℤ (pos l *ℤ q)) (earth* .R) (product-pos (pos 2) (pos l *ℤ q) (record { lt = tt }) (product-pos (pos l) q (≺-nat l l-pos) (product-pos Q Q hQ hQ))) p-pos)
+      (product-pos (pos 2 *ℤ (pos l *ℤ q)) (earth* .R)
+      (product-pos (pos 2) (pos l *ℤ q) (record { lt = tt }) (product-pos (pos l) q (≺-nat l l-pos) (product-pos Q Q hQ hQ))) p-pos)
       (product-pos (pos 2) (pos D *ℤ (Q *ℤ q)) (record { lt = tt }) (product-pos (pos D) (Q *ℤ q) (≺-nat D D-pos) (product-pos Q q hQ (product-pos Q Q hQ hQ))))
       (sun-near Q hQ l earth earth* l-pos R₀ (≺-≼ p-pos) (sky .earth-faithful))
       (planet-near Q hQ D planet planet* earth earth* D-pos P₀ R₀ (sky .planet-faithful) (sky .earth-faithful))

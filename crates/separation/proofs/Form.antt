@@ -1,4 +1,5 @@
--- Vectors of whole numbers, and the form F(a, b) = 2 a·b − c(|a|² + |b|²), which is at least 0 nearly when the cosine of the angle between a and b is at least c. Assumes nothing.
+-- Vectors of whole numbers, and the form F(a, b) = 2 a·b − c(|a|² + |b|²), which is at least 0 nearly when the cosine of the angle between a and b is
+-- at least c. Assumes nothing.
 use mathlib.Core.Path.{_≡_}
 use mathlib.Core.List.{[], _∷_}
 use mathlib.Core.Logic.{_⊎_, inl, inr}
@@ -40,9 +41,10 @@ unfolding dot geocentric form
 apart up low a b = ring! (up ∷ low ∷ a .x ∷ a .y ∷ a .z ∷ b .x ∷ b .y ∷ b .z ∷ []) (search polys depth 60 fits 100000) tt
 
 -- |b − ca|² = (1 − c²)|b|² − cF, times low².
-pub turned : (up low : ℤ) (a b : Vector) → dot (sub (scl low b) (scl up a)) (sub (scl low b) (scl up a)) ≡ (low *ℤ low -ℤ up *ℤ up) *ℤ dot b b -ℤ up *ℤ form up low a b
+pub apart-scaled : (up low : ℤ) (a b : Vector) → dot (sub (scl low b) (scl up a)) (sub (scl low b) (scl up a))
+    ≡ (low *ℤ low -ℤ up *ℤ up) *ℤ dot b b -ℤ up *ℤ form up low a b
 unfolding dot geocentric scl form
-turned up low a b = ring! (up ∷ low ∷ a .x ∷ a .y ∷ a .z ∷ b .x ∷ b .y ∷ b .z ∷ []) (search polys depth 60 fits 100000) tt
+apart-scaled up low a b = ring! (up ∷ low ∷ a .x ∷ a .y ∷ a .z ∷ b .x ∷ b .y ∷ b .z ∷ []) (search polys depth 60 fits 100000) tt
 
 pub form-comm : (up low : ℤ) (a b : Vector) → form up low a b ≡ form up low b a
 unfolding dot form
@@ -50,7 +52,8 @@ form-comm up low a b = ring! (up ∷ low ∷ a .x ∷ a .y ∷ a .z ∷ b .x ∷
 
 -- F moves in proportion to |b − ca| and |a − cb|.
 pub moved : (up low : ℤ) (a b a′ b′ : Vector)
-    → form up low a′ b′ ≡ form up low a b +ℤ pos 2 *ℤ dot (sub a′ a) (sub (scl low b) (scl up a)) +ℤ pos 2 *ℤ dot (sub b′ b) (sub (scl low a) (scl up b)) +ℤ form up low (sub a′ a) (sub b′ b)
+    → form up low a′ b′ ≡ form up low a b +ℤ pos 2 *ℤ dot (sub a′ a) (sub (scl low b) (scl up a)) +ℤ pos 2 *ℤ dot (sub b′ b)
+    (sub (scl low a) (scl up b)) +ℤ form up low (sub a′ a) (sub b′ b)
 unfolding dot geocentric scl form
 moved up low a b a′ b′ =
     ring! (up ∷ low ∷ a .x ∷ a .y ∷ a .z ∷ b .x ∷ b .y ∷ b .z ∷ a′ .x ∷ a′ .y ∷ a′ .z ∷ b′ .x ∷ b′ .y ∷ b′ .z ∷ []) (search polys depth 60 fits 100000) tt
@@ -90,11 +93,13 @@ unfolding dot
 in-squares η H e d w h =
     cert! (η ∷ H ∷ e .x ∷ e .y ∷ e .z ∷ d .x ∷ d .y ∷ d .z ∷ []) 0
     (sqr (η *ℤ H) ⊞ 48 · (sqr η ⊛ gap h)
-    ⊞ 16 · ((gap (w .x .low) ⊛ gap (w .x .high) ⊞ gap (w .y .low) ⊛ gap (w .y .high) ⊞ gap (w .z .low) ⊛ gap (w .z .high)) ⊛ (sqr (d .x) ⊞ sqr (d .y) ⊞ sqr (d .z)))
+    ⊞ 16 · ((gap (w .x .low) ⊛ gap (w .x .high) ⊞ gap (w .y .low) ⊛ gap (w .y .high) ⊞ gap (w .z .low) ⊛ gap (w .z .high))
+    ⊛ (sqr (d .x) ⊞ sqr (d .y) ⊞ sqr (d .z)))
     ⊞ 16 · (sqr (e .x *ℤ d .y -ℤ e .y *ℤ d .x) ⊞ sqr (e .y *ℤ d .z -ℤ e .z *ℤ d .y) ⊞ sqr (e .z *ℤ d .x -ℤ e .x *ℤ d .z)))
     (search polys depth 60 fits 100000) tt
 
 pub product-bd : (η H : ℤ) (e d : Vector) → Bd³ η e → pos 0 ≼ H → dot d d ≼ H *ℤ H → Bd (pos 7 *ℤ η *ℤ H) (pos 4 *ℤ dot e d)
 product-bd η H e d w k h =
     let b₀ : pos 0 ≼ pos 7 *ℤ η *ℤ H = 7 · bd³-nonneg η e w ⊛ k in
-    root-bd (pos 4 *ℤ dot e d) (pos 7 *ℤ η *ℤ H) b₀ (cert! (dot e d ∷ η ∷ H ∷ []) 0 (gap (in-squares η H e d w h) ⊞ 2 · b₀) (search polys depth 60 fits 100000) tt)
+    root-bd (pos 4 *ℤ dot e d) (pos 7 *ℤ η *ℤ H) b₀
+    (cert! (dot e d ∷ η ∷ H ∷ []) 0 (gap (in-squares η H e d w h) ⊞ 2 · b₀) (search polys depth 60 fits 100000) tt)

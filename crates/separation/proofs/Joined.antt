@@ -23,12 +23,13 @@ use Rattle.separation.specs.Listed.{squared-separation, threshold, liste
 use Rattle.integers.proofs.Tests.{is-true}
 use Rattle.separation.proofs.Form.{dot, sub}
 use Rattle.separation.proofs.Row.{Row}
-use Rattle.separation.proofs.Halves.{exact-listed, listed-exact}
+use Rattle.separation.proofs.BothWays.{exact-listed, listed-exact}
 use Rattle.separation.proofs.Table.{witness, table}
 use Rattle.separation.proofs.Places.{Figures, placed, whole-place}
 use Rattle.separation.proofs.Closeness.{Usable, Sky, close, unit-sun, unit-seen}
 use Rattle.separation.proofs.WholeTest.{Over³, to-whole, of-whole}
-use Rattle.separation.proofs.Whole.{five-of, Near⁵, Held⁵, product, product-positive, held, left⁵, right⁵, whole, faithful, place-over, sun-over, geocentric-over}
+use Rattle.separation.proofs.Whole.{exact-figures, Near-figures, Held-figures, product, product-positive, held, held-left-all, held-right-all, whole}
+use Rattle.separation.proofs.Whole.{faithful, place-over, sun-over, geocentric-over}
 use Rattle.separation.proofs.Angles.{one-far}
 
 -- The working figures of a body.
@@ -40,10 +41,6 @@ figures c = record {
   cosL = cosine (pos angle-per-part *ℤ c .longitude);
   sinL = sine (pos angle-per-part *ℤ c .longitude);
 }
-
-placed-is : (c : Coordinates) → placed (figures c) ≡ place c
-unfolding placed figures place rectangular
-placed-is c = refl
 
 -- ---- The computed answers as facts.
 
@@ -62,7 +59,10 @@ usable-of p e h =
     }
 
 abbrev Near-sun : ℕ → Coordinates → Coordinates → Type 0
-Near-sun k p e = let u = unit (sun (placed (figures e))) in let v = unit (sub (placed (figures p)) (placed (figures e))) in dot (sub u v) (sub u v) ≼ threshold k
+Near-sun k p e =
+    let u = unit (sun (placed (figures e))) in
+    let v = unit (sub (placed (figures p)) (placed (figures e))) in
+    dot (sub u v) (sub u v) ≼ threshold k
 
 listed-of : (k : ℕ) (p e : Coordinates) → Near-sun k p e → listed k p e ≡ true
 unfolding listed squared-separation squared dot placed figures place rectangular
@@ -74,43 +74,44 @@ of-listed k p e h = record { le = true-T _ h }
 
 -- ---- The two halves.
 
-module _ (p e : Coordinates) (p* e* : Exact-coordinates) (hp : Near⁵ (figures p) (five-of p*)) (he : Near⁵ (figures e) (five-of e*)) (ok : places-usable p e ≡ true) where
-  P₀ : pos 0 ≺ product (five-of p*)
-  P₀ = product-positive (figures p) (five-of p*) hp
+module _ (p e : Coordinates) (p* e* : Exact-coordinates) (hp : Near-figures (figures p) (exact-figures p*)) (he : Near-figures (figures e) (exact-figures e*))
+    (ok : places-usable p e ≡ true) where
+  P₀ : pos 0 ≺ product (exact-figures p*)
+  P₀ = product-positive (figures p) (exact-figures p*) hp
 
-  E₀ : pos 0 ≺ product (five-of e*)
-  E₀ = product-positive (figures e) (five-of e*) he
+  E₀ : pos 0 ≺ product (exact-figures e*)
+  E₀ = product-positive (figures e) (exact-figures e*) he
 
   abbrev Q : ℤ
-  Q = product (five-of p*) *ℤ product (five-of e*)
+  Q = product (exact-figures p*) *ℤ product (exact-figures e*)
 
   abbrev W : ℤ
   W = Q *ℤ (Q *ℤ Q)
 
   Q₀ : pos 0 ≺ Q
-  Q₀ = product-pos (product (five-of p*)) (product (five-of e*)) P₀ E₀
+  Q₀ = product-pos (product (exact-figures p*)) (product (exact-figures e*)) P₀ E₀
 
   W₀ : pos 0 ≺ W
   W₀ = product-pos Q (Q *ℤ Q) Q₀ (product-pos Q Q Q₀ Q₀)
 
-  abbrev held-planet : Held⁵ Q (five-of p*)
-  held-planet = left⁵ (product (five-of p*)) (product (five-of e*)) (five-of p*) E₀ (held (figures p) (five-of p*) hp)
+  abbrev held-planet : Held-figures Q (exact-figures p*)
+  held-planet = held-left-all (product (exact-figures p*)) (product (exact-figures e*)) (exact-figures p*) E₀ (held (figures p) (exact-figures p*) hp)
 
-  abbrev held-earth : Held⁵ Q (five-of e*)
-  held-earth = right⁵ (product (five-of e*)) (product (five-of p*)) (five-of e*) P₀ (held (figures e) (five-of e*) he)
+  abbrev held-earth : Held-figures Q (exact-figures e*)
+  held-earth = held-right-all (product (exact-figures e*)) (product (exact-figures p*)) (exact-figures e*) P₀ (held (figures e) (exact-figures e*) he)
 
   abbrev P : Figures
-  P = whole Q (five-of p*) held-planet
+  P = whole Q (exact-figures p*) held-planet
 
   abbrev E : Figures
-  E = whole Q (five-of e*) held-earth
+  E = whole Q (exact-figures e*) held-earth
 
   sky : Sky Q (figures p) (figures e) P E
   unfolding figures
   sky = record {
     Q-pos = Q₀;
-    planet-faithful = faithful Q (figures p) (five-of p*) held-planet hp;
-    earth-faithful = faithful Q (figures e) (five-of e*) held-earth he;
+    planet-faithful = faithful Q (figures p) (exact-figures p*) held-planet hp;
+    earth-faithful = faithful Q (figures e) (exact-figures e*) held-earth he;
     usable = usable-of p e ok;
     far-B = one-far (pos angle-per-part *ℤ e .latitude);
     far-L = one-far (pos angle-per-part *ℤ e .longitude);
@@ -148,7 +149,9 @@ module _ (p e : Coordinates) (p* e* : Exact-coordinates) (hp : Near⁵ (figures 
       (to-whole k (lower-pos k h (omega arith)) W W₀ (exact-sun e*) (exact-geocentric p* e*) S G over-S over-G t))
 
   row-after : (k : ℕ) → least-keep-out ≤ k → k ≤ greatest-keep-out → Row (cosine-of-arcminutes (k + 2)) (witness (k + 2)) (threshold (k + 2)) (threshold k)
-  row-after k h l = subst (λ (m : ℕ). Row (cosine-of-arcminutes (k + 2)) (witness (k + 2)) (threshold (k + 2)) (threshold m)) (same k) (table (k + 2) (omega arith) (omega arith))
+  row-after k h l =
+      subst (λ (m : ℕ). Row (cosine-of-arcminutes (k + 2)) (witness (k + 2)) (threshold (k + 2)) (threshold m)) (same k)
+      (table (k + 2) (omega arith) (omega arith))
     where
       same : (k : ℕ) → k + 2 - 2 ≡ k
       same k = omega arith

@@ -15,6 +15,8 @@ use Rattle.integers.proofs.Bounds.{Bd, bd-*, bd-+, bd-self, bd-le, bd-cancel, b
 use Rattle.units.specs.Units.{U}
 use Rattle.rectangular.specs.declared.Vector.{Vector}
 use Rattle.rectangular.specs.Vectors.{geocentric}
+use Rattle.rectangular.specs.Sight.{least-radius}
+use Rattle.separation.specs.machine.Near.{tolerance}
 use Rattle.separation.proofs.Form.{scl, sub, Bd³}
 
 -- R in parts, and the cosines and sines over U (working), or all five over Q (exact).
@@ -41,18 +43,18 @@ unfoldable pub whole-place : ℤ → Figures → Vector
 whole-place Q e = scl (e .R) (toward Q e)
 
 -- c/U and C/Q are in [−1, 1] and within 2.46·10⁻⁶ of each other.
-pub record Seen (Q c C : ℤ) : Type 0 where
+pub record Cosine-pair (Q c C : ℤ) : Type 0 where
   pub working : Bd (pos U) c
   pub exact : Bd Q C
   pub near : Bd (pos 2460 *ℤ Q) (c *ℤ Q -ℤ pos U *ℤ C)
 
 -- The working figures are near the exact ones: R within 2·10⁵ parts.
 pub record Faithful (Q : ℤ) (w e : Figures) : Type 0 where
-  pub radius : Bd (pos 200000 *ℤ Q) (Q *ℤ w .R -ℤ e .R)
-  pub cosB : Seen Q (w .cosB) (e .cosB)
-  pub sinB : Seen Q (w .sinB) (e .sinB)
-  pub cosL : Seen Q (w .cosL) (e .cosL)
-  pub sinL : Seen Q (w .sinL) (e .sinL)
+  pub radius : Bd (pos tolerance *ℤ Q) (Q *ℤ w .R -ℤ e .R)
+  pub cosB : Cosine-pair Q (w .cosB) (e .cosB)
+  pub sinB : Cosine-pair Q (w .sinB) (e .sinB)
+  pub cosL : Cosine-pair Q (w .cosL) (e .cosL)
+  pub sinL : Cosine-pair Q (w .sinL) (e .sinL)
 
 -- ---- How near the place is.
 
@@ -64,7 +66,7 @@ U-pos : 0 < U
 U-pos = omega arith
 
 -- One rounded product.
-one-part : (Q R c C : ℤ) → pos 0 ≼ Q → pos 0 ≼ R → Seen Q c C
+one-part : (Q R c C : ℤ) → pos 0 ≼ Q → pos 0 ≼ R → Cosine-pair Q c C
     → Bd (Q *ℤ Q *ℤ (pos U +ℤ pos 4920 *ℤ R)) (pos U *ℤ (Q *ℤ Q *ℤ rounded (R *ℤ c) U -ℤ R *ℤ (Q *ℤ C)))
 one-part Q R c C hQ hR s =
     let z = rounded (R *ℤ c) U in
@@ -76,10 +78,11 @@ one-part Q R c C hQ hR s =
     let B = pos 2 *ℤ (Q *ℤ Q *ℤ (pos U +ℤ pos 4920 *ℤ R)) in
     let l : A ≼ B = cert! (Q ∷ R ∷ []) 0 (1000000000 · (hQ ⊛ hQ) ⊞ 4920 · (hQ ⊛ hQ ⊛ hR)) (search polys depth 60 fits 100000) tt in
     bd-cancel (pos 2) (Q *ℤ Q *ℤ (pos U +ℤ pos 4920 *ℤ R)) (pos U *ℤ (Q *ℤ Q *ℤ z -ℤ R *ℤ (Q *ℤ C))) (record { lt = tt })
-    (bd-as B B _ (pos 2 *ℤ (pos U *ℤ (Q *ℤ Q *ℤ z -ℤ R *ℤ (Q *ℤ C)))) refl (ring! (Q ∷ R ∷ c ∷ C ∷ z ∷ []) (search polys depth 60 fits 100000) tt) (bd-le A B _ l b))
+    (bd-as B B _ (pos 2 *ℤ (pos U *ℤ (Q *ℤ Q *ℤ z -ℤ R *ℤ (Q *ℤ C)))) refl (ring! (Q ∷ R ∷ c ∷ C ∷ z ∷ []) (search polys depth 60 fits 100000) tt)
+    (bd-le A B _ l b))
 
 -- A rounded product of a rounded product.
-two-part : (Q R c C d D : ℤ) → pos 0 ≼ Q → pos 0 ≼ R → Seen Q c C → Seen Q d D
+two-part : (Q R c C d D : ℤ) → pos 0 ≼ Q → pos 0 ≼ R → Cosine-pair Q c C → Cosine-pair Q d D
     → Bd (Q *ℤ Q *ℤ (pos U +ℤ pos 4920 *ℤ R)) (pos U *ℤ (Q *ℤ Q *ℤ rounded (rounded (R *ℤ c) U *ℤ d) U -ℤ R *ℤ (C *ℤ D)))
 two-part Q R c C d D hQ hR s t =
     let f = rounded (R *ℤ c) U in
@@ -94,7 +97,8 @@ two-part Q R c C d D hQ hR s t =
     let e₄ = times (pos 2 *ℤ R *ℤ pos U) (Q *ℤ (pos 2460 *ℤ Q)) (C *ℤ δ′) (nonneg 2 ⊛ hR ⊛ nonneg U) (bd-* Q (pos 2460 *ℤ Q) C δ′ (s .exact) (t .near)) in
     let b = bd-+ _ _ _ _ (bd-+ _ _ _ _ e₁ e₂) (bd-+ _ _ _ _ e₃ e₄) in
     bd-cancel (pos (2 * U)) (Q *ℤ Q *ℤ (pos U +ℤ pos 4920 *ℤ R)) (pos U *ℤ (Q *ℤ Q *ℤ x -ℤ R *ℤ (C *ℤ D))) (record { lt = tt })
-    (bd-as _ _ _ _ (ring! (Q ∷ R ∷ []) (search polys depth 60 fits 100000) tt) (ring! (Q ∷ R ∷ c ∷ C ∷ d ∷ D ∷ f ∷ x ∷ []) (search polys depth 60 fits 100000) tt) b)
+    (bd-as _ _ _ _ (ring! (Q ∷ R ∷ []) (search polys depth 60 fits 100000) tt)
+    (ring! (Q ∷ R ∷ c ∷ C ∷ d ∷ D ∷ f ∷ x ∷ []) (search polys depth 60 fits 100000) tt) b)
 
 -- U times Q²·place − R·direction, in each component.
 pub place-near : (Q : ℤ) (w e : Figures) → pos 0 ≼ Q → pos 0 ≼ w .R → Faithful Q w e
@@ -114,7 +118,8 @@ abbrev pub Far : ℤ → ℤ → ℤ → Type 0
 Far k A n = (A ≼ k *ℤ n) ⊎ (k *ℤ n ≼ negℤ A)
 
 -- So is a rounded product with a cosine of size at least 0.69, with 0.69 A less a half for A.
-far-rounded : (k A n c : ℤ) → pos 0 ≼ k → pos 0 ≼ A → Far k A n → Far (pos 1) (pos 690000000) c → Far (pos 200 *ℤ k) (pos 138 *ℤ A -ℤ pos 100 *ℤ k) (rounded (n *ℤ c) U)
+far-rounded : (k A n c : ℤ) → pos 0 ≼ k → pos 0 ≼ A → Far k A n → Far (pos 1) (pos 690000000) c
+    → Far (pos 200 *ℤ k) (pos 138 *ℤ A -ℤ pos 100 *ℤ k) (rounded (n *ℤ c) U)
 far-rounded k A n c hk hA f g = go f g
   where
     r : ℤ
@@ -141,7 +146,8 @@ far-le k A n l hk (inl h) b = cert! (k ∷ A ∷ n ∷ l ∷ []) 0 (gap h ⊞ hk
 far-le k A n l hk (inr h) b = cert! (k ∷ A ∷ n ∷ l ∷ []) 0 (gap h ⊞ hk ⊛ gap (b .low)) (search polys depth 60 fits 100000) tt
 
 -- l is at least each component of the place.
-pub long : (l : ℤ) (w : Figures) → pos 10000000000 ≼ w .R → One-far (w .cosB) (w .sinB) → One-far (w .cosL) (w .sinL) → Bd³ l (placed w) → pos 47 *ℤ w .R ≼ pos 100 *ℤ l
+pub long : (l : ℤ) (w : Figures) → pos least-radius ≼ w .R → One-far (w .cosB) (w .sinB) → One-far (w .cosL) (w .sinL) → Bd³ l (placed w)
+    → pos 47 *ℤ w .R ≼ pos 100 *ℤ l
 unfolding placed
 long l w hR fB fL b = goB fB
   where
@@ -156,7 +162,8 @@ long l w hR fB fL b = goB fB
 
     goB : One-far (w .cosB) (w .sinB) → pos 47 *ℤ R ≼ pos 100 *ℤ l
     goB (inr h) =
-        let a = far-le (pos 200 *ℤ pos 1) (pos 138 *ℤ R -ℤ pos 100 *ℤ pos 1) (rounded (R *ℤ w .sinB) U) l (nonneg 200) (far-rounded (pos 1) R R (w .sinB) (nonneg 1) R₀ start h) (b .z) in
+        let a = far-le (pos 200 *ℤ pos 1) (pos 138 *ℤ R -ℤ pos 100 *ℤ pos 1) (rounded (R *ℤ w .sinB) U) l (nonneg 200)
+        (far-rounded (pos 1) R R (w .sinB) (nonneg 1) R₀ start h) (b .z) in
         cert! (R ∷ l ∷ []) 1 (gap a ⊞ 44 · gap hR) (search polys depth 60 fits 100000) tt
     goB (inl h) = goL fL
       where
@@ -171,7 +178,8 @@ long l w hR fB fL b = goB fB
 
         end : (c : ℤ) → Bd l (rounded (f *ℤ c) U) → Far (pos 1) (pos 690000000) c → pos 47 *ℤ R ≼ pos 100 *ℤ l
         end c bd g =
-            let a = far-le (pos 200 *ℤ (pos 200 *ℤ pos 1)) (pos 138 *ℤ (pos 138 *ℤ R -ℤ pos 100 *ℤ pos 1) -ℤ pos 100 *ℤ (pos 200 *ℤ pos 1)) (rounded (f *ℤ c) U) l (nonneg 40000)
+            let a = far-le (pos 200 *ℤ (pos 200 *ℤ pos 1)) (pos 138 *ℤ (pos 138 *ℤ R -ℤ pos 100 *ℤ pos 1) -ℤ pos 100 *ℤ (pos 200 *ℤ pos 1))
+            (rounded (f *ℤ c) U) l (nonneg 40000)
             (far-rounded (pos 200 *ℤ pos 1) (pos 138 *ℤ R -ℤ pos 100 *ℤ pos 1) f c (nonneg 200) A₀ flat g) bd in
             cert! (R ∷ l ∷ []) 399 (gap a ⊞ 244 · gap hR) (search polys depth 60 fits 100000) tt
 

@@ -1,4 +1,5 @@
--- The lower numbers of all fractions of the exact test are positive where those of the coordinates are, so its cross products order the fractions themselves. Assumes nothing.
+-- The lower numbers of all fractions of the exact test are positive where those of the coordinates are, so its cross products order the fractions
+-- themselves. Assumes nothing.
 use Prim.Native.Nat.{ℕ, _*_, _^_, _<_}
 use native.Mathlib.Omega.{arith}
 use lib.Dec.{ltb→lt}
@@ -20,22 +21,22 @@ pub record Positive-coordinates (c : Exact-coordinates) : Type 0 where
   pub latitude : Positive (c .latitude)
   pub radius : Positive (c .radius)
 
-pub record Positive-vector (v : Vectorᶠ) : Type 0 where
+record Positive-vector (v : Vectorᶠ) : Type 0 where
   pub x : Positive (v .x)
   pub y : Positive (v .y)
   pub z : Positive (v .z)
 
 -- ---- Products, sums, cosines and sines.
 
-pub positive-* : (f g : Fraction) → Positive f → Positive g → Positive (f *ᶠ g)
+positive-* : (f g : Fraction) → Positive f → Positive g → Positive (f *ᶠ g)
 unfolding _*ᶠ_
 positive-* f g h k = product-pos (f .lower) (g .lower) h k
 
-pub positive-+ : (f g : Fraction) → Positive f → Positive g → Positive (f +ᶠ g)
+positive-+ : (f g : Fraction) → Positive f → Positive g → Positive (f +ᶠ g)
 unfolding _+ᶠ_
 positive-+ f g h k = product-pos (f .lower) (g .lower) h k
 
-pub positive-neg : (f : Fraction) → Positive f → Positive (negᶠ f)
+positive-neg : (f : Fraction) → Positive f → Positive (negᶠ f)
 unfolding negᶠ
 positive-neg f h = h
 
@@ -43,33 +44,35 @@ magnitude : (n : ℤ) → pos 0 ≺ n → 0 < parts * natAbs n
 magnitude (pos n) h = omega (arith, ltb→lt 0 n (h .lt))
 magnitude (negsuc n) h = absurd (h .lt)
 
-pub positive-cos : (f : Fraction) → Positive f → Positive (cosᶠ f)
+positive-cos : (f : Fraction) → Positive f → Positive (cosᶠ f)
 unfolding cosᶠ
 positive-cos f h = cosine-unit (f .upper) (parts * natAbs (f .lower)) (magnitude (f .lower) h) .positive
 
-pub positive-sin : (f : Fraction) → Positive f → Positive (sinᶠ f)
+positive-sin : (f : Fraction) → Positive f → Positive (sinᶠ f)
 unfolding sinᶠ
 positive-sin f h = sine-unit (f .upper) (parts * natAbs (f .lower)) (magnitude (f .lower) h) .positive
 
 -- ---- The vectors of the test, and what it compares.
 
-pub positive-place : (c : Exact-coordinates) → Positive-coordinates c → Positive-vector (exact-place c)
+positive-place : (c : Exact-coordinates) → Positive-coordinates c → Positive-vector (exact-place c)
 unfolding exact-place
 positive-place c h =
-    let near : Positive (c .radius *ᶠ cosᶠ (c .latitude)) = positive-* (c .radius) (cosᶠ (c .latitude)) (h .radius) (positive-cos (c .latitude) (h .latitude)) in
+    let near : Positive (c .radius *ᶠ cosᶠ (c .latitude)) =
+    positive-* (c .radius) (cosᶠ (c .latitude)) (h .radius) (positive-cos (c .latitude) (h .latitude)) in
     record {
       x = positive-* (c .radius *ᶠ cosᶠ (c .latitude)) (cosᶠ (c .longitude)) near (positive-cos (c .longitude) (h .longitude));
       y = positive-* (c .radius *ᶠ cosᶠ (c .latitude)) (sinᶠ (c .longitude)) near (positive-sin (c .longitude) (h .longitude));
       z = positive-* (c .radius) (sinᶠ (c .latitude)) (h .radius) (positive-sin (c .latitude) (h .latitude));
     }
 
-pub positive-sun : (earth : Exact-coordinates) → Positive-coordinates earth → Positive-vector (exact-sun earth)
+positive-sun : (earth : Exact-coordinates) → Positive-coordinates earth → Positive-vector (exact-sun earth)
 unfolding exact-sun
 positive-sun earth h =
     let p = positive-place earth h in
     record { x = positive-neg (exact-place earth .x) (p .x); y = positive-neg (exact-place earth .y) (p .y); z = positive-neg (exact-place earth .z) (p .z) }
 
-pub positive-geocentric : (planet earth : Exact-coordinates) → Positive-coordinates planet → Positive-coordinates earth → Positive-vector (exact-geocentric planet earth)
+positive-geocentric : (planet earth : Exact-coordinates) → Positive-coordinates planet → Positive-coordinates earth
+    → Positive-vector (exact-geocentric planet earth)
 unfolding exact-geocentric
 positive-geocentric planet earth h k =
     let p = positive-place planet h in
@@ -80,14 +83,14 @@ positive-geocentric planet earth h k =
       z = positive-+ (exact-place planet .z) (negᶠ (exact-place earth .z)) (p .z) (positive-neg (exact-place earth .z) (s .z));
     }
 
-pub positive-dot : (a b : Vectorᶠ) → Positive-vector a → Positive-vector b → Positive (dotᶠ a b)
+positive-dot : (a b : Vectorᶠ) → Positive-vector a → Positive-vector b → Positive (dotᶠ a b)
 unfolding dotᶠ
 positive-dot a b h k =
     positive-+ (a .x *ᶠ b .x +ᶠ a .y *ᶠ b .y) (a .z *ᶠ b .z)
     (positive-+ (a .x *ᶠ b .x) (a .y *ᶠ b .y) (positive-* (a .x) (b .x) (h .x) (k .x)) (positive-* (a .y) (b .y) (h .y) (k .y)))
     (positive-* (a .z) (b .z) (h .z) (k .z))
 
-pub positive-arcminutes : (k : ℕ) → Positive (cosine-of-arcminutes k)
+positive-arcminutes : (k : ℕ) → Positive (cosine-of-arcminutes k)
 unfolding cosine-of-arcminutes
 positive-arcminutes k = cosine-unit (pos (k * two-pi)) (arcminutes * 10 ^ 30) (omega arith) .positive
 
@@ -99,7 +102,8 @@ pub record Positive-test (k : ℕ) (sun planet : Vectorᶠ) : Type 0 where
   pub left : Positive (cosine-of-arcminutes k *ᶠ cosine-of-arcminutes k *ᶠ (dotᶠ sun sun *ᶠ dotᶠ planet planet))
   pub right : Positive (dotᶠ sun planet *ᶠ dotᶠ sun planet)
 
-pub positive-test : (k : ℕ) (planet earth : Exact-coordinates) → Positive-coordinates planet → Positive-coordinates earth → Positive-test k (exact-sun earth) (exact-geocentric planet earth)
+pub positive-test : (k : ℕ) (planet earth : Exact-coordinates) → Positive-coordinates planet → Positive-coordinates earth
+    → Positive-test k (exact-sun earth) (exact-geocentric planet earth)
 positive-test k planet earth h e =
     let s = exact-sun earth in
     let p = exact-geocentric planet earth in

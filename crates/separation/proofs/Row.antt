@@ -15,6 +15,7 @@ pub record Row (c : Fraction) (g t t′ : ℤ) : Type 0 where
   pub positive : pos 0 ≺ c .upper
   pub some : pos 0 ≼ g
   pub at-most : c .upper ≼ c .lower
-  pub sines : pos 1001 *ℤ pos (U * U) *ℤ (c .lower *ℤ c .lower -ℤ c .upper *ℤ c .upper) +ℤ pos 7000 *ℤ eps *ℤ eps *ℤ c .lower *ℤ c .lower ≼ pos 1000 *ℤ g *ℤ g *ℤ c .lower *ℤ c .lower
+  pub sines : pos 1001 *ℤ pos (U * U) *ℤ (c .lower *ℤ c .lower -ℤ c .upper *ℤ c .upper) +ℤ pos 7000 *ℤ eps *ℤ eps *ℤ c .lower *ℤ c .lower
+      ≼ pos 1000 *ℤ g *ℤ g *ℤ c .lower *ℤ c .lower
   pub reached : pos 2 *ℤ (c .lower -ℤ c .upper) *ℤ pos (2 * U * U + 8 * U) +ℤ (pos 7 *ℤ eps *ℤ g +ℤ pos 20 *ℤ eps *ℤ eps) *ℤ c .lower ≼ pos 2 *ℤ t *ℤ c .lower
   pub cleared : (pos 2 *ℤ t′ +ℤ pos 7 *ℤ eps *ℤ g +ℤ pos 20 *ℤ eps *ℤ eps) *ℤ c .lower ≼ pos 2 *ℤ (c .lower -ℤ c .upper) *ℤ pos (2 * U * U - 8 * U)

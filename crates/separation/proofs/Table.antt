@@ -37,10 +37,13 @@ quick-is k = reference-is (pos (k * two-pi)) (arcminutes * 10 ^ 30)
 -- ---- One row: six comparisons.
 
 unfoldable sines : Fraction → ℤ → Bool
-sines c g = leZ (pos 1001 *ℤ pos (U * U) *ℤ (c .lower *ℤ c .lower -ℤ c .upper *ℤ c .upper) +ℤ pos 7000 *ℤ eps *ℤ eps *ℤ c .lower *ℤ c .lower) (pos 1000 *ℤ g *ℤ g *ℤ c .lower *ℤ c .lower)
+sines c g =
+    leZ (pos 1001 *ℤ pos (U * U) *ℤ (c .lower *ℤ c .lower -ℤ c .upper *ℤ c .upper) +ℤ pos 7000 *ℤ eps *ℤ eps *ℤ c .lower *ℤ c .lower)
+    (pos 1000 *ℤ g *ℤ g *ℤ c .lower *ℤ c .lower)
 
 unfoldable reached : Fraction → ℤ → ℤ → Bool
-reached c g t = leZ (pos 2 *ℤ (c .lower -ℤ c .upper) *ℤ pos (2 * U * U + 8 * U) +ℤ (pos 7 *ℤ eps *ℤ g +ℤ pos 20 *ℤ eps *ℤ eps) *ℤ c .lower) (pos 2 *ℤ t *ℤ c .lower)
+reached c g t =
+    leZ (pos 2 *ℤ (c .lower -ℤ c .upper) *ℤ pos (2 * U * U + 8 * U) +ℤ (pos 7 *ℤ eps *ℤ g +ℤ pos 20 *ℤ eps *ℤ eps) *ℤ c .lower) (pos 2 *ℤ t *ℤ c .lower)
 
 unfoldable cleared : Fraction → ℤ → ℤ → Bool
 cleared c g t = leZ ((pos 2 *ℤ t +ℤ pos 7 *ℤ eps *ℤ g +ℤ pos 20 *ℤ eps *ℤ eps) *ℤ c .lower) (pos 2 *ℤ (c .lower -ℤ c .upper) *ℤ pos (2 * U * U - 8 * U))
@@ -76,15 +79,18 @@ row-of c g t t′ h =
 -- ---- The test itself, in three parts: one declaration may take only so many steps.
 
 test₁ : T (all row-at 900 60)
-unfolding floor rounded modulo q-of r-of w-of y-of horner even-part odd-part cosine-by sine-by working-sine sine ref-q ref-r low-by-quarter low up C-up C-low S-up S-low f-up f-low quick threshold witness sines reached cleared range limits row row-at
+unfolding floor rounded modulo q-of r-of w-of y-of horner even-part odd-part cosine-by sine-by working-sine sine ref-q ref-r low-by-quarter low up
+    C-up C-low S-up S-low f-up f-low quick threshold witness sines reached cleared range limits row row-at
 test₁ = tt
 
 test₂ : T (all row-at 900 960)
-unfolding floor rounded modulo q-of r-of w-of y-of horner even-part odd-part cosine-by sine-by working-sine sine ref-q ref-r low-by-quarter low up C-up C-low S-up S-low f-up f-low quick threshold witness sines reached cleared range limits row row-at
+unfolding floor rounded modulo q-of r-of w-of y-of horner even-part odd-part cosine-by sine-by working-sine sine ref-q ref-r low-by-quarter low up
+    C-up C-low S-up S-low f-up f-low quick threshold witness sines reached cleared range limits row row-at
 test₂ = tt
 
 test₃ : T (all row-at 843 1860)
-unfolding floor rounded modulo q-of r-of w-of y-of horner even-part odd-part cosine-by sine-by working-sine sine ref-q ref-r low-by-quarter low up C-up C-low S-up S-low f-up f-low quick threshold witness sines reached cleared range limits row row-at
+unfolding floor rounded modulo q-of r-of w-of y-of horner even-part odd-part cosine-by sine-by working-sine sine ref-q ref-r low-by-quarter low up
+    C-up C-low S-up S-low f-up f-low quick threshold witness sines reached cleared range limits row row-at
 test₃ = tt
 
 passed : (k : ℕ) → least-keep-out ≤ k → k ≤ greatest-keep-out + 2 → T (row-at k)
@@ -97,4 +103,6 @@ passed k h l = go (decLe 960 k) (decLe 1860 k)
 
 pub table : (k : ℕ) → least-keep-out ≤ k → k ≤ greatest-keep-out + 2 → Row (cosine-of-arcminutes k) (witness k) (threshold k) (threshold (k - 2))
 unfolding row-at
-table k h l = subst (λ (c : Fraction). Row c (witness k) (threshold k) (threshold (k - 2))) (quick-is k) (row-of (quick k) (witness k) (threshold k) (threshold (k - 2)) (passed k h l))
+table k h l =
+    subst (λ (c : Fraction). Row c (witness k) (threshold k) (threshold (k - 2))) (quick-is k)
+    (row-of (quick k) (witness k) (threshold k) (threshold (k - 2)) (passed k h l))

@@ -9,7 +9,7 @@ use Rattle.integers.proofs.Order.{≼-or-≺, ≺-≼, cert*! }
 use Rattle.integers.proofs.Bounds.{Bd}
 use Rattle.rectangular.specs.declared.Vector.{Vector}
 use Rattle.rectangular.specs.Vectors.{geocentric}
-use Rattle.separation.proofs.Form.{dot, scl, sub, form, Bd³, turned, form-comm, moved, product-bd}
+use Rattle.separation.proofs.Form.{dot, scl, sub, form, Bd³, apart-scaled, form-comm, moved, product-bd}
 
 -- ---- F of nearby vectors.
 
@@ -17,10 +17,11 @@ small-part : (up low η ζ e f : ℤ) → pos 0 ≼ up → up ≼ low → Bd η 
     → pos 0 ≼ low *ℤ ((η +ℤ ζ) *ℤ (η +ℤ ζ)) +ℤ pos 2 *ℤ low *ℤ (e *ℤ f) -ℤ up *ℤ (e *ℤ e +ℤ f *ℤ f)
 small-part up low η ζ e f hu hl he hf =
     cert! (up ∷ low ∷ η ∷ ζ ∷ e ∷ f ∷ []) 0
-    ((hu ⊞ gap hl) ⊛ (gap (he .low) ⊛ gap (hf .low) ⊞ gap (he .high) ⊛ gap (hf .high)) ⊞ gap hl ⊛ (sqr η ⊞ sqr ζ) ⊞ hu ⊛ (gap (he .low) ⊛ gap (he .high) ⊞ gap (hf .low) ⊛ gap (hf .high)))
+    ((hu ⊞ gap hl) ⊛ (gap (he .low) ⊛ gap (hf .low) ⊞ gap (he .high) ⊛ gap (hf .high)) ⊞ gap hl ⊛ (sqr η ⊞ sqr ζ)
+    ⊞ hu ⊛ (gap (he .low) ⊛ gap (he .high) ⊞ gap (hf .low) ⊛ gap (hf .high)))
     (search polys depth 60 fits 100000) tt
 
-pub form-small : (up low η ζ : ℤ) (e f : Vector) → pos 0 ≼ up → up ≼ low → Bd³ η e → Bd³ ζ f → negℤ (pos 3 *ℤ low *ℤ ((η +ℤ ζ) *ℤ (η +ℤ ζ))) ≼ form up low e f
+form-small : (up low η ζ : ℤ) (e f : Vector) → pos 0 ≼ up → up ≼ low → Bd³ η e → Bd³ ζ f → negℤ (pos 3 *ℤ low *ℤ ((η +ℤ ζ) *ℤ (η +ℤ ζ))) ≼ form up low e f
 unfolding dot form
 form-small up low η ζ e f hu hl we wf =
     cert! (up ∷ low ∷ η ∷ ζ ∷ e .x ∷ e .y ∷ e .z ∷ f .x ∷ f .y ∷ f .z ∷ []) 0
@@ -37,11 +38,13 @@ pub transfer : (up low H η ζ : ℤ) (a b a′ b′ : Vector) → pos 0 ≼ up 
 transfer up low H η ζ a b a′ b′ hu hl we wf hH ha hb =
     let d₁ = sub (scl low b) (scl up a) in
     let d₂ = sub (scl low a) (scl up b) in
-    let h₁ : dot d₁ d₁ ≼ H *ℤ H = subst (λ (t : ℤ). t ≼ H *ℤ H) (sym (turned up low a b)) hb in
+    let h₁ : dot d₁ d₁ ≼ H *ℤ H = subst (λ (t : ℤ). t ≼ H *ℤ H) (sym (apart-scaled up low a b)) hb in
     let h₂ : dot d₂ d₂ ≼ H *ℤ H =
-    subst (λ (t : ℤ). t ≼ H *ℤ H) (sym (turned up low b a)) (subst (λ (t : ℤ). (low *ℤ low -ℤ up *ℤ up) *ℤ dot a a -ℤ up *ℤ t ≼ H *ℤ H) (form-comm up low a b) ha) in
+    subst (λ (t : ℤ). t ≼ H *ℤ H) (sym (apart-scaled up low b a))
+    (subst (λ (t : ℤ). (low *ℤ low -ℤ up *ℤ up) *ℤ dot a a -ℤ up *ℤ t ≼ H *ℤ H) (form-comm up low a b) ha) in
     final (form up low a b) (form up low a′ b′) (dot (sub a′ a) d₁) (dot (sub b′ b) d₂) (form up low (sub a′ a) (sub b′ b))
-    (moved up low a b a′ b′) (product-bd η H (sub a′ a) d₁ we hH h₁ .low) (product-bd ζ H (sub b′ b) d₂ wf hH h₂ .low) (form-small up low η ζ (sub a′ a) (sub b′ b) hu hl we wf)
+    (moved up low a b a′ b′) (product-bd η H (sub a′ a) d₁ we hH h₁ .low) (product-bd ζ H (sub b′ b) d₂ wf hH h₂ .low)
+    (form-small up low η ζ (sub a′ a) (sub b′ b) hu hl we wf)
   where
     final : (F F′ p q r : ℤ) → F′ ≡ F +ℤ pos 2 *ℤ p +ℤ pos 2 *ℤ q +ℤ r → negℤ (pos 7 *ℤ η *ℤ H) ≼ pos 4 *ℤ p → negℤ (pos 7 *ℤ ζ *ℤ H) ≼ pos 4 *ℤ q
         → negℤ (pos 3 *ℤ low *ℤ ((η +ℤ ζ) *ℤ (η +ℤ ζ))) ≼ r
@@ -109,9 +112,11 @@ length-low η H a a′ w hH h =
     (gap (product-bd η H (sub a′ a) a w hH h .low) ⊞ 2 · (sqr (a′ .x -ℤ a .x) ⊞ sqr (a′ .y -ℤ a .y) ⊞ sqr (a′ .z -ℤ a .z)))
     (search polys depth 60 fits 100000) tt
 
-pub length-high : (η H : ℤ) (a a′ : Vector) → Bd³ η (sub a′ a) → pos 0 ≼ H → dot a a ≼ H *ℤ H → pos 2 *ℤ dot a′ a′ ≼ pos 2 *ℤ dot a a +ℤ pos 7 *ℤ η *ℤ H +ℤ pos 6 *ℤ (η *ℤ η)
+pub length-high : (η H : ℤ) (a a′ : Vector) → Bd³ η (sub a′ a) → pos 0 ≼ H → dot a a ≼ H *ℤ H
+    → pos 2 *ℤ dot a′ a′ ≼ pos 2 *ℤ dot a a +ℤ pos 7 *ℤ η *ℤ H +ℤ pos 6 *ℤ (η *ℤ η)
 unfolding dot geocentric
 length-high η H a a′ w hH h =
     cert! (η ∷ H ∷ a .x ∷ a .y ∷ a .z ∷ a′ .x ∷ a′ .y ∷ a′ .z ∷ []) 0
-    (gap (product-bd η H (sub a′ a) a w hH h .high) ⊞ 2 · (gap (w .x .low) ⊛ gap (w .x .high) ⊞ gap (w .y .low) ⊛ gap (w .y .high) ⊞ gap (w .z .low) ⊛ gap (w .z .high)))
+    (gap (product-bd η H (sub a′ a) a w hH h .high)
+    ⊞ 2 · (gap (w .x .low) ⊛ gap (w .x .high) ⊞ gap (w .y .low) ⊛ gap (w .y .high) ⊞ gap (w .z .low) ⊛ gap (w .z .high)))
     (search polys depth 60 fits 100000) tt

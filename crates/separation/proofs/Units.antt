@@ -17,7 +17,7 @@ use Rattle.units.specs.Units.{U}
 use Rattle.rectangular.specs.declared.Vector.{Vector}
 use Rattle.rectangular.specs.Vectors.{geocentric, squared, length, unit}
 use Rattle.separation.proofs.Form.{dot, scl, sub, Bd³, root-bd, product-bd}
-use Rattle.separation.proofs.Sizes.{Unit³}
+use Rattle.separation.proofs.Lengths.{Unit³}
 
 -- Rounded U·component over l.
 unfoldable pub unit-over : ℕ → Vector → Vector
@@ -33,11 +33,13 @@ natAbs-of : (z : ℤ) → pos 0 ≼ z → pos (natAbs z) ≡ z
 natAbs-of (pos n) h = refl
 natAbs-of (negsuc n) h = absurd (h .le)
 
-pub length-low² : (a : Vector) → pos (length a) *ℤ pos (length a) ≼ dot a a
+length-low² : (a : Vector) → pos (length a) *ℤ pos (length a) ≼ dot a a
 unfolding length squared dot
-length-low² a = subst (λ (t : ℤ). pos (root (natAbs (dot a a)) * root (natAbs (dot a a))) ≼ t) (natAbs-of (dot a a) (square-nonneg a)) (≼-nat _ _ (root-spec (natAbs (dot a a)) .low))
+length-low² a =
+    subst (λ (t : ℤ). pos (root (natAbs (dot a a)) * root (natAbs (dot a a))) ≼ t) (natAbs-of (dot a a) (square-nonneg a))
+    (≼-nat _ _ (root-spec (natAbs (dot a a)) .low))
 
-pub length-high² : (a : Vector) → dot a a ≼ pos (length a) *ℤ pos (length a) +ℤ pos 2 *ℤ pos (length a)
+length-high² : (a : Vector) → dot a a ≼ pos (length a) *ℤ pos (length a) +ℤ pos 2 *ℤ pos (length a)
 unfolding length squared dot
 length-high² a =
     let r = root (natAbs (dot a a)) in
@@ -64,22 +66,25 @@ expand l u a = ring! (l ∷ u .x ∷ u .y ∷ u .z ∷ a .x ∷ a .y ∷ a .z �
 square-high : (η : ℤ) (r : Vector) → Bd³ η r → dot r r ≼ pos 3 *ℤ (η *ℤ η)
 unfolding dot
 square-high η r w =
-    cert! (η ∷ r .x ∷ r .y ∷ r .z ∷ []) 0 (gap (w .x .low) ⊛ gap (w .x .high) ⊞ gap (w .y .low) ⊛ gap (w .y .high) ⊞ gap (w .z .low) ⊛ gap (w .z .high)) (search polys depth 60 fits 100000) tt
+    cert! (η ∷ r .x ∷ r .y ∷ r .z ∷ []) 0 (gap (w .x .low) ⊛ gap (w .x .high) ⊞ gap (w .y .low) ⊛ gap (w .y .high) ⊞ gap (w .z .low) ⊛ gap (w .z .high))
+    (search polys depth 60 fits 100000) tt
 
 -- Over plain numbers: q = |u|², X = |a|², m = 4(2r·a), e = |2r|².
 high-end : (l q X m e : ℤ) → pos U ≼ l → X ≼ l *ℤ l +ℤ pos 2 *ℤ l → m ≼ pos 7 *ℤ l *ℤ (l +ℤ pos 1) → e ≼ pos 3 *ℤ (l *ℤ l)
     → pos 4 *ℤ (l *ℤ l *ℤ q) ≡ pos 4 *ℤ (pos (U * U) *ℤ X) +ℤ pos U *ℤ m +ℤ e → q ≼ pos (U * U + 4 * U)
 high-end l q X m e hl hX hm he eq =
     cert*! (l ∷ q ∷ X ∷ m ∷ e ∷ []) (pos 4 *ℤ (l *ℤ l)) (cert<! (l ∷ []) 0 (4 · (gap hl ⊛ gap hl) ⊞ 8000000000 · gap hl) (search polys depth 60 fits 100000) tt)
-    (gap≡ eq ⊞ 4000000000000000000 · gap hX ⊞ 1000000000 · gap hm ⊞ gap he ⊞ 8999999997 · (gap hl ⊛ gap hl) ⊞ 9999999987000000000 · gap hl ⊞ nonneg 999999990000000000000000000) (search polys depth 60 fits 100000) tt
+    (gap≡ eq ⊞ 4000000000000000000 · gap hX ⊞ 1000000000 · gap hm ⊞ gap he ⊞ 8999999997 · (gap hl ⊛ gap hl) ⊞ 9999999987000000000 · gap hl
+    ⊞ nonneg 999999990000000000000000000) (search polys depth 60 fits 100000) tt
 
 low-end : (l q X m e : ℤ) → pos U ≼ l → l *ℤ l ≼ X → negℤ (pos 7 *ℤ l *ℤ (l +ℤ pos 1)) ≼ m → pos 0 ≼ e
     → pos 4 *ℤ (l *ℤ l *ℤ q) ≡ pos 4 *ℤ (pos (U * U) *ℤ X) +ℤ pos U *ℤ m +ℤ e → pos (U * U) ≼ q +ℤ pos (4 * U)
 low-end l q X m e hl hX hm he eq =
     cert*! (l ∷ q ∷ X ∷ m ∷ e ∷ []) (pos 4 *ℤ (l *ℤ l)) (cert<! (l ∷ []) 0 (4 · (gap hl ⊛ gap hl) ⊞ 8000000000 · gap hl) (search polys depth 60 fits 100000) tt)
-    (gap≡ (sym eq) ⊞ 4000000000000000000 · gap hX ⊞ 1000000000 · gap hm ⊞ he ⊞ 9000000000 · (gap hl ⊛ gap hl) ⊞ 17999999993000000000 · gap hl ⊞ nonneg 8999999993000000000000000000) (search polys depth 60 fits 100000) tt
+    (gap≡ (sym eq) ⊞ 4000000000000000000 · gap hX ⊞ 1000000000 · gap hm ⊞ he ⊞ 9000000000 · (gap hl ⊛ gap hl) ⊞ 17999999993000000000 · gap hl
+    ⊞ nonneg 8999999993000000000000000000) (search polys depth 60 fits 100000) tt
 
-pub unit-over-is : (l : ℕ) (a : Vector) → pos U ≼ pos l → pos l *ℤ pos l ≼ dot a a → dot a a ≼ pos l *ℤ pos l +ℤ pos 2 *ℤ pos l → Unit³ (unit-over l a)
+unit-over-is : (l : ℕ) (a : Vector) → pos U ≼ pos l → pos l *ℤ pos l ≼ dot a a → dot a a ≼ pos l *ℤ pos l +ℤ pos 2 *ℤ pos l → Unit³ (unit-over l a)
 unit-over-is l a hl lo hi =
     let u = unit-over l a in
     let r = scl (pos 2) (sub (scl (pos l) u) (scl (pos U) a)) in
@@ -88,8 +93,12 @@ unit-over-is l a hl lo hi =
     let h : dot a a ≼ (pos l +ℤ pos 1) *ℤ (pos l +ℤ pos 1) = cert! (pos l ∷ dot a a ∷ []) 0 (gap hi) (search polys depth 60 fits 100000) tt in
     let k : pos 0 ≼ pos l +ℤ pos 1 = nonneg (l + 1) in
     record {
-      least = low-end (pos l) (dot u u) (dot a a) (pos 4 *ℤ dot r a) (dot r r) hl lo (product-bd (pos l) (pos l +ℤ pos 1) r a w k h .low) (square-nonneg r) (expand (pos l) u a);
-      most = high-end (pos l) (dot u u) (dot a a) (pos 4 *ℤ dot r a) (dot r r) hl hi (product-bd (pos l) (pos l +ℤ pos 1) r a w k h .high) (square-high (pos l) r w) (expand (pos l) u a);
+      least =
+          low-end (pos l) (dot u u) (dot a a) (pos 4 *ℤ dot r a) (dot r r) hl lo (product-bd (pos l) (pos l +ℤ pos 1) r a w k h .low) (square-nonneg r)
+          (expand (pos l) u a);
+      most =
+          high-end (pos l) (dot u u) (dot a a) (pos 4 *ℤ dot r a) (dot r r) hl hi (product-bd (pos l) (pos l +ℤ pos 1) r a w k h .high)
+          (square-high (pos l) r w) (expand (pos l) u a);
     }
   where
     above : (l : ℕ) → pos U ≼ pos l → 0 < l

@@ -12,9 +12,10 @@ use Rattle.units.specs.Units.{U}
 use Rattle.rectangular.specs.declared.Vector.{Vector}
 use Rattle.rectangular.specs.Vectors.{geocentric, sun}
 use Rattle.separation.specs.Exact.{Exact-coordinates, cosᶠ, sinᶠ, exact-place, exact-sun, exact-geocentric}
+use Rattle.separation.specs.machine.Near.{tolerance}
 use Rattle.separation.proofs.Form.{scl}
 use Rattle.separation.proofs.WholeTest.{Over³}
-use Rattle.separation.proofs.Places.{Figures, Seen, Faithful, toward, whole-place}
+use Rattle.separation.proofs.Places.{Figures, Cosine-pair, Faithful, toward, whole-place}
 
 -- ---- One fraction: Q is m times its lower number.
 
@@ -44,36 +45,41 @@ held-right Q t f ht h = record {
 }
 
 over-held : (Q : ℤ) (f : Fraction) (h : Held Q f) → Over Q f (f .upper *ℤ h .m)
-over-held Q f h = record { low-pos = h .low-pos; same = ap (λ (q : ℤ). f .upper *ℤ q) (sym (h .is)) ∙ ring! (f .upper ∷ f .lower ∷ h .m ∷ []) (search polys depth 60 fits 100000) tt }
+over-held Q f h = record {
+  low-pos = h .low-pos;
+  same = ap (λ (q : ℤ). f .upper *ℤ q) (sym (h .is)) ∙ ring! (f .upper ∷ f .lower ∷ h .m ∷ []) (search polys depth 60 fits 100000) tt;
+}
 
 -- The fraction and x/U differ by at most A/U: the same over Q.
-bd-held : (Q A x : ℤ) (f : Fraction) (h : Held Q f) → Bd (A *ℤ f .lower) (x *ℤ f .lower -ℤ pos U *ℤ f .upper) → Bd (A *ℤ Q) (x *ℤ Q -ℤ pos U *ℤ (f .upper *ℤ h .m))
+bd-held : (Q A x : ℤ) (f : Fraction) (h : Held Q f) → Bd (A *ℤ f .lower) (x *ℤ f .lower -ℤ pos U *ℤ f .upper)
+    → Bd (A *ℤ Q) (x *ℤ Q -ℤ pos U *ℤ (f .upper *ℤ h .m))
 bd-held Q A x f h b =
     subst (λ (q : ℤ). Bd (A *ℤ q) (x *ℤ q -ℤ pos U *ℤ (f .upper *ℤ h .m))) (h .is)
-    (bd-as _ _ _ _ (ring! (A ∷ f .lower ∷ h .m ∷ []) (search polys depth 60 fits 100000) tt) (ring! (x ∷ f .lower ∷ f .upper ∷ h .m ∷ []) (search polys depth 60 fits 100000) tt)
+    (bd-as _ _ _ _ (ring! (A ∷ f .lower ∷ h .m ∷ []) (search polys depth 60 fits 100000) tt)
+    (ring! (x ∷ f .lower ∷ f .upper ∷ h .m ∷ []) (search polys depth 60 fits 100000) tt)
     (bd-* (A *ℤ f .lower) (h .m) (x *ℤ f .lower -ℤ pos U *ℤ f .upper) (h .m) b (bd-self (h .m) (≺-≼ (h .m-pos)))))
 
 -- ---- The five figures of which an exact place is made.
 
-pub record Five : Type 0 where
+pub record Exact-figures : Type 0 where
   pub R : Fraction
   pub cosB : Fraction
   pub sinB : Fraction
   pub cosL : Fraction
   pub sinL : Fraction
 
-unfoldable pub five-of : Exact-coordinates → Five
-five-of c = record { R = c .radius; cosB = cosᶠ (c .latitude); sinB = sinᶠ (c .latitude); cosL = cosᶠ (c .longitude); sinL = sinᶠ (c .longitude) }
+unfoldable pub exact-figures : Exact-coordinates → Exact-figures
+exact-figures c = record { R = c .radius; cosB = cosᶠ (c .latitude); sinB = sinᶠ (c .latitude); cosL = cosᶠ (c .longitude); sinL = sinᶠ (c .longitude) }
 
-pub record Held⁵ (Q : ℤ) (e : Five) : Type 0 where
+pub record Held-figures (Q : ℤ) (e : Exact-figures) : Type 0 where
   pub R : Held Q (e .R)
   pub cosB : Held Q (e .cosB)
   pub sinB : Held Q (e .sinB)
   pub cosL : Held Q (e .cosL)
   pub sinL : Held Q (e .sinL)
 
-pub left⁵ : (Q t : ℤ) (e : Five) → pos 0 ≺ t → Held⁵ Q e → Held⁵ (Q *ℤ t) e
-left⁵ Q t e ht h = record {
+pub held-left-all : (Q t : ℤ) (e : Exact-figures) → pos 0 ≺ t → Held-figures Q e → Held-figures (Q *ℤ t) e
+held-left-all Q t e ht h = record {
   R = held-left Q t (e .R) ht (h .R);
   cosB = held-left Q t (e .cosB) ht (h .cosB);
   sinB = held-left Q t (e .sinB) ht (h .sinB);
@@ -81,8 +87,8 @@ left⁵ Q t e ht h = record {
   sinL = held-left Q t (e .sinL) ht (h .sinL);
 }
 
-pub right⁵ : (Q t : ℤ) (e : Five) → pos 0 ≺ t → Held⁵ Q e → Held⁵ (t *ℤ Q) e
-right⁵ Q t e ht h = record {
+pub held-right-all : (Q t : ℤ) (e : Exact-figures) → pos 0 ≺ t → Held-figures Q e → Held-figures (t *ℤ Q) e
+held-right-all Q t e ht h = record {
   R = held-right Q t (e .R) ht (h .R);
   cosB = held-right Q t (e .cosB) ht (h .cosB);
   sinB = held-right Q t (e .sinB) ht (h .sinB);
@@ -98,23 +104,23 @@ pub record Near (x : ℤ) (f : Fraction) : Type 0 where
   pub near : Bd (pos 2460 *ℤ f .lower) (x *ℤ f .lower -ℤ pos U *ℤ f .upper)
 
 -- The working figures of a body are near the exact ones: R within 2·10⁵ parts.
-pub record Near⁵ (w : Figures) (e : Five) : Type 0 where
+pub record Near-figures (w : Figures) (e : Exact-figures) : Type 0 where
   pub R-pos : pos 0 ≺ e .R .lower
-  pub R : Bd (pos 200000 *ℤ e .R .lower) (e .R .lower *ℤ w .R -ℤ e .R .upper)
+  pub R : Bd (pos tolerance *ℤ e .R .lower) (e .R .lower *ℤ w .R -ℤ e .R .upper)
   pub cosB : Near (w .cosB) (e .cosB)
   pub sinB : Near (w .sinB) (e .sinB)
   pub cosL : Near (w .cosL) (e .cosL)
   pub sinL : Near (w .sinL) (e .sinL)
 
 -- The product of the five lower numbers holds them all.
-abbrev pub product : Five → ℤ
+abbrev pub product : Exact-figures → ℤ
 product e = e .R .lower *ℤ (e .cosB .lower *ℤ (e .sinB .lower *ℤ (e .cosL .lower *ℤ e .sinL .lower)))
 
-pub product-positive : (w : Figures) (e : Five) → Near⁵ w e → pos 0 ≺ product e
+pub product-positive : (w : Figures) (e : Exact-figures) → Near-figures w e → pos 0 ≺ product e
 product-positive w e h =
     product-pos _ _ (h .R-pos) (product-pos _ _ (h .cosB .low-pos) (product-pos _ _ (h .sinB .low-pos) (product-pos _ _ (h .cosL .low-pos) (h .sinL .low-pos))))
 
-pub held : (w : Figures) (e : Five) → Near⁵ w e → Held⁵ (product e) e
+pub held : (w : Figures) (e : Exact-figures) → Near-figures w e → Held-figures (product e) e
 held w e h =
     let R₀ = h .R-pos in
     let b₀ = h .cosB .low-pos in
@@ -134,40 +140,50 @@ held w e h =
 
 -- ---- The same over Q.
 
-unfoldable pub whole : (Q : ℤ) (e : Five) → Held⁵ Q e → Figures
-whole Q e h = record { R = e .R .upper *ℤ h .R .m; cosB = e .cosB .upper *ℤ h .cosB .m; sinB = e .sinB .upper *ℤ h .sinB .m; cosL = e .cosL .upper *ℤ h .cosL .m; sinL = e .sinL .upper *ℤ h .sinL .m }
+unfoldable pub whole : (Q : ℤ) (e : Exact-figures) → Held-figures Q e → Figures
+whole Q e h = record {
+  R = e .R .upper *ℤ h .R .m;
+  cosB = e .cosB .upper *ℤ h .cosB .m;
+  sinB = e .sinB .upper *ℤ h .sinB .m;
+  cosL = e .cosL .upper *ℤ h .cosL .m;
+  sinL = e .sinL .upper *ℤ h .sinL .m;
+}
 
-seen-of : (Q x : ℤ) (f : Fraction) (h : Held Q f) → Near x f → Seen Q x (f .upper *ℤ h .m)
-seen-of Q x f h n = record {
+pair-of : (Q x : ℤ) (f : Fraction) (h : Held Q f) → Near x f → Cosine-pair Q x (f .upper *ℤ h .m)
+pair-of Q x f h n = record {
   working = n .working;
   exact = subst (λ (q : ℤ). Bd q (f .upper *ℤ h .m)) (h .is) (bd-* (f .lower) (h .m) (f .upper) (h .m) (n .size) (bd-self (h .m) (≺-≼ (h .m-pos))));
   near = bd-held Q (pos 2460) x f h (n .near);
 }
 
-radius-of : (Q r : ℤ) (f : Fraction) (h : Held Q f) → Bd (pos 200000 *ℤ f .lower) (f .lower *ℤ r -ℤ f .upper) → Bd (pos 200000 *ℤ Q) (Q *ℤ r -ℤ f .upper *ℤ h .m)
+radius-of : (Q r : ℤ) (f : Fraction) (h : Held Q f) → Bd (pos tolerance *ℤ f .lower) (f .lower *ℤ r -ℤ f .upper)
+    → Bd (pos tolerance *ℤ Q) (Q *ℤ r -ℤ f .upper *ℤ h .m)
 radius-of Q r f h b =
-    subst (λ (q : ℤ). Bd (pos 200000 *ℤ q) (q *ℤ r -ℤ f .upper *ℤ h .m)) (h .is)
-    (bd-as _ _ _ _ (ring! (f .lower ∷ h .m ∷ []) (search polys depth 60 fits 100000) tt) (ring! (r ∷ f .lower ∷ f .upper ∷ h .m ∷ []) (search polys depth 60 fits 100000) tt)
-    (bd-* (pos 200000 *ℤ f .lower) (h .m) (f .lower *ℤ r -ℤ f .upper) (h .m) b (bd-self (h .m) (≺-≼ (h .m-pos)))))
+    subst (λ (q : ℤ). Bd (pos tolerance *ℤ q) (q *ℤ r -ℤ f .upper *ℤ h .m)) (h .is)
+    (bd-as _ _ _ _ (ring! (f .lower ∷ h .m ∷ []) (search polys depth 60 fits 100000) tt)
+    (ring! (r ∷ f .lower ∷ f .upper ∷ h .m ∷ []) (search polys depth 60 fits 100000) tt)
+    (bd-* (pos tolerance *ℤ f .lower) (h .m) (f .lower *ℤ r -ℤ f .upper) (h .m) b (bd-self (h .m) (≺-≼ (h .m-pos)))))
 
-pub faithful : (Q : ℤ) (w : Figures) (e : Five) (h : Held⁵ Q e) → Near⁵ w e → Faithful Q w (whole Q e h)
+pub faithful : (Q : ℤ) (w : Figures) (e : Exact-figures) (h : Held-figures Q e) → Near-figures w e → Faithful Q w (whole Q e h)
 unfolding whole
 faithful Q w e h n = record {
   radius = radius-of Q (w .R) (e .R) (h .R) (n .R);
-  cosB = seen-of Q (w .cosB) (e .cosB) (h .cosB) (n .cosB);
-  sinB = seen-of Q (w .sinB) (e .sinB) (h .sinB) (n .sinB);
-  cosL = seen-of Q (w .cosL) (e .cosL) (h .cosL) (n .cosL);
-  sinL = seen-of Q (w .sinL) (e .sinL) (h .sinL) (n .sinL);
+  cosB = pair-of Q (w .cosB) (e .cosB) (h .cosB) (n .cosB);
+  sinB = pair-of Q (w .sinB) (e .sinB) (h .sinB) (n .sinB);
+  cosL = pair-of Q (w .cosL) (e .cosL) (h .cosL) (n .cosL);
+  sinL = pair-of Q (w .sinL) (e .sinL) (h .sinL) (n .sinL);
 }
 
 -- R cos B cos L over Q³.
 three : (Q r b l : ℤ) (R B L : Fraction) → Over Q R r → Over Q B b → Over Q L l → Over (Q *ℤ (Q *ℤ Q)) (R *ᶠ B *ᶠ L) (r *ℤ (b *ℤ l))
 three Q r b l R B L hR hB hL =
-    over-as (Q *ℤ Q *ℤ Q) (Q *ℤ (Q *ℤ Q)) (r *ℤ b *ℤ l) (r *ℤ (b *ℤ l)) (R *ᶠ B *ᶠ L) (ring! (Q ∷ []) (search polys depth 60 fits 100000) tt) (ring! (r ∷ b ∷ l ∷ []) (search polys depth 60 fits 100000) tt)
+    over-as (Q *ℤ Q *ℤ Q) (Q *ℤ (Q *ℤ Q)) (r *ℤ b *ℤ l) (r *ℤ (b *ℤ l)) (R *ᶠ B *ᶠ L) (ring! (Q ∷ []) (search polys depth 60 fits 100000) tt)
+    (ring! (r ∷ b ∷ l ∷ []) (search polys depth 60 fits 100000) tt)
     (over-* (Q *ℤ Q) Q (r *ℤ b) l (R *ᶠ B) L (over-* Q Q r b R B hR hB) hL)
 
-pub place-over : (Q : ℤ) (c : Exact-coordinates) (h : Held⁵ Q (five-of c)) → Over³ (Q *ℤ (Q *ℤ Q)) (exact-place c) (whole-place Q (whole Q (five-of c) h))
-unfolding exact-place five-of whole-place toward scl whole
+pub place-over : (Q : ℤ) (c : Exact-coordinates) (h : Held-figures Q (exact-figures c))
+    → Over³ (Q *ℤ (Q *ℤ Q)) (exact-place c) (whole-place Q (whole Q (exact-figures c) h))
+unfolding exact-place exact-figures whole-place toward scl whole
 place-over Q c h =
     let R = over-held Q (c .radius) (h .R) in
     let cB = over-held Q (cosᶠ (c .latitude)) (h .cosB) in
@@ -184,7 +200,8 @@ pub sun-over : (W : ℤ) (e : Exact-coordinates) (E : Vector) → Over³ W (exac
 unfolding exact-sun sun
 sun-over W e E h = record { x = over-neg _ _ _ (h .x); y = over-neg _ _ _ (h .y); z = over-neg _ _ _ (h .z) }
 
-pub geocentric-over : (W : ℤ) (p e : Exact-coordinates) (P E : Vector) → Over³ W (exact-place p) P → Over³ W (exact-place e) E → Over³ W (exact-geocentric p e) (geocentric P E)
+pub geocentric-over : (W : ℤ) (p e : Exact-coordinates) (P E : Vector) → Over³ W (exact-place p) P → Over³ W (exact-place e) E
+    → Over³ W (exact-geocentric p e) (geocentric P E)
 unfolding exact-geocentric geocentric
 geocentric-over W p e P E h k = record {
   x = over-+ _ _ _ _ _ (h .x) (over-neg _ _ _ (k .x));

@@ -17,14 +17,16 @@ pub record Over³ (W : ℤ) (a : Vectorᶠ) (n : Vector) : Type 0 where
   pub y : Over W (a .y) (n .y)
   pub z : Over W (a .z) (n .z)
 
-pub over-dot : (W : ℤ) (a b : Vectorᶠ) (m n : Vector) → Over³ W a m → Over³ W b n → Over (W *ℤ W) (dotᶠ a b) (dot m n)
+over-dot : (W : ℤ) (a b : Vectorᶠ) (m n : Vector) → Over³ W a m → Over³ W b n → Over (W *ℤ W) (dotᶠ a b) (dot m n)
 unfolding dot dotᶠ
 over-dot W a b m n h k =
     over-+ (W *ℤ W) (m .x *ℤ n .x +ℤ m .y *ℤ n .y) (m .z *ℤ n .z) (a .x *ᶠ b .x +ᶠ a .y *ᶠ b .y) (a .z *ᶠ b .z)
-    (over-+ (W *ℤ W) (m .x *ℤ n .x) (m .y *ℤ n .y) (a .x *ᶠ b .x) (a .y *ᶠ b .y) (over-* W W (m .x) (n .x) (a .x) (b .x) (h .x) (k .x)) (over-* W W (m .y) (n .y) (a .y) (b .y) (h .y) (k .y)))
+    (over-+ (W *ℤ W) (m .x *ℤ n .x) (m .y *ℤ n .y) (a .x *ᶠ b .x) (a .y *ᶠ b .y) (over-* W W (m .x) (n .x) (a .x) (b .x) (h .x) (k .x))
+    (over-* W W (m .y) (n .y) (a .y) (b .y) (h .y) (k .y)))
     (over-* W W (m .z) (n .z) (a .z) (b .z) (h .z) (k .z))
 
-module _ (k : ℕ) (low₀ : pos 0 ≺ cosine-of-arcminutes k .lower) (W : ℤ) (hW : pos 0 ≺ W) (s g : Vectorᶠ) (m n : Vector) (hs : Over³ W s m) (hg : Over³ W g n) where
+module _ (k : ℕ) (low₀ : pos 0 ≺ cosine-of-arcminutes k .lower) (W : ℤ) (hW : pos 0 ≺ W) (s g : Vectorᶠ) (m n : Vector) (hs : Over³ W s m)
+    (hg : Over³ W g n) where
   abbrev c : Fraction
   c = cosine-of-arcminutes k
 
@@ -35,7 +37,9 @@ module _ (k : ℕ) (low₀ : pos 0 ≺ cosine-of-arcminutes k .lower) (W : ℤ) 
   Z = c .lower *ℤ c .lower *ℤ (W *ℤ W *ℤ (W *ℤ W))
 
   Z-pos : pos 0 ≺ Z
-  Z-pos = product-pos (c .lower *ℤ c .lower) (W *ℤ W *ℤ (W *ℤ W)) (product-pos (c .lower) (c .lower) low₀ low₀) (product-pos (W *ℤ W) (W *ℤ W) (product-pos W W hW hW) (product-pos W W hW hW))
+  Z-pos =
+      product-pos (c .lower *ℤ c .lower) (W *ℤ W *ℤ (W *ℤ W)) (product-pos (c .lower) (c .lower) low₀ low₀)
+      (product-pos (W *ℤ W) (W *ℤ W) (product-pos W W hW hW) (product-pos W W hW hW))
 
   left : Over Z (c *ᶠ c *ᶠ (dotᶠ s s *ᶠ dotᶠ g g)) (c .upper *ℤ c .upper *ℤ (dot m m *ℤ dot n n))
   left =

@@ -17,7 +17,8 @@ use Rattle.limits.specs.declared.Term.{Term}
 use Rattle.packed.specs.Series.{Parsed, accepted, refused, parse}
 use Rattle.runs.specs.Runs.{run-numbers}
 use Rattle.sunlist.specs.declared.ListAnswer.the-variants.{Runs, NoList}
-use Rattle.sunlist.specs.SunList.{minute, window-fits, decision-at, first-bad, window-flags, Outcome, numbers, no-numbers, of-minutes, of-series, outcome, answered, written, sun-list, sun-list-out}
+use Rattle.sunlist.specs.SunList.{minute, window-fits, decision-at, first-bad, window-flags, Outcome, numbers, no-numbers, of-minutes, of-series}
+use Rattle.sunlist.specs.SunList.{outcome, answered, written, sun-list, sun-list-out}
 
 -- The numbers of n minutes.
 abbrev pub list-of : (planet earth : List (List Term)) → Instant → ℕ → ℕ → List ℕ

@@ -17,7 +17,7 @@ use Rattle.separation.specs.Arcminutes.{greatest-keep-out}
 use Rattle.sunlist.specs.declared.ListAnswer.{ListAnswer}
 use Rattle.sunlist.specs.declared.ListAnswer.the-variants.{NoList}
 use Rattle.sunlist.specs.SunList.{minute, most-minutes, window-fits, Outcome, no-numbers, of-series, outcome, answered, written, sun-list, sun-list-out}
-use Rattle.sunlist.specs.machine.Working.{Window}
+use Rattle.sunlist.specs.machine.Window.{Window}
 use Rattle.sunlist.proofs.Limits.{fits-is, minute-in}
 
 -- A negative number is refused as 0 is.
@@ -32,26 +32,38 @@ natural-is : (z : ℤ) → z ≡ pos (natAbs z) → natural-or z 0 ≡ natAbs z
 unfolding natural-or
 natural-is z e = ap (λ (y : ℤ). natural-or y 0) e
 
-module _ (planet earth : List ℕ) (t0 : Instant) (minutes keep-out : ℤ) (out : List ℕ) (n k : ℕ) (cm : Cell minutes ≡ minutes) (ck : Cell keep-out ≡ keep-out)
-    (hn : n ≡ natural-or (Cell minutes) 0) (hk : k ≡ natural-or (Cell keep-out) 0) (b : Bool) (hb : b ≡ window-fits (pos n) (pos k)) where
-  told : (o : Outcome) (r : ListAnswer) (now : List ℕ) → outcome planet earth t0 minutes keep-out ≡ o → r ≡ answered (length out) o → now ≡ written out o → (r ≡ sun-list planet earth t0 minutes keep-out (length out)) × (now ≡ sun-list-out planet earth t0 minutes keep-out out)
+-- What the call has made of its two figures: n and k, and whether they are in their ranges.
+pub record Figures-read (minutes keep-out : ℤ) (n k : ℕ) (fit : Bool) : Type 0 where
+  pub minutes-cell : Cell minutes ≡ minutes
+  pub keep-out-cell : Cell keep-out ≡ keep-out
+  pub n-is : n ≡ natural-or (Cell minutes) 0
+  pub k-is : k ≡ natural-or (Cell keep-out) 0
+  pub fit-is : fit ≡ window-fits (pos n) (pos k)
+
+module _ (planet earth : List ℕ) (t0 : Instant) (minutes keep-out : ℤ) (out : List ℕ) (n k : ℕ) (b : Bool) (w : Figures-read minutes keep-out n k b) where
+  -- An answer and what the output then holds are those of the definition.
+  abbrev Told : ListAnswer → List ℕ → Type 0
+  Told r now = (r ≡ sun-list planet earth t0 minutes keep-out (length out)) × (now ≡ sun-list-out planet earth t0 minutes keep-out out)
+
+  told : (o : Outcome) (r : ListAnswer) (now : List ℕ) → outcome planet earth t0 minutes keep-out ≡ o → r ≡ answered (length out) o → now ≡ written out o
+      → Told r now
   unfolding sun-list sun-list-out
   told o r now e p q = (p ∙ ap (answered (length out)) (sym e), q ∙ ap (written out) (sym e))
 
-  no-list : (x : Refusal) → outcome planet earth t0 minutes keep-out ≡ no-numbers x → (NoList x ≡ sun-list planet earth t0 minutes keep-out (length out)) × (out ≡ sun-list-out planet earth t0 minutes keep-out out)
+  no-list : (x : Refusal) → outcome planet earth t0 minutes keep-out ≡ no-numbers x → Told (NoList x) out
   unfolding answered written
   no-list x e = told (no-numbers x) (NoList x) out e refl refl
 
-  n-is : n ≡ natural-or minutes 0
-  n-is = hn ∙ ap (λ (z : ℤ). natural-or z 0) cm
+  n-natural : n ≡ natural-or minutes 0
+  n-natural = w .n-is ∙ ap (λ (z : ℤ). natural-or z 0) (w .minutes-cell)
 
-  k-is : k ≡ natural-or keep-out 0
-  k-is = hk ∙ ap (λ (z : ℤ). natural-or z 0) ck
+  k-natural : k ≡ natural-or keep-out 0
+  k-natural = w .k-is ∙ ap (λ (z : ℤ). natural-or z 0) (w .keep-out-cell)
 
   fits-told : window-fits minutes keep-out ≡ b
-  fits-told = fits-natural minutes keep-out ∙ sym (ap₂ (λ (x y : ℕ). window-fits (pos x) (pos y)) n-is k-is) ∙ sym hb
+  fits-told = fits-natural minutes keep-out ∙ sym (ap₂ (λ (x y : ℕ). window-fits (pos x) (pos y)) n-natural k-natural) ∙ sym (w .fit-is)
 
-  pub bad-window : b ≡ false → (NoList BadWindow ≡ sun-list planet earth t0 minutes keep-out (length out)) × (out ≡ sun-list-out planet earth t0 minutes keep-out out)
+  pub bad-window : b ≡ false → Told (NoList BadWindow) out
   unfolding outcome
   bad-window e = no-list BadWindow (rw (fits-told ∙ e))
 
@@ -60,15 +72,15 @@ module _ (planet earth : List ℕ) (t0 : Instant) (minutes keep-out : ℤ) (out 
     good = fits-told ∙ e
 
     n-natAbs : n ≡ natAbs minutes
-    n-natAbs = n-is ∙ natural-is minutes (fits-is minutes keep-out good .minutes-in .whole)
+    n-natAbs = n-natural ∙ natural-is minutes (fits-is minutes keep-out good .minutes-in .whole)
 
     k-natAbs : k ≡ natAbs keep-out
-    k-natAbs = k-is ∙ natural-is keep-out (fits-is minutes keep-out good .keep-out-in .whole)
+    k-natAbs = k-natural ∙ natural-is keep-out (fits-is minutes keep-out good .keep-out-in .whole)
 
     pub in-range : (1 ≤ n) × (n ≤ most-minutes) × (k ≤ greatest-keep-out)
     in-range = let f = fits-is minutes keep-out good in rw (n-natAbs, k-natAbs) (f .minutes-in .least, f .minutes-in .most, f .keep-out-in .most)
 
-    pub first-refused : in-limit (t0 .ms) ≡ false → (NoList (PastLimit t0) ≡ sun-list planet earth t0 minutes keep-out (length out)) × (out ≡ sun-list-out planet earth t0 minutes keep-out out)
+    pub first-refused : in-limit (t0 .ms) ≡ false → Told (NoList (PastLimit t0)) out
     unfolding outcome
     first-refused h = no-list (PastLimit t0) (rw (good, h))
 
@@ -76,7 +88,7 @@ module _ (planet earth : List ℕ) (t0 : Instant) (minutes keep-out : ℤ) (out 
       last-is : last ≡ minute t0 (natAbs minutes - 1)
       last-is = hl ∙ ap (λ (m : ℕ). minute t0 (m - 1)) n-natAbs
 
-      pub last-refused : in-limit (last .ms) ≡ false → (NoList (PastLimit last) ≡ sun-list planet earth t0 minutes keep-out (length out)) × (out ≡ sun-list-out planet earth t0 minutes keep-out out)
+      pub last-refused : in-limit (last .ms) ≡ false → Told (NoList (PastLimit last)) out
       unfolding outcome
       last-refused g =
           let f : in-limit (minute t0 (natAbs minutes - 1) .ms) ≡ false = ap (λ (t : Instant). in-limit (t .ms)) (sym last-is) ∙ g in
@@ -93,9 +105,11 @@ module _ (planet earth : List ℕ) (t0 : Instant) (minutes keep-out : ℤ) (out 
             minute-zero : natAbs (t0 .ms) ≤ t-limit
             minute-zero = leb-true _ _ h
 
-        pub series-told : (r : ListAnswer) (now : List ℕ) → r ≡ answered (length out) (of-series (parse planet) (parse earth) t0 n k) → now ≡ written out (of-series (parse planet) (parse earth) t0 n k)
-            → (r ≡ sun-list planet earth t0 minutes keep-out (length out)) × (now ≡ sun-list-out planet earth t0 minutes keep-out out)
+        pub series-told : (r : ListAnswer) (now : List ℕ) → r ≡ answered (length out) (of-series (parse planet) (parse earth) t0 n k)
+            → now ≡ written out (of-series (parse planet) (parse earth) t0 n k)
+            → Told r now
         unfolding outcome
         series-told r now p q =
             let f : in-limit (minute t0 (natAbs minutes - 1) .ms) ≡ true = ap (λ (t : Instant). in-limit (t .ms)) (sym last-is) ∙ g in
-            told (of-series (parse planet) (parse earth) t0 n k) r now (rw (good, h, f) (ap₂ (of-series (parse planet) (parse earth) t0) (sym n-natAbs) (sym k-natAbs))) p q
+            told (of-series (parse planet) (parse earth) t0 n k) r now
+            (rw (good, h, f) (ap₂ (of-series (parse planet) (parse earth) t0) (sym n-natAbs) (sym k-natAbs))) p q

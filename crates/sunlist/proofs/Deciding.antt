@@ -58,11 +58,13 @@ module _ (k : ℕ) (s : ℤ) (e : s ≡ sine (pos (half-angle k))) where
         cell r (subst (λ (t : ℤ). natAbs t < 2 ^ 63) (sym p) (let h = four-size s sine-in in omega arith)) ∙ p ∙ threshold-is k s e
 
 threshold-size : (k : ℕ) → natAbs (threshold k) ≤ 4 * (U * U)
-threshold-size k = let s = sine (pos (half-angle k)) in subst (λ (t : ℤ). natAbs t ≤ 4 * (U * U)) (threshold-is k s refl) (four-size s (sine-size (pos (half-angle k))))
+threshold-size k =
+    let s = sine (pos (half-angle k)) in
+    subst (λ (t : ℤ). natAbs t ≤ 4 * (U * U)) (threshold-is k s refl) (four-size s (sine-size (pos (half-angle k))))
 
 -- ---- separation
 
-pub sun-size : (k : ℕ) (a : Vector) → Components k a → Components k (sun a)
+sun-size : (k : ℕ) (a : Vector) → Components k a → Components k (sun a)
 unfolding sun
 sun-size k a h = record { x-in = one (a .x) (h .x-in); y-in = one (a .y) (h .y-in); z-in = one (a .z) (h .z-in) }
   where
@@ -104,21 +106,27 @@ module _ (u v w : Vector) (hu : Components U u) (hv : Components U v) (hs : natA
 
   module _ (x y z : ℤ) (ex : x ≡ Cell (w .x) *ℤ Cell (w .x)) (ey : y ≡ Cell (w .y) *ℤ Cell (w .y)) (ez : z ≡ Cell (w .z) *ℤ Cell (w .z)) where
     pub xy-fits : SFits w64 (Cell x +ℤ Cell y)
-    xy-fits = rw (part-is (w .x) x (w-in .x-in) ex, part-is (w .y) y (w-in .y-in) ey) (fits (pos (natAbs (w .x) * natAbs (w .x) + natAbs (w .y) * natAbs (w .y))) (let h = total-in in omega arith))
+    xy-fits =
+        rw (part-is (w .x) x (w-in .x-in) ex, part-is (w .y) y (w-in .y-in) ey)
+        (fits (pos (natAbs (w .x) * natAbs (w .x) + natAbs (w .y) * natAbs (w .y))) (let h = total-in in omega arith))
 
     module _ (xy : ℤ) (e : xy ≡ Cell x +ℤ Cell y) where
       xy-is : Cell xy ≡ pos (natAbs (w .x) * natAbs (w .x) + natAbs (w .y) * natAbs (w .y))
       xy-is =
-          let f : xy ≡ pos (natAbs (w .x) * natAbs (w .x) + natAbs (w .y) * natAbs (w .y)) = e ∙ ap₂ _+ℤ_ (part-is (w .x) x (w-in .x-in) ex) (part-is (w .y) y (w-in .y-in) ey) in
+          let f : xy ≡ pos (natAbs (w .x) * natAbs (w .x) + natAbs (w .y) * natAbs (w .y)) = e
+          ∙ ap₂ _+ℤ_ (part-is (w .x) x (w-in .x-in) ex) (part-is (w .y) y (w-in .y-in) ey) in
           cell xy (subst (λ (t : ℤ). natAbs t < 2 ^ 63) (sym f) (let h = total-in in omega arith)) ∙ f
 
       pub sum-fits : SFits w64 (Cell xy +ℤ Cell z)
-      sum-fits = rw (xy-is, part-is (w .z) z (w-in .z-in) ez) (fits (pos (natAbs (w .x) * natAbs (w .x) + natAbs (w .y) * natAbs (w .y) + natAbs (w .z) * natAbs (w .z))) total-in)
+      sum-fits =
+          rw (xy-is, part-is (w .z) z (w-in .z-in) ez)
+          (fits (pos (natAbs (w .x) * natAbs (w .x) + natAbs (w .y) * natAbs (w .y) + natAbs (w .z) * natAbs (w .z))) total-in)
 
       pub sum-is : (s : ℤ) → s ≡ Cell xy +ℤ Cell z → Cell s ≡ squared-separation u v
       unfolding squared-separation
       sum-is s f =
-          let g : s ≡ pos (natAbs (w .x) * natAbs (w .x) + natAbs (w .y) * natAbs (w .y) + natAbs (w .z) * natAbs (w .z)) = f ∙ ap₂ _+ℤ_ xy-is (part-is (w .z) z (w-in .z-in) ez) in
+          let g : s ≡ pos (natAbs (w .x) * natAbs (w .x) + natAbs (w .y) * natAbs (w .y) + natAbs (w .z) * natAbs (w .z)) = f
+          ∙ ap₂ _+ℤ_ xy-is (part-is (w .z) z (w-in .z-in) ez) in
           cell s (subst (λ (t : ℤ). natAbs t < 2 ^ 63) (sym g) total-in) ∙ g ∙ sym squared-is ∙ ap squared ew
 
 -- ---- figures
@@ -187,7 +195,13 @@ module _ (k : ℕ) (planet earth : Coordinates) (ok : places-usable planet earth
       )
 
       pub figures-are : (q t : ℤ) → q ≡ squared-separation x y → t ≡ threshold k
-          → _≡_ {A = Figures} (record { separation = Cell q; threshold = Cell t; distance = v .distance; planet = Cell (planet .radius); earth = Cell (earth .radius) })
+          → _≡_ {A = Figures} (record {
+            separation = Cell q;
+            threshold = Cell t;
+            distance = v .distance;
+            planet = Cell (planet .radius);
+            earth = Cell (earth .radius);
+          })
           (figures k planet earth)
       unfolding figures
       figures-are q t pq pt =

@@ -1,4 +1,5 @@
--- Demand 3: whatever two byte strings, window and keep-out the list is answered for, and whatever the output held before, the numbers written are what the demand asks. Assumes nothing.
+-- Demand 3: whatever two byte strings, window and keep-out the list is answered for, and whatever the output held before, the numbers written are
+-- what the demand asks. Assumes nothing.
 use mathlib.Core.Path.{_≡_, sym, ap, _∙_, subst}
 use mathlib.Core.Bool.{Bool, true}
 use mathlib.Core.List.{List}
@@ -31,7 +32,8 @@ written-at xs out i h l = ap (λ (s : List ℕ). getD s i 0) (sets-eq xs out 0 (
 zero-plus : (j : ℕ) → 0 + j ≡ j
 zero-plus j = omega arith
 
-module _ (planet-bytes earth-bytes : List ℕ) (t0 : Instant) (minutes keep-out : ℤ) (out : List ℕ) (count : ℕ) (a : Answered planet-bytes earth-bytes t0 minutes keep-out out count) where
+module _ (planet-bytes earth-bytes : List ℕ) (t0 : Instant) (minutes keep-out : ℤ) (out : List ℕ) (count : ℕ)
+    (a : Answered planet-bytes earth-bytes t0 minutes keep-out out count) where
   abbrev n : ℕ
   n = natAbs minutes
 
@@ -48,7 +50,9 @@ module _ (planet-bytes earth-bytes : List ℕ) (t0 : Instant) (minutes keep-out 
   listed-at j = listed k (planet-at j) (earth-at j)
 
   good-at : (j : ℕ) → j < n → good (decision-at (a .planet) (a .earth) t0 k j) ≡ true
-  good-at j l = subst (λ (i : ℕ). good (decision-at (a .planet) (a .earth) t0 k i) ≡ true) (zero-plus j) (all-good (decision-at (a .planet) (a .earth) t0 k) 0 n (let u = a .usable in omega arith) j l)
+  good-at j l =
+      subst (λ (i : ℕ). good (decision-at (a .planet) (a .earth) t0 k i) ≡ true) (zero-plus j)
+      (all-good (decision-at (a .planet) (a .earth) t0 k) 0 n (let u = a .usable in omega arith) j l)
 
   abbrev xs : List ℕ
   xs = list-of (a .planet) (a .earth) t0 n k
@@ -57,7 +61,9 @@ module _ (planet-bytes earth-bytes : List ℕ) (t0 : Instant) (minutes keep-out 
   unfolding decision-at run-numbers
   list = runs-of listed-at n (runs-are listed-at n (flags (window-flags (decision-at (a .planet) (a .earth) t0 k) 0 n))
       (subst (λ (e : ℕ). Flags-of listed-at e 0 (flags (window-flags (decision-at (a .planet) (a .earth) t0 k) 0 n))) (zero-plus n)
-      (flags-are (decision-at (a .planet) (a .earth) t0 k) listed-at 0 n (λ j l. subst (λ (i : ℕ). flag (flag-of (decision-at (a .planet) (a .earth) t0 k i)) ≡ listed-at i) (sym (zero-plus j)) (good-flag k (planet-at j) (earth-at j) (good-at j l))))))
+      (flags-are (decision-at (a .planet) (a .earth) t0 k) listed-at 0 n
+      (λ j l. subst (λ (i : ℕ). flag (flag-of (decision-at (a .planet) (a .earth) t0 k i)) ≡ listed-at i) (sym (zero-plus j))
+      (good-flag k (planet-at j) (earth-at j) (good-at j l))))))
 
   -- The numbers written are those of the list.
   run-read : (i : ℕ) → i < list .0 → (first-minute (sets out 0 xs) i ≡ first-minute xs i) × (last-minute (sets out 0 xs) i ≡ last-minute xs i)
@@ -100,11 +106,13 @@ module _ (planet-bytes earth-bytes : List ℕ) (t0 : Instant) (minutes keep-out 
     count-is = a .count-is ∙ list .1 .count;
     room = rw (length-sets out 0 xs) (let f = a .fits in let c = a .count-is in omega arith);
     none-missing = λ j l w. found j l (within-is-listed (planet-at j) (earth-at j) _ _
-        (near planet-bytes (a .planet) (minute t0 j) (a .planet-series) (in-time j l)) (near earth-bytes (a .earth) (minute t0 j) (a .earth-series) (in-time j l))
+        (near planet-bytes (a .planet) (minute t0 j) (a .planet-series) (in-time j l))
+        (near earth-bytes (a .earth) (minute t0 j) (a .earth-series) (in-time j l))
         (good-usable k (planet-at j) (earth-at j) (good-at j l)) k (fits .keep-out-in .least) (fits .keep-out-in .most) w);
     once = λ j i m l q h g. list .1 .once i m j l q (read i j l h) (read m j q g);
     not-farther = λ j i l h. listed-is-within (planet-at j) (earth-at j) _ _
-        (near planet-bytes (a .planet) (minute t0 j) (a .planet-series) (in-time j (below j i l h))) (near earth-bytes (a .earth) (minute t0 j) (a .earth-series) (in-time j (below j i l h)))
+        (near planet-bytes (a .planet) (minute t0 j) (a .planet-series) (in-time j (below j i l h)))
+        (near earth-bytes (a .earth) (minute t0 j) (a .earth-series) (in-time j (below j i l h)))
         (good-usable k (planet-at j) (earth-at j) (good-at j (below j i l h))) k (fits .keep-out-in .least) (fits .keep-out-in .most) (held j i l h);
     only-listed = held;
     all-listed = found;

@@ -10,7 +10,7 @@ use lib.Seq.{take-suc-set, take-all}
 use Rattle.sunlist.specs.declared.Decision.{Decision}
 use Rattle.sunlist.specs.declared.Decision.the-variants.{Listed, Clear, Unusable}
 use Rattle.sunlist.specs.SunList.{good, flag-of, first-bad, window-flags}
-use Rattle.sunlist.specs.machine.Working.{Filled}
+use Rattle.sunlist.specs.machine.Window.{Flagged}
 
 -- Before minute j of n.
 pub record Filling (at : ℕ → Decision) (n j : ℕ) (flags : List ℕ) : Type 0 where
@@ -20,7 +20,12 @@ pub record Filling (at : ℕ → Decision) (n j : ℕ) (flags : List ℕ) : Type
   pub flags-left : take j flags ++ window-flags at j (n - j) ≡ window-flags at 0 n
 
 pub filling-none : (at : ℕ → Decision) (flags : List ℕ) → Filling at (length flags) 0 flags
-filling-none at flags = record { size = refl; so-far = omega arith; bad-left = ap (first-bad at 0) (all-left (length flags)); flags-left = ap (window-flags at 0) (all-left (length flags)) }
+filling-none at flags = record {
+  size = refl;
+  so-far = omega arith;
+  bad-left = ap (first-bad at 0) (all-left (length flags));
+  flags-left = ap (window-flags at 0) (all-left (length flags));
+}
   where
     all-left : (n : ℕ) → n - 0 ≡ n
     all-left n = omega arith
@@ -46,28 +51,36 @@ flag-bad (Listed f) h = absurd (omega arith)
 flag-bad (Clear f) h = absurd (omega arith)
 flag-bad Unusable h = refl
 
-pub filling-more : (at : ℕ → Decision) (n j f : ℕ) (flags : List ℕ) → Filling at n j flags → j < n → f ≡ flag-of (at j) → (f ≡ 2 → ⊥) → Filling at n (j + 1) (set flags j f)
+pub filling-more : (at : ℕ → Decision) (n j f : ℕ) (flags : List ℕ) → Filling at n j flags → j < n → f ≡ flag-of (at j) → (f ≡ 2 → ⊥)
+    → Filling at n (j + 1) (set flags j f)
 filling-more at n j f flags i l e h = subst (λ (m : ℕ). Filling at n m (set flags j f)) (sym (add-one j)) (record {
   size = length-set flags j f ∙ i .size;
   so-far = omega arith;
-  bad-left = sym (bad-step at j (n - j) (n - suc j) (omega arith) ∙ ap (λ (b : Bool). cond b (first-bad at (suc j) (n - suc j)) j) (flag-good (at j) (λ p. h (e ∙ p)))) ∙ i .bad-left;
+  bad-left =
+      sym (bad-step at j (n - j) (n - suc j) (omega arith)
+      ∙ ap (λ (b : Bool). cond b (first-bad at (suc j) (n - suc j)) j) (flag-good (at j) (λ p. h (e ∙ p)))) ∙ i .bad-left;
   flags-left =
-      ap (λ (s : List ℕ). s ++ window-flags at (suc j) (n - suc j)) (take-suc-set flags j f (let s = i .size in omega arith) ∙ ap (λ (x : ℕ). take j flags ++ (x ∷ [])) e)
+      ap (λ (s : List ℕ). s ++ window-flags at (suc j) (n - suc j))
+      (take-suc-set flags j f (let s = i .size in omega arith) ∙ ap (λ (x : ℕ). take j flags ++ (x ∷ [])) e)
       ∙ append-assoc (take j flags) (flag-of (at j) ∷ []) (window-flags at (suc j) (n - suc j))
       ∙ ap (λ (s : List ℕ). take j flags ++ s) (sym (flags-step at j (n - j) (n - suc j) (omega arith))) ∙ i .flags-left;
 })
 
-pub filling-bad : (at : ℕ → Decision) (n j f : ℕ) (flags : List ℕ) → Filling at n j flags → j < n → f ≡ flag-of (at j) → f ≡ 2 → Filled at n j flags
+pub filling-bad : (at : ℕ → Decision) (n j f : ℕ) (flags : List ℕ) → Filling at n j flags → j < n → f ≡ flag-of (at j) → f ≡ 2 → Flagged at n j flags
 filling-bad at n j f flags i l e h = record {
-  bad-is = sym (sym (i .bad-left) ∙ bad-step at j (n - j) (n - suc j) (omega arith) ∙ ap (λ (b : Bool). cond b (first-bad at (suc j) (n - suc j)) j) (flag-bad (at j) (sym e ∙ h)));
+  bad-is =
+      sym (sym (i .bad-left) ∙ bad-step at j (n - j) (n - suc j) (omega arith)
+      ∙ ap (λ (b : Bool). cond b (first-bad at (suc j) (n - suc j)) j) (flag-bad (at j) (sym e ∙ h)));
   flags-are = λ (m : n ≤ j). absurd (omega arith);
 }
 
-pub filling-all : (at : ℕ → Decision) (n j : ℕ) (flags : List ℕ) → Filling at n j flags → n ≤ j → Filled at n j flags
+pub filling-all : (at : ℕ → Decision) (n j : ℕ) (flags : List ℕ) → Filling at n j flags → n ≤ j → Flagged at n j flags
 unfolding first-bad window-flags
 filling-all at n j flags i h = record {
   bad-is = subst (λ (m : ℕ). first-bad at j m ≡ first-bad at 0 n) (none n j h) (i .bad-left);
-  flags-are = λ m. sym (append-nil flags) ∙ ap (λ (s : List ℕ). s ++ []) (sym (take-all j flags (let s = i .size in omega arith))) ∙ subst (λ (m : ℕ). take j flags ++ window-flags at j m ≡ window-flags at 0 n) (none n j h) (i .flags-left);
+  flags-are =
+      λ m. sym (append-nil flags) ∙ ap (λ (s : List ℕ). s ++ []) (sym (take-all j flags (let s = i .size in omega arith)))
+      ∙ subst (λ (m : ℕ). take j flags ++ window-flags at j m ≡ window-flags at 0 n) (none n j h) (i .flags-left);
 }
   where
     none : (n j : ℕ) → n ≤ j → n - j ≡ 0

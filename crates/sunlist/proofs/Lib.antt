@@ -1,13 +1,16 @@
--- Demand 3: `Demand` states it. `Limits`: the window's figures; `Answered`: what an answered list says; `Minutes`: the decided minutes and their flags; `Near`: coordinates near exact sums at each minute.
+-- Laws of the Sun list.
+-- Of the definitions: `Limits`, the window's figures; `Answered`, what an answered list says; `Minutes`, the decided minutes and their flags; `Near`,
+-- coordinates near exact sums at each minute; `Positive`, lower numbers of fractions; `Demand`, demand 3.
+-- Of the code: `Separations` and `Deciding`, one minute; `Windows`, the window; `Filling`, `Tabled` and `Listing`, the list; `Calling`, the call.
 pub mod Limits
 pub mod Answered
 pub mod Minutes
 pub mod Near
-pub mod Demand
 pub mod Positive
+pub mod Demand
 pub mod Separations
 pub mod Deciding
-pub mod Written
+pub mod Windows
 pub mod Filling
 pub mod Tabled
 pub mod Listing

@@ -1,12 +1,10 @@
--- What the functions of the list ask of each other and answer. Assumes nothing.
+-- What the functions of list.rt ask of each other and answer. Assumes nothing.
 use mathlib.Core.Path.{_≡_, refl, sym, ap, ap₂, _∙_, subst}
-use mathlib.Core.Bool.{false}
 use mathlib.Core.List.{List, _++_}
 use Prim.Native.Nat.{ℕ, zero, suc, _≤_, _<_}
 use native.Mathlib.Omega.{arith}
-use borrow.Author.Tests.{le-leb, lt-leb, lt-ltb, le-ltb}
-use lib.Dec.{leb}
-use lib.IntN.{ℤ, pos, natAbs}
+use borrow.Author.Tests.{lt-ltb, le-ltb}
+use lib.IntN.{ℤ, natAbs}
 use lib.ListN.{length, take, drop}
 use lib.Seq.{length-take-le, take-at}
 use Rattle.units.specs.Units.{t-limit}
@@ -15,32 +13,12 @@ use Rattle.units.specs.declared.Coordinates.{Coordinates}
 use Rattle.units.specs.declared.Refusal.the-variants.{NotUsable}
 use Rattle.limits.specs.declared.Term.{Term}
 use Rattle.series.specs.Sums.{coordinates}
-use Rattle.separation.specs.Arcminutes.{least-keep-out, greatest-keep-out}
 use Rattle.runs.specs.Runs.{run-numbers}
 use Rattle.sunlist.specs.declared.Decision.{Decision}
 use Rattle.sunlist.specs.declared.ListAnswer.the-variants.{NoList}
 use Rattle.sunlist.specs.Minute.{decide}
-use Rattle.sunlist.specs.SunList.{minute, most-minutes, window-fits, decision-at, first-bad, window-flags, numbers, of-minutes, answered, written}
-use Rattle.sunlist.specs.machine.Working.{Window, Filled}
-
--- ---- fits
-
-module _ (n k : ℕ) where
-  pub angle-low : k < least-keep-out → false ≡ window-fits (pos n) (pos k)
-  unfolding window-fits
-  angle-low h = rw (lt-leb least-keep-out k h)
-
-  pub angle-high : least-keep-out ≤ k → greatest-keep-out < k → false ≡ window-fits (pos n) (pos k)
-  unfolding window-fits
-  angle-high g h = rw (le-leb least-keep-out k g, lt-leb k greatest-keep-out h)
-
-  pub no-minutes : least-keep-out ≤ k → k ≤ greatest-keep-out → n < 1 → false ≡ window-fits (pos n) (pos k)
-  unfolding window-fits
-  no-minutes g h l = rw (le-leb least-keep-out k g, le-leb k greatest-keep-out h, lt-leb 1 n l)
-
-  pub minutes-told : least-keep-out ≤ k → k ≤ greatest-keep-out → 1 ≤ n → leb n most-minutes ≡ window-fits (pos n) (pos k)
-  unfolding window-fits
-  minutes-told g h l = rw (le-leb least-keep-out k g, le-leb k greatest-keep-out h, le-leb 1 n l)
+use Rattle.sunlist.specs.SunList.{minute, most-minutes, decision-at, first-bad, window-flags, numbers, of-minutes, answered, written}
+use Rattle.sunlist.specs.machine.Window.{Window, Flagged}
 
 -- ---- decide_at
 
@@ -59,8 +37,8 @@ decided t0 k j t planet earth p e d h hp he hd =
 
 -- ---- list_of
 
-module _ (at : ℕ → Decision) (n bad : ℕ) (flags out : List ℕ) (f : Filled at n bad flags) where
-  pub bad-told : bad < n → (NoList (NotUsable bad) ≡ answered (length out) (of-minutes at n)) × (out ≡ written out (of-minutes at n))
+module _ (at : ℕ → Decision) (n bad : ℕ) (flags out : List ℕ) (f : Flagged at n bad flags) where
+  bad-told : bad < n → (NoList (NotUsable bad) ≡ answered (length out) (of-minutes at n)) × (out ≡ written out (of-minutes at n))
   unfolding of-minutes answered written
   bad-told h = let l : first-bad at 0 n < n = subst (λ (b : ℕ). b < n) (f .bad-is) h in rw (lt-ltb (first-bad at 0 n) n l, f .bad-is) (refl, refl)
 
@@ -72,7 +50,7 @@ module _ (at : ℕ → Decision) (n bad : ℕ) (flags out : List ℕ) (f : Fille
 pub part-length : (n : ℕ) (room : List ℕ) → n ≤ most-minutes → most-minutes ≤ length room → n ≡ length (take n room)
 part-length n room h l = sym (length-take-le n room (omega arith))
 
-pub filled-part : (n : ℕ) (flags room : List ℕ) → length flags ≡ n → take n (flags ++ drop n room) ≡ flags
+filled-part : (n : ℕ) (flags room : List ℕ) → length flags ≡ n → take n (flags ++ drop n room) ≡ flags
 filled-part n flags room e = take-at flags (drop n room) n e
 
 flags-length : (at : ℕ → Decision) (j n : ℕ) → length (window-flags at j n) ≡ n
@@ -80,9 +58,9 @@ unfolding window-flags
 flags-length at j zero = refl
 flags-length at j (suc n) = ap suc (flags-length at (suc j) n)
 
-module _ (at : ℕ → Decision) (n m bad : ℕ) (flags room out : List ℕ) (f : Filled at m bad flags) (e : n ≡ m) where
-  filled : Filled at n bad flags
-  filled = subst (λ (i : ℕ). Filled at i bad flags) (sym e) f
+module _ (at : ℕ → Decision) (n m bad : ℕ) (flags room out : List ℕ) (f : Flagged at m bad flags) (e : n ≡ m) where
+  filled : Flagged at n bad flags
+  filled = subst (λ (i : ℕ). Flagged at i bad flags) (sym e) f
 
   pub part-bad : bad < n → (NoList (NotUsable bad) ≡ answered (length out) (of-minutes at n)) × (out ≡ written out (of-minutes at n))
   part-bad h = bad-told at n bad flags out filled h

@@ -33,7 +33,8 @@ all-good at j (suc n) h (suc i) l =
     shift j i = omega arith
 
 -- A decision that is good is of usable places, and its flag is whether the minute is listed.
-good-then : (u l : Bool) (f : Figures) → good (cond u (cond l (Listed f) (Clear f)) Unusable) ≡ true → (u ≡ true) × (flag (flag-of (cond u (cond l (Listed f) (Clear f)) Unusable)) ≡ l)
+good-then : (u l : Bool) (f : Figures) → good (cond u (cond l (Listed f) (Clear f)) Unusable) ≡ true → (u ≡ true)
+    × (flag (flag-of (cond u (cond l (Listed f) (Clear f)) Unusable)) ≡ l)
 unfolding good
 good-then true true f e = (refl, refl)
 good-then true false f e = (refl, refl)
@@ -48,11 +49,15 @@ unfolding decide
 good-flag k planet earth e = good-then (places-usable planet earth) (listed k planet earth) (figures k planet earth) e .1
 
 -- The flags of n minutes are those of a function that tells each one's.
-pub flags-are : (at : ℕ → Decision) (lists : ℕ → Bool) (j n : ℕ) → ((i : ℕ) → i < n → flag (flag-of (at (j + i))) ≡ lists (j + i)) → Flags-of lists (j + n) j (flags (window-flags at j n))
+pub flags-are : (at : ℕ → Decision) (lists : ℕ → Bool) (j n : ℕ) → ((i : ℕ) → i < n → flag (flag-of (at (j + i))) ≡ lists (j + i))
+    → Flags-of lists (j + n) j (flags (window-flags at j n))
 unfolding window-flags flags Flags-of
 flags-are at lists j zero h = omega arith
-flags-are at lists j (suc n) h =
-    (sym (rw (zero-more j) at (h 0 (omega arith))), subst (λ (e : ℕ). Flags-of lists e (suc j) (flags (window-flags at (suc j) n))) (shift j n) (flags-are at lists (suc j) n (λ i l. rw (← shift j i) at (h (suc i) (omega arith)))))
+flags-are at lists j (suc n) h = (
+  sym (rw (zero-more j) at (h 0 (omega arith))),
+  subst (λ (e : ℕ). Flags-of lists e (suc j) (flags (window-flags at (suc j) n))) (shift j n)
+      (flags-are at lists (suc j) n (λ i l. rw (← shift j i) at (h (suc i) (omega arith)))),
+)
   where
     zero-more : (j : ℕ) → j + 0 ≡ j
     zero-more j = omega arith

@@ -25,7 +25,8 @@ use Rattle.separation.proofs.Apart.{apart-wider}
 use Rattle.sunlist.specs.Demand.{exact-coordinates}
 
 -- P2 at an instant within the limit.
-near-exact : (bytes : List ℕ) (blocks : List (List Term)) (t : Instant) → parse bytes ≡ accepted blocks → natAbs (t .ms) ≤ t-limit → Near-exact (coordinates (t .ms) blocks) (t .ms) blocks
+near-exact : (bytes : List ℕ) (blocks : List (List Term)) (t : Instant) → parse bytes ≡ accepted blocks → natAbs (t .ms) ≤ t-limit
+    → Near-exact (coordinates (t .ms) blocks) (t .ms) blocks
 unfolding coordinates-answer in-limit of-parsed
 near-exact bytes blocks t e h =
     let p = P2 bytes t (coordinates (t .ms) blocks) (at-blocks) in
@@ -52,7 +53,8 @@ six t ht bs a m l =
 wider : pos 100000 ≼ pos tolerance
 wider = record { le = tt }
 
-pub near : (bytes : List ℕ) (blocks : List (List Term)) (t : Instant) → parse bytes ≡ accepted blocks → natAbs (t .ms) ≤ t-limit → Near-coordinates (coordinates (t .ms) blocks) (exact-coordinates t blocks)
+pub near : (bytes : List ℕ) (blocks : List (List Term)) (t : Instant) → parse bytes ≡ accepted blocks → natAbs (t .ms) ≤ t-limit
+    → Near-coordinates (coordinates (t .ms) blocks) (exact-coordinates t blocks)
 unfolding coordinates exact-coordinates longitude-blocks latitude-blocks
 near bytes blocks t e h =
     let n = near-exact bytes blocks t e h in

@@ -27,7 +27,7 @@ use Rattle.rectangular.proofs.Usable.{radius-least, usable-places}
 use Rattle.separation.specs.Arcminutes.{arcminutes}
 use Rattle.separation.specs.Listed.{squared-separation, threshold}
 use Rattle.separation.proofs.Form.{dot}
-use Rattle.separation.proofs.Sizes.{Unit³}
+use Rattle.separation.proofs.Lengths.{Unit³}
 use Rattle.separation.proofs.Units.{unit-is}
 use Rattle.separation.proofs.Places.{placed}
 use Rattle.separation.proofs.Closeness.{sun-long}
@@ -63,7 +63,11 @@ pub unit-size : (v : Vector) → 0 < length v → Components U (unit v)
 unfolding unit
 unit-size v h =
     let w = within-length v in
-    record { x-in = scaled-within (pos U) (v .x) (length v) U h (omega arith) (w .x-in); y-in = scaled-within (pos U) (v .y) (length v) U h (omega arith) (w .y-in); z-in = scaled-within (pos U) (v .z) (length v) U h (omega arith) (w .z-in) }
+    record {
+      x-in = scaled-within (pos U) (v .x) (length v) U h (omega arith) (w .x-in);
+      y-in = scaled-within (pos U) (v .y) (length v) U h (omega arith) (w .y-in);
+      z-in = scaled-within (pos U) (v .z) (length v) U h (omega arith) (w .z-in);
+    }
 
 far : (l : ℕ) → pos U ≼ pos l → U ≤ l
 far l h = leb→le U l (h .le)
@@ -92,8 +96,10 @@ apart-size u v a b =
 unit-of : (v : Vector) → U ≤ length v → Unit³ (unit v)
 unit-of v h = unit-is v (record { le = le→leb U (length v) h })
 
-pub separation-size : (planet earth : Coordinates) → places-usable planet earth ≡ true → natAbs (squared-separation (unit (sun (place earth))) (unit (geocentric (place planet) (place earth)))) ≤ 4 * (U * U) + 16 * U
+pub separation-size : (planet earth : Coordinates) → places-usable planet earth ≡ true
+    → natAbs (squared-separation (unit (sun (place earth))) (unit (geocentric (place planet) (place earth)))) ≤ 4 * (U * U) + 16 * U
 unfolding distance
 separation-size planet earth h =
-    apart-size (unit (sun (place earth))) (unit (geocentric (place planet) (place earth))) (unit-of _ (sun-far earth (usable-places planet earth h .earth-radius)))
+    apart-size (unit (sun (place earth))) (unit (geocentric (place planet) (place earth)))
+    (unit-of _ (sun-far earth (usable-places planet earth h .earth-radius)))
     (unit-of _ (seen-far planet earth h))

@@ -1,4 +1,5 @@
--- Demand 3, as a statement about the numbers that the call wrote. Within and farther out are document 01's exact test, worked in fractions with no rounding, light time left out.
+-- Demand 3, as a statement about the numbers that the call wrote, against the exact test (RULES, "Sun list"): in fractions with no rounding, light
+-- time left out.
 use mathlib.Core.Path.{_≡_}
 use mathlib.Core.Bool.{true}
 use mathlib.Core.List.{List}
@@ -16,7 +17,11 @@ use Rattle.sunlist.specs.SunList.{minute}
 
 -- The exact sums of a series at an instant.
 unfoldable pub exact-coordinates : Instant → List (List Term) → Exact-coordinates
-exact-coordinates t blocks = record { longitude = exact-longitude (t .ms) blocks; latitude = exact-latitude (t .ms) blocks; radius = exact-radius (t .ms) blocks }
+exact-coordinates t blocks = record {
+  longitude = exact-longitude (t .ms) blocks;
+  latitude = exact-latitude (t .ms) blocks;
+  radius = exact-radius (t .ms) blocks;
+}
 
 -- Run i of the output: its first and its last minute; it holds both and all between.
 abbrev pub first-minute : List ℕ → ℕ → ℕ
@@ -39,17 +44,20 @@ pub record Demand-3 (planet-bytes earth-bytes : List ℕ) (t0 : Instant) (minute
   pub k : ℕ
   pub window : minutes ≡ pos n
   pub angle : keep-out ≡ pos k
-  -- "The count answered is twice the number of runs", and so many numbers stand in the output.
+  -- The count is of numbers, two for each run, and they stand in the output.
   pub runs : ℕ
   pub count-is : count ≡ 2 * runs
   pub room : count ≤ length out
-  -- "Every minute of the window at which the exact sums put the planet within the angle of the Sun is in exactly one of the runs written."
-  pub none-missing : (j : ℕ) → j < n → Within-arcminutes k (exact-coordinates (minute t0 j) planet) (exact-coordinates (minute t0 j) earth) → (i : ℕ) × (i < runs) × In-run out i j
+  -- None missing: a minute at which the exact sums put the planet within the angle is in a run, and in one only.
+  pub none-missing : (j : ℕ) → j < n → Within-arcminutes k (exact-coordinates (minute t0 j) planet) (exact-coordinates (minute t0 j) earth)
+      → (i : ℕ) × (i < runs) × In-run out i j
   pub once : (j i i′ : ℕ) → i < runs → i′ < runs → In-run out i j → In-run out i′ j → i ≡ i′
-  -- "No minute in a written run has it farther out than the angle plus two arcminutes."
-  pub not-farther : (j i : ℕ) → i < runs → In-run out i j → Within-arcminutes (k + 2) (exact-coordinates (minute t0 j) planet) (exact-coordinates (minute t0 j) earth)
-  -- "The runs are 01's maximal runs of listed minutes: they hold only minutes of the window, they rise, and at least one minute lies between a run and the next."
+  -- None in a run is farther out than two arcminutes more.
+  pub not-farther : (j i : ℕ) → i < runs → In-run out i j
+      → Within-arcminutes (k + 2) (exact-coordinates (minute t0 j) planet) (exact-coordinates (minute t0 j) earth)
+  -- The runs are the maximal runs of listed minutes: all of these and only these, within the window, rising, with a minute or more between two runs.
   pub only-listed : (j i : ℕ) → i < runs → In-run out i j → listed k (coordinates (minute t0 j .ms) planet) (coordinates (minute t0 j .ms) earth) ≡ true
-  pub all-listed : (j : ℕ) → j < n → listed k (coordinates (minute t0 j .ms) planet) (coordinates (minute t0 j .ms) earth) ≡ true → (i : ℕ) × (i < runs) × In-run out i j
+  pub all-listed : (j : ℕ) → j < n → listed k (coordinates (minute t0 j .ms) planet) (coordinates (minute t0 j .ms) earth) ≡ true
+      → (i : ℕ) × (i < runs) × In-run out i j
   pub in-window : (i : ℕ) → i < runs → (first-minute out i ≤ last-minute out i) × (last-minute out i < n)
   pub rising : (i : ℕ) → suc i < runs → last-minute out i + 2 ≤ first-minute out (suc i)

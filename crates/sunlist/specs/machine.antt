@@ -1,3 +1,3 @@
 -- What only the code needs: nothing here has to be believed.
-pub mod Working
+pub mod Window
 pub mod Answers

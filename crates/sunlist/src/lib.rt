@@ -1,4 +1,4 @@
-// The list of minutes when a planet stands too near the Sun: document 01, "Sun list".
+// The list of minutes when a planet stands too near the Sun: RULES, "Sun list".
 ghost use mathlib.Core.Path.{_≡_};
 ghost use lib.ListN.{length};
 ghost use Rattle.sunlist.specs.SunList.{sun-list, sun-list-out};
@@ -15,7 +15,8 @@ use units::Instant;
 use units::Refusal;
 use units::in_limit;
 
-// The figures by which a usable minute is decided: the squared separation of the two unit vectors and the threshold, both in 1/U^2, D and both R (planet, earth) in parts.
+// The figures by which a usable minute is decided: the squared separation of the two unit vectors and the threshold, both in 1/U^2;
+// D, and both R (planet, earth), in parts.
 pub struct Figures {
     pub separation: i64,
     pub threshold: i64,
@@ -47,7 +48,8 @@ pub fn sun_list(
     keep_out: i64,
     out: &mut [u64],
 ) -> ListAnswer
-    ensures { λ r. ⌜ (r ≡ sun-list (now (planet .entry)) (now (earth .entry)) t0 minutes «keep_out» (length (now (out .entry)))) × (now (out .exit) ≡ sun-list-out (now (planet .entry)) (now (earth .entry)) t0 minutes «keep_out» (now (out .entry))) ⌝ }
+    ensures { λ r. ⌜ (r ≡ sun-list (now (planet .entry)) (now (earth .entry)) t0 minutes «keep_out» (length (now (out .entry))))
+        × (now (out .exit) ≡ sun-list-out (now (planet .entry)) (now (earth .entry)) t0 minutes «keep_out» (now (out .entry))) ⌝ }
 {
     let n = natural_or(minutes, 0);
     let k = natural_or(keep_out, 0);

@@ -7,7 +7,7 @@ ghost use Rattle.packed.specs.machine.Table.{table-blocks};
 ghost use Rattle.series.specs.machine.Table.{Table};
 ghost use Rattle.sunlist.specs.SunList.{of-minutes, of-series as series-outcome};
 ghost use Rattle.sunlist.specs.machine.Answers.{decided-at, Answers};
-ghost use Rattle.sunlist.specs.machine.Working.{Window, Filled};
+ghost use Rattle.sunlist.specs.machine.Window.{Window, Flagged};
 use crate::Decision;
 use crate::ListAnswer;
 use crate::one_minute::decide;
@@ -36,7 +36,7 @@ fn decide_at(t0: Instant, j: u64, k: u64, planet: &Table, earth: &Table) -> Deci
 // Fills the flags of a window's minutes, up to the first bad one.
 fn flag_minutes(window: &mut [u8], t0: Instant, k: u64, planet: &Table, earth: &Table) -> usize
     requires { ⌜ Window t0 (length (now window)) k × Table (now planet) × Table (now earth) ⌝ }
-    ensures { λ r. ⌜ Filled (decided-at (now (planet .entry)) (now (earth .entry)) t0 k) (length (now (window .entry))) r (now (window .exit)) ⌝ }
+    ensures { λ r. ⌜ Flagged (decided-at (now (planet .entry)) (now (earth .entry)) t0 k) (length (now (window .entry))) r (now (window .exit)) ⌝ }
 {
     let mut j = 0;
     while j < window.len() {

@@ -64,7 +64,8 @@ pub fn flag(d: Decision) -> u8
 // Writes the runs of a window's flags, where they fit.
 pub fn write_runs(window: &[u8], out: &mut [u64]) -> ListAnswer
     requires { ⌜ length (now window) ≤ most-minutes ⌝ }
-    ensures { λ r. ⌜ (r ≡ answered (length (now (out .entry))) (numbers (run-numbers (now (window .entry))))) × (now (out .exit) ≡ written (now (out .entry)) (numbers (run-numbers (now (window .entry))))) ⌝ }
+    ensures { λ r. ⌜ (r ≡ answered (length (now (out .entry))) (numbers (run-numbers (now (window .entry)))))
+        × (now (out .exit) ≡ written (now (out .entry)) (numbers (run-numbers (now (window .entry))))) ⌝ }
 {
     let n = runs::count(window);
     if out.len() < n {

@@ -17,13 +17,27 @@ enum-known-p-2 : tie.Need-enum-known-p-2
 enum-known-p-2 c = search needs
 
 figures-requires : tie.Need-figures-requires
-figures-requires c κs = let g = c .before in let q = g .before .before in let s = q .before .before .before in figures-ask (s .args .planet .now) (s .args .earth .now) (s .args .t) (q .apparent-place .result) (q .apparent-place .ensures) _ (g .p2 .given .1)
+figures-requires c κs =
+    let g = c .before in
+    let q = g .before .before in
+    let s = q .before .before .before in
+    figures-ask (s .args .planet .now) (s .args .earth .now) (s .args .t) (q .apparent-place .result) (q .apparent-place .ensures) _ (g .p2 .given .1)
 
 returns : tie.Need-returns
-returns c = let g = c .before .before in let q = g .before .before in let s = q .before .before .before in mount-refused (s .args .planet .now) (s .args .earth .now) (s .args .t) (q .apparent-place .result) (q .apparent-place .ensures) _ (c .number .result) (g .p .given .1) (c .number .ensures)
+returns c =
+    let g = c .before .before in
+    let q = g .before .before in
+    let s = q .before .before .before in
+    mount-refused (s .args .planet .now) (s .args .earth .now) (s .args .t) (q .apparent-place .result) (q .apparent-place .ensures) _ (c .number .result)
+    (g .p .given .1) (c .number .ensures)
 
 returns-2 : tie.Need-returns-2
-returns-2 c = let g = c .before .before in let q = g .before .before in let s = q .before .before .before in mount-at (s .args .planet .now) (s .args .earth .now) (s .args .t) (q .apparent-place .result) (q .apparent-place .ensures) _ (c .figures .result) (g .p2 .given .1) (c .figures .ensures)
+returns-2 c =
+    let g = c .before .before in
+    let q = g .before .before in
+    let s = q .before .before .before in
+    mount-at (s .args .planet .now) (s .args .earth .now) (s .args .t) (q .apparent-place .result) (q .apparent-place .ensures) _ (c .figures .result)
+    (g .p2 .given .1) (c .figures .ensures)
 
 pub mount-place-spec : {M : Type 1} → statement M
 mount-place-spec =

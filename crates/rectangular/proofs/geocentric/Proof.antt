@@ -8,10 +8,14 @@ sub-requires : tie.Need-sub-requires
 sub-requires c κs = let s = c .before .before in difference-fits (s .args .planet .x) (s .args .earth .x) (s .pre .0 .x-in) (s .pre .1 .x-in)
 
 sub-requires-2 : tie.Need-sub-requires-2
-sub-requires-2 c κs = let s = c .before .before .before .before .before in difference-fits (s .args .planet .y) (s .args .earth .y) (s .pre .0 .y-in) (s .pre .1 .y-in)
+sub-requires-2 c κs =
+    let s = c .before .before .before .before .before in
+    difference-fits (s .args .planet .y) (s .args .earth .y) (s .pre .0 .y-in) (s .pre .1 .y-in)
 
 sub-requires-3 : tie.Need-sub-requires-3
-sub-requires-3 c κs = let s = c .before .before .before .before .before .before .before .before in difference-fits (s .args .planet .z) (s .args .earth .z) (s .pre .0 .z-in) (s .pre .1 .z-in)
+sub-requires-3 c κs =
+    let s = c .before .before .before .before .before .before .before .before in
+    difference-fits (s .args .planet .z) (s .args .earth .z) (s .pre .0 .z-in) (s .pre .1 .z-in)
 
 returns : tie.Need-returns
 unfolding geocentric

@@ -26,7 +26,8 @@ returns c =
     let s = a .before .before in
     let e : Cell (s .args .c .latitude) ≡ s .args .c .latitude = search needs in
     let f : Cell (s .args .c .longitude) ≡ s .args .c .longitude = search needs in
-    place-is (s .args .c) (a .residue-times .result) (a₂ .residue-times2 .result) (c .from-angles .result) e f (s .pre) (a .residue-times .ensures) (a₂ .residue-times2 .ensures) (c .from-angles .ensures)
+    place-is (s .args .c) (a .residue-times .result) (a₂ .residue-times2 .result) (c .from-angles .result) e f (s .pre) (a .residue-times .ensures)
+    (a₂ .residue-times2 .ensures) (c .from-angles .ensures)
 
 pub place-spec : {M : Type 1} → statement M
 place-spec =

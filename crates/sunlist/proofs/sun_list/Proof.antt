@@ -5,13 +5,27 @@ use mathlib.Core.Path.{sym, _∙_}
 use borrow.Author.Tests.{not-true, not-false}
 use Rattle.series.proofs.Answering.{within, no-turn}
 use Rattle.sunlist.specs.SunList.{most-minutes}
-use Rattle.sunlist.proofs.Calling.{bad-window, in-range, first-refused, last-refused, window, series-told}
+use Rattle.sunlist.proofs.Calling.{Figures-read, bad-window, in-range, first-refused, last-refused, window, series-told}
 use borrow.Author.Needs.{needs}
 use Rattle.sunlist.proofs.sun_list.Statement.{statement}
 use Rattle.sunlist.proofs.sun_list.Tie as tie
 
 last-few : (n : ℕ) → 1 ≤ n → n ≤ most-minutes → n - 1 < most-minutes
 last-few n h l = omega arith
+
+-- the figures, as they were read
+read : (f : tie.After-fits2) → let m = f .before in let n = m .before in let s = n .before .before .before .before in
+    Figures-read (s .args .minutes) (s .args .keep-out) (n .natural-or .result) (m .natural-or2 .result) (f .fits2 .result)
+read f =
+    let m = f .before in
+    let n = m .before in
+    record {
+      minutes-cell = search needs;
+      keep-out-cell = search needs;
+      n-is = n .natural-or .ensures;
+      k-is = m .natural-or2 .ensures;
+      fit-is = f .fits2 .ensures;
+    }
 
 natural-or-requires : tie.Need-natural-or-requires
 natural-or-requires c κs = search needs
@@ -25,10 +39,9 @@ fits-requires c κs = search needs
 returns : tie.Need-returns
 returns c =
     let f = c .before in
-    let m = f .before in
-    let n = m .before in
-    let s = n .before .before .before .before in
-    bad-window (s .args .planet .now) (s .args .earth .now) (s .args .t0) (s .args .minutes) (s .args .keep-out) (s .args .out .now) (n .natural-or .result) (m .natural-or2 .result) (search needs) (search needs) (n .natural-or .ensures) (m .natural-or2 .ensures) (f .fits2 .result) (f .fits2 .ensures) (not-true _ (c .if1 .taken))
+    let s = f .before .before .before .before .before .before in
+    bad-window (s .args .planet .now) (s .args .earth .now) (s .args .t0) _ _ (s .args .out .now) _ _ _ (read f)
+    (not-true _ (c .if1 .taken))
 
 in-limit-requires : tie.Need-in-limit-requires
 in-limit-requires c κs = search needs
@@ -38,29 +51,26 @@ returns-2 c =
     let i = c .before in
     let x = i .before in
     let f = x .before in
-    let m = f .before in
-    let n = m .before in
-    let s = n .before .before .before .before in
-    first-refused (s .args .planet .now) (s .args .earth .now) (s .args .t0) (s .args .minutes) (s .args .keep-out) (s .args .out .now) (n .natural-or .result) (m .natural-or2 .result) (search needs) (search needs) (n .natural-or .ensures) (m .natural-or2 .ensures) (f .fits2 .result) (f .fits2 .ensures) (not-false _ (x .if1 .left)) (sym (i .in-limit .ensures) ∙ not-true _ (c .if2 .taken))
+    let s = f .before .before .before .before .before .before in
+    first-refused (s .args .planet .now) (s .args .earth .now) (s .args .t0) _ _ (s .args .out .now) _ _ _ (read f) (not-false _ (x .if1 .left))
+    (sym (i .in-limit .ensures) ∙ not-true _ (c .if2 .taken))
 
 sub-minute : tie.Need-sub-minute
 sub-minute c =
     let x = c .before .before in
     let f = x .before in
-    let m = f .before in
-    let n = m .before in
-    let s = n .before .before .before .before in
-    in-range (s .args .planet .now) (s .args .earth .now) (s .args .t0) (s .args .minutes) (s .args .keep-out) (s .args .out .now) (n .natural-or .result) (m .natural-or2 .result) (search needs) (search needs) (n .natural-or .ensures) (m .natural-or2 .ensures) (f .fits2 .result) (f .fits2 .ensures) (not-false _ (x .if1 .left)) .0
+    let s = f .before .before .before .before .before .before in
+    in-range (s .args .planet .now) (s .args .earth .now) (s .args .t0) _ _ (s .args .out .now) _ _ _ (read f)
+    (not-false _ (x .if1 .left)) .0
 
 minute-requires : tie.Need-minute-requires
 minute-requires c κs =
     let i = c .before in
     let x = i .before in
     let f = x .before in
-    let m = f .before in
-    let n = m .before in
+    let n = f .before .before in
     let s = n .before .before .before .before in
-    let r = in-range (s .args .planet .now) (s .args .earth .now) (s .args .t0) (s .args .minutes) (s .args .keep-out) (s .args .out .now) (n .natural-or .result) (m .natural-or2 .result) (search needs) (search needs) (n .natural-or .ensures) (m .natural-or2 .ensures) (f .fits2 .result) (f .fits2 .ensures) (not-false _ (x .if1 .left)) in
+    let r = in-range (s .args .planet .now) (s .args .earth .now) (s .args .t0) _ _ (s .args .out .now) _ _ _ (read f) (not-false _ (x .if1 .left)) in
     (within _ (i .in-limit .result) (i .in-limit .ensures) (c .if2 .left), last-few (n .natural-or .result) (r .0) (r .1))
 
 in-limit-requires-2 : tie.Need-in-limit-requires-2
@@ -74,10 +84,10 @@ returns-3 c =
     let i = y .before in
     let x = i .before in
     let f = x .before in
-    let m = f .before in
-    let n = m .before in
-    let s = n .before .before .before .before in
-    last-refused (s .args .planet .now) (s .args .earth .now) (s .args .t0) (s .args .minutes) (s .args .keep-out) (s .args .out .now) (n .natural-or .result) (m .natural-or2 .result) (search needs) (search needs) (n .natural-or .ensures) (m .natural-or2 .ensures) (f .fits2 .result) (f .fits2 .ensures) (not-false _ (x .if1 .left)) (no-turn _ (i .in-limit .result) (i .in-limit .ensures) (y .if2 .left)) (t .minute .result) (t .minute .ensures) (sym (j .in-limit2 .ensures) ∙ not-true _ (c .if3 .taken))
+    let s = f .before .before .before .before .before .before in
+    last-refused (s .args .planet .now) (s .args .earth .now) (s .args .t0) _ _ (s .args .out .now) _ _ _ (read f)
+    (not-false _ (x .if1 .left)) (no-turn _ (i .in-limit .result) (i .in-limit .ensures) (y .if2 .left)) (t .minute .result) (t .minute .ensures)
+    (sym (j .in-limit2 .ensures) ∙ not-true _ (c .if3 .taken))
 
 of-series-requires : tie.Need-of-series-requires
 of-series-requires c κs =
@@ -88,10 +98,10 @@ of-series-requires c κs =
     let i = y .before in
     let x = i .before in
     let f = x .before in
-    let m = f .before in
-    let n = m .before in
-    let s = n .before .before .before .before in
-    window (s .args .planet .now) (s .args .earth .now) (s .args .t0) (s .args .minutes) (s .args .keep-out) (s .args .out .now) (n .natural-or .result) (m .natural-or2 .result) (search needs) (search needs) (n .natural-or .ensures) (m .natural-or2 .ensures) (f .fits2 .result) (f .fits2 .ensures) (not-false _ (x .if1 .left)) (no-turn _ (i .in-limit .result) (i .in-limit .ensures) (y .if2 .left)) (t .minute .result) (t .minute .ensures) (no-turn _ (j .in-limit2 .result) (j .in-limit2 .ensures) (z .if3 .left))
+    let s = f .before .before .before .before .before .before in
+    window (s .args .planet .now) (s .args .earth .now) (s .args .t0) _ _ (s .args .out .now) _ _ _ (read f)
+    (not-false _ (x .if1 .left)) (no-turn _ (i .in-limit .result) (i .in-limit .ensures) (y .if2 .left)) (t .minute .result) (t .minute .ensures)
+    (no-turn _ (j .in-limit2 .result) (j .in-limit2 .ensures) (z .if3 .left))
 
 same-length : tie.Need-same-length
 same-length c = search needs
@@ -106,10 +116,11 @@ returns-4 c =
     let i = y .before in
     let x = i .before in
     let f = x .before in
-    let m = f .before in
-    let n = m .before in
-    let s = n .before .before .before .before in
-    series-told (s .args .planet .now) (s .args .earth .now) (s .args .t0) (s .args .minutes) (s .args .keep-out) (s .args .out .now) (n .natural-or .result) (m .natural-or2 .result) (search needs) (search needs) (n .natural-or .ensures) (m .natural-or2 .ensures) (f .fits2 .result) (f .fits2 .ensures) (not-false _ (x .if1 .left)) (no-turn _ (i .in-limit .result) (i .in-limit .ensures) (y .if2 .left)) (t .minute .result) (t .minute .ensures) (no-turn _ (j .in-limit2 .result) (j .in-limit2 .ensures) (z .if3 .left)) (o .of-series .result) _ (o .of-series .ensures .0) (o .of-series .ensures .1)
+    let s = f .before .before .before .before .before .before in
+    series-told (s .args .planet .now) (s .args .earth .now) (s .args .t0) _ _ (s .args .out .now) _ _ _ (read f)
+    (not-false _ (x .if1 .left)) (no-turn _ (i .in-limit .result) (i .in-limit .ensures) (y .if2 .left)) (t .minute .result) (t .minute .ensures)
+    (no-turn _ (j .in-limit2 .result) (j .in-limit2 .ensures) (z .if3 .left)) (o .of-series .result) _ (o .of-series .ensures .0)
+    (o .of-series .ensures .1)
 
 pub sun-list-spec : {M : Type 1} → statement M
 sun-list-spec =

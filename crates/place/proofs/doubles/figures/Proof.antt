@@ -14,7 +14,12 @@ units-of-distance-requires : tie.Need-units-of-distance-requires
 units-of-distance-requires c κs = search needs
 
 returns : tie.Need-returns
-returns c = let b = c .before .before in let a = b .before .before in let s = a .before .before in figures-are (s .args .p) (s .pre) (a .degrees .result) (b .degrees2 .result) (c .units-of-distance .result) (a .degrees .ensures) (b .degrees2 .ensures) (c .units-of-distance .ensures)
+returns c =
+    let b = c .before .before in
+    let a = b .before .before in
+    let s = a .before .before in
+    figures-are (s .args .p) (s .pre) (a .degrees .result) (b .degrees2 .result) (c .units-of-distance .result) (a .degrees .ensures) (b .degrees2 .ensures)
+    (c .units-of-distance .ensures)
 
 pub figures-spec : {M : Type 1} → statement M
 figures-spec =

@@ -54,7 +54,8 @@ add-from-angles c =
     let s = d .before .before .before in
     record {
       fits = sum-fits (s .args .v) (s .args .nutation) (s .pre) (back (s .args .nutation) (s .fits .nutation))
-          (d .direction-of .result) (l .latitude-of .result) (d .direction-of .ensures) (l .latitude-of .ensures) (x .angle-of .result) (y .angle-of2 .result) (z .residue .result) (x .angle-of .ensures) (y .angle-of2 .ensures) (z .residue .ensures);
+          (d .direction-of .result) (l .latitude-of .result) (d .direction-of .ensures) (l .latitude-of .ensures) (x .angle-of .result) (y .angle-of2 .result)
+          (z .residue .result) (x .angle-of .ensures) (y .angle-of2 .ensures) (z .residue .ensures);
     }
 
 from-angles-requires : tie.Need-from-angles-requires

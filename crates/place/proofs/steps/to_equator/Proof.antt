@@ -22,13 +22,19 @@ scale-requires : tie.Need-scale-requires
 scale-requires c κs = let t = c .before .before in (held-lt (t .before .args .v .y) (y-small t), cosine-cell _ _ (t .cosine-sine .ensures .0))
 
 scale-requires-2 : tie.Need-scale-requires-2
-scale-requires-2 c κs = let t = c .before .before .before .before .before in (held-lt (t .before .args .v .y) (y-small t), sine-cell _ _ (t .cosine-sine .ensures .1))
+scale-requires-2 c κs =
+    let t = c .before .before .before .before .before in
+    (held-lt (t .before .args .v .y) (y-small t), sine-cell _ _ (t .cosine-sine .ensures .1))
 
 scale-requires-3 : tie.Need-scale-requires-3
-scale-requires-3 c κs = let t = c .before .before .before .before .before .before .before .before in (held-lt (t .before .args .v .z) (z-small t), cosine-cell _ _ (t .cosine-sine .ensures .0))
+scale-requires-3 c κs =
+    let t = c .before .before .before .before .before .before .before .before in
+    (held-lt (t .before .args .v .z) (z-small t), cosine-cell _ _ (t .cosine-sine .ensures .0))
 
 scale-requires-4 : tie.Need-scale-requires-4
-scale-requires-4 c κs = let t = c .before .before .before .before .before .before .before .before .before .before .before in (held-lt (t .before .args .v .z) (z-small t), sine-cell _ _ (t .cosine-sine .ensures .1))
+scale-requires-4 c κs =
+    let t = c .before .before .before .before .before .before .before .before .before .before .before in
+    (held-lt (t .before .args .v .z) (z-small t), sine-cell _ _ (t .cosine-sine .ensures .1))
 
 sub-requires : tie.Need-sub-requires
 sub-requires c κs =
@@ -38,7 +44,9 @@ sub-requires c κs =
     let a = f .before .before .before in
     let t = a .before .before .before in
     let s = t .before in
-    y-asks (s .args .v) (s .pre .0) (s .args .obliquity) (t .cosine-sine .result .cos) (t .cosine-sine .result .sin) (t .cosine-sine .ensures .0) (t .cosine-sine .ensures .1) (a .scale .result) (f .scale2 .result) (g .scale3 .result) (d .scale4 .result) (a .scale .ensures) (f .scale2 .ensures) (g .scale3 .ensures) (d .scale4 .ensures)
+    y-asks (s .args .v) (s .pre .0) (s .args .obliquity) (t .cosine-sine .result .cos) (t .cosine-sine .result .sin) (t .cosine-sine .ensures .0)
+    (t .cosine-sine .ensures .1) (a .scale .result) (f .scale2 .result) (g .scale3 .result) (d .scale4 .result) (a .scale .ensures) (f .scale2 .ensures)
+    (g .scale3 .ensures) (d .scale4 .ensures)
 
 add-requires : tie.Need-add-requires
 add-requires c κs =
@@ -48,7 +56,9 @@ add-requires c κs =
     let a = f .before .before .before in
     let t = a .before .before .before in
     let s = t .before in
-    z-asks (s .args .v) (s .pre .0) (s .args .obliquity) (t .cosine-sine .result .cos) (t .cosine-sine .result .sin) (t .cosine-sine .ensures .0) (t .cosine-sine .ensures .1) (a .scale .result) (f .scale2 .result) (g .scale3 .result) (d .scale4 .result) (a .scale .ensures) (f .scale2 .ensures) (g .scale3 .ensures) (d .scale4 .ensures)
+    z-asks (s .args .v) (s .pre .0) (s .args .obliquity) (t .cosine-sine .result .cos) (t .cosine-sine .result .sin) (t .cosine-sine .ensures .0)
+    (t .cosine-sine .ensures .1) (a .scale .result) (f .scale2 .result) (g .scale3 .result) (d .scale4 .result) (a .scale .ensures) (f .scale2 .ensures)
+    (g .scale3 .ensures) (d .scale4 .ensures)
 
 returns : tie.Need-returns
 returns c =
@@ -58,7 +68,10 @@ returns c =
     let a = f .before .before .before in
     let t = a .before .before .before in
     let s = t .before in
-    to-equator-is (s .args .v) (s .pre .0) (s .args .obliquity) (t .cosine-sine .result .cos) (t .cosine-sine .result .sin) (t .cosine-sine .ensures .0) (t .cosine-sine .ensures .1) (a .scale .result) (f .scale2 .result) (g .scale3 .result) (d .scale4 .result) (a .scale .ensures) (f .scale2 .ensures) (g .scale3 .ensures) (d .scale4 .ensures) (c .before .before .sub .result) (c .before .add .result) (c .before .before .sub .ensures) (c .before .add .ensures)
+    to-equator-is (s .args .v) (s .pre .0) (s .args .obliquity) (t .cosine-sine .result .cos) (t .cosine-sine .result .sin) (t .cosine-sine .ensures .0)
+    (t .cosine-sine .ensures .1) (a .scale .result) (f .scale2 .result) (g .scale3 .result) (d .scale4 .result) (a .scale .ensures) (f .scale2 .ensures)
+    (g .scale3 .ensures) (d .scale4 .ensures) (c .before .before .sub .result) (c .before .add .result) (c .before .before .sub .ensures)
+    (c .before .add .ensures)
 
 pub to-equator-spec : {M : Type 1} → statement M
 to-equator-spec =

@@ -17,7 +17,8 @@ earth-good : (c : tie.Else2) → radius-usable (c .before .before .before .befor
 earth-good c =
     let a = c .before .before .before in
     let s = a .before .before .before in
-    earth-passes (s .args .planet) (s .args .earth) (planet-good a) (c .before .usable-radius2 .result) (search needs) (c .before .usable-radius2 .ensures) (c .if2 .left)
+    earth-passes (s .args .planet) (s .args .earth) (planet-good a) (c .before .usable-radius2 .result) (search needs) (c .before .usable-radius2 .ensures)
+    (c .if2 .left)
 
 usable-radius-requires : tie.Need-usable-radius-requires
 usable-radius-requires c κs = search needs
@@ -34,7 +35,8 @@ returns-2 : tie.Need-returns-2
 returns-2 c =
     let a = c .before .before .before in
     let s = a .before .before .before in
-    earth-refused (s .args .planet) (s .args .earth) (planet-good a) (c .before .usable-radius2 .result) (search needs) (c .before .usable-radius2 .ensures) (c .if2 .taken)
+    earth-refused (s .args .planet) (s .args .earth) (planet-good a) (c .before .usable-radius2 .result) (search needs) (c .before .usable-radius2 .ensures)
+    (c .if2 .taken)
 
 view-requires : tie.Need-view-requires
 view-requires c κs = (planet-good (c .before .before .before), earth-good c)

@@ -17,7 +17,11 @@ wide-requires : tie.Need-wide-requires
 wide-requires c κs = search needs
 
 returns-2 : tie.Need-returns-2
-returns-2 c = let a = c .before in let s = a .before .before in far-enough (s .args .planet) (s .args .earth) (s .pre .0) (s .pre .1) (s .args .distance) (a .add .result) (c .wide .result) (a .before .if1 .left) (s .pre .2) (a .add .ensures) (c .wide .ensures)
+returns-2 c =
+    let a = c .before in
+    let s = a .before .before in
+    far-enough (s .args .planet) (s .args .earth) (s .pre .0) (s .pre .1) (s .args .distance) (a .add .result) (c .wide .result) (a .before .if1 .left)
+    (s .pre .2) (a .add .ensures) (c .wide .ensures)
 
 pub usable-distance-spec : {M : Type 1} → statement M
 usable-distance-spec = tie.close (tie.spec returns add-requires mul-wide wide-requires returns-2)

@@ -4,7 +4,7 @@ use Prim.Native.Nat.{ℕ, _≤_}
 use lib.ListN.{length}
 use Rattle.sunlist.specs.SunList.{answered, written}
 use Rattle.sunlist.specs.machine.Answers.{decided-at}
-use Rattle.sunlist.specs.machine.Working.{Window}
+use Rattle.sunlist.specs.machine.Window.{Window}
 use Rattle.sunlist.proofs.Listing.{part-length, part-bad, part-size, part-numbers}
 use borrow.Author.Needs.{needs}
 use Rattle.sunlist.proofs.list.list_in.Statement.{statement}

@@ -18,7 +18,8 @@ unit-requires : tie.Need-unit-requires
 unit-requires c κs =
     let b = c .before in
     let s = b .before in
-    unit-asks (s .args .k) (s .args .planet) (s .args .earth) (s .pre .1) (s .args .v) (s .pre .2) (b .sun .result) (b .sun .ensures) (c .length .result) (c .length .ensures .0)
+    unit-asks (s .args .k) (s .args .planet) (s .args .earth) (s .pre .1) (s .args .v) (s .pre .2) (b .sun .result) (b .sun .ensures) (c .length .result)
+    (c .length .ensures .0)
 
 unit-requires-2 : tie.Need-unit-requires-2
 unit-requires-2 c κs =

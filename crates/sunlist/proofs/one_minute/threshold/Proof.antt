@@ -23,7 +23,10 @@ mul-requires-2 : tie.Need-mul-requires-2
 mul-requires-2 c κs = let a = c .before in four-fits (a .before .args .k) (a .sine-at .result) (a .sine-at .ensures) (c .mul .result) (c .mul .ensures)
 
 returns : tie.Need-returns
-returns c = let m = c .before in let a = m .before in four-is (a .before .args .k) (a .sine-at .result) (a .sine-at .ensures) (m .mul .result) (m .mul .ensures) (c .mul2 .result) (c .mul2 .ensures)
+returns c =
+    let m = c .before in
+    let a = m .before in
+    four-is (a .before .args .k) (a .sine-at .result) (a .sine-at .ensures) (m .mul .result) (m .mul .ensures) (c .mul2 .result) (c .mul2 .ensures)
 
 pub threshold-spec : {M : Type 1} → statement M
 threshold-spec =

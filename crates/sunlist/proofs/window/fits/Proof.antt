@@ -1,6 +1,6 @@
 -- `sunlist::window::fits` meets its contract. Assumes nothing.
 use native.Mathlib.Omega.{arith}
-use Rattle.sunlist.proofs.Listing.{angle-low, angle-high, no-minutes, minutes-told}
+use Rattle.sunlist.proofs.Windows.{angle-low, angle-high, no-minutes, minutes-told}
 use Rattle.sunlist.proofs.window.fits.Statement.{statement}
 use Rattle.sunlist.proofs.window.fits.Tie as tie
 

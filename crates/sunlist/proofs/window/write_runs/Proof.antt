@@ -1,7 +1,7 @@
 -- `sunlist::window::write_runs` meets its contract. Assumes nothing.
 use native.Mathlib.Omega.{arith}
 use Rattle.runs.specs.Runs.{run-numbers}
-use Rattle.sunlist.proofs.Written.{no-room, all-written}
+use Rattle.sunlist.proofs.Windows.{no-room, all-written}
 use borrow.Author.Needs.{needs}
 use Rattle.sunlist.proofs.window.write_runs.Statement.{statement}
 use Rattle.sunlist.proofs.window.write_runs.Tie as tie
@@ -10,7 +10,10 @@ count-requires : tie.Need-count-requires
 count-requires c κs = search needs
 
 returns : tie.Need-returns
-returns c = let n = c .before in let s = n .before .before .before in no-room (run-numbers (s .args .window .now)) (s .args .out .now) (n .count .result) (n .count .ensures) (c .if1 .taken)
+returns c =
+    let n = c .before in
+    let s = n .before .before .before in
+    no-room (run-numbers (s .args .window .now)) (s .args .out .now) (n .count .result) (n .count .ensures) (c .if1 .taken)
 
 write-requires : tie.Need-write-requires
 write-requires c κs = search needs

@@ -1,4 +1,4 @@
--- What the code of the list asks of a window, and what it answers of its flags. No part of document 01.
+-- What the code of the list asks of a window, and what it answers of its minutes' flags.
 use mathlib.Core.Path.{_≡_}
 use mathlib.Core.List.{List}
 use Prim.Native.Nat.{ℕ, _≤_, _<_}
@@ -17,6 +17,6 @@ pub record Window (t0 : Instant) (n k : ℕ) : Type 0 where
   pub within : (j : ℕ) → j < n → natAbs (minute t0 j .ms) ≤ t-limit
 
 -- The first bad minute of n, or n; where there is none, the flags of all.
-pub record Filled (at : ℕ → Decision) (n bad : ℕ) (flags : List ℕ) : Type 0 where
+pub record Flagged (at : ℕ → Decision) (n bad : ℕ) (flags : List ℕ) : Type 0 where
   pub bad-is : bad ≡ first-bad at 0 n
   pub flags-are : n ≤ bad → flags ≡ window-flags at 0 n

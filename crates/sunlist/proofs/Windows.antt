@@ -1,9 +1,11 @@
--- What the functions of a window answer, from the bits of their numbers. Assumes nothing.
+-- What the functions of window.rt ask and answer. Assumes nothing.
 use mathlib.Core.Path.{_≡_, refl, sym, ap₂, _∙_, subst}
+use mathlib.Core.Bool.{false}
 use mathlib.Core.List.{List}
 use Prim.Native.Nat.{ℕ, _+_, _*_, _^_, _≤_, _<_}
 use native.Mathlib.Omega.{arith}
 use borrow.Author.Tests.{le-leb, lt-leb}
+use lib.Dec.{leb}
 use lib.IntN.{ℤ, pos, natAbs, _+ℤ_}
 use lib.ListN.{length}
 use lib.Seq.{sets}
@@ -13,8 +15,28 @@ use Rattle.integers.proofs.Order.{natAbs-+, fits}
 use Rattle.units.specs.Units.{t-limit}
 use Rattle.units.specs.declared.Refusal.the-variants.{NoRoom}
 use Rattle.arith.proofs.Cells.{Cell, cell}
+use Rattle.separation.specs.Arcminutes.{least-keep-out, greatest-keep-out}
 use Rattle.sunlist.specs.declared.ListAnswer.the-variants.{Runs, NoList}
-use Rattle.sunlist.specs.SunList.{minute-ms, most-minutes, numbers, answered, written}
+use Rattle.sunlist.specs.SunList.{minute-ms, most-minutes, window-fits, numbers, answered, written}
+
+-- ---- fits
+
+module _ (n k : ℕ) where
+  pub angle-low : k < least-keep-out → false ≡ window-fits (pos n) (pos k)
+  unfolding window-fits
+  angle-low h = rw (lt-leb least-keep-out k h)
+
+  pub angle-high : least-keep-out ≤ k → greatest-keep-out < k → false ≡ window-fits (pos n) (pos k)
+  unfolding window-fits
+  angle-high g h = rw (le-leb least-keep-out k g, lt-leb k greatest-keep-out h)
+
+  pub no-minutes : least-keep-out ≤ k → k ≤ greatest-keep-out → n < 1 → false ≡ window-fits (pos n) (pos k)
+  unfolding window-fits
+  no-minutes g h l = rw (le-leb least-keep-out k g, le-leb k greatest-keep-out h, lt-leb 1 n l)
+
+  pub minutes-told : least-keep-out ≤ k → k ≤ greatest-keep-out → 1 ≤ n → leb n most-minutes ≡ window-fits (pos n) (pos k)
+  unfolding window-fits
+  minutes-told g h l = rw (le-leb least-keep-out k g, le-leb k greatest-keep-out h, le-leb 1 n l)
 
 -- ---- minute
 module _ (t : ℤ) (j : ℕ) (w : ℤ) (ht : natAbs t ≤ t-limit) (hj : j < most-minutes) (e : w ≡ pos (minute-ms * j)) where
@@ -31,10 +53,12 @@ module _ (t : ℤ) (j : ℕ) (w : ℤ) (ht : natAbs t ≤ t-limit) (hj : j < mos
   minute-is r f = let p = f ∙ later in cell r (subst (λ (z : ℤ). natAbs z < 2 ^ 63) (sym p) small) ∙ p
 
 -- ---- write_runs
-pub no-room : (xs out : List ℕ) (n : ℕ) → n ≡ length xs → length out < n → (NoList (NoRoom n) ≡ answered (length out) (numbers xs)) × (out ≡ written out (numbers xs))
+pub no-room : (xs out : List ℕ) (n : ℕ) → n ≡ length xs → length out < n → (NoList (NoRoom n) ≡ answered (length out) (numbers xs))
+    × (out ≡ written out (numbers xs))
 unfolding answered written
 no-room xs out n e h = let l : length out < length xs = omega arith in rw (lt-leb (length xs) (length out) l, e) (refl, refl)
 
-pub all-written : (xs out now : List ℕ) (n : ℕ) → n ≡ length xs → n ≤ length out → now ≡ sets out 0 xs → (Runs n ≡ answered (length out) (numbers xs)) × (now ≡ written out (numbers xs))
+pub all-written : (xs out now : List ℕ) (n : ℕ) → n ≡ length xs → n ≤ length out → now ≡ sets out 0 xs → (Runs n ≡ answered (length out) (numbers xs))
+    × (now ≡ written out (numbers xs))
 unfolding answered written
 all-written xs out now n e h f = let l : length xs ≤ length out = omega arith in rw (le-leb (length xs) (length out) l, e) (refl, f)

@@ -24,7 +24,8 @@ size : (W η q X : ℤ) → pos 0 ≼ W → pos 0 ≼ η → η ≼ eps *ℤ W �
     → pos 2 *ℤ X ≼ pos 2 *ℤ (W *ℤ W *ℤ q) +ℤ pos 7 *ℤ η *ℤ (W *ℤ pos (U + 2)) +ℤ pos 6 *ℤ (η *ℤ η)
     → pos 1000 *ℤ X ≼ pos (1001 * (U * U)) *ℤ (W *ℤ W)
 size W η q X hW hη hs hq h =
-    cert! (W ∷ η ∷ q ∷ X ∷ []) 0 (500 · gap h ⊞ 1000 · (sqr W ⊛ gap hq) ⊞ 3500000007000 · (hW ⊛ gap hs) ⊞ 3000 · (hη ⊛ gap hs) ⊞ 390000000 · (hW ⊛ gap hs) ⊞ 544945299090000000 · sqr W)
+    cert! (W ∷ η ∷ q ∷ X ∷ []) 0 (500 · gap h ⊞ 1000 · (sqr W ⊛ gap hq) ⊞ 3500000007000 · (hW ⊛ gap hs) ⊞ 3000 · (hη ⊛ gap hs) ⊞ 390000000 · (hW ⊛ gap hs)
+    ⊞ 544945299090000000 · sqr W)
     (search polys depth 60 fits 100000) tt
 
 sum-low : (W σ q r X Y : ℤ) → pos 0 ≼ W → σ ≼ eps *ℤ W → pos (U * U) ≼ q +ℤ pos (4 * U) → pos (U * U) ≼ r +ℤ pos (4 * U)
@@ -41,17 +42,19 @@ difference : (W η ζ q r X Y : ℤ) → pos 0 ≼ W → pos 0 ≼ η → pos 0 
     → pos 2 *ℤ (X -ℤ Y) ≼ pos 910117401820000 *ℤ (W *ℤ W)
 difference W η ζ q r X Y hW hη hζ hs hq hr hx hy =
     cert! (W ∷ η ∷ ζ ∷ q ∷ r ∷ X ∷ Y ∷ []) 0
-    (gap hx ⊞ gap hy ⊞ 2 · (sqr W ⊛ (gap hq ⊞ gap hr)) ⊞ 7000000014 · (hW ⊛ gap hs) ⊞ 6 · (hη ⊛ gap hs) ⊞ 6 · (hη ⊛ hζ) ⊞ 780000 · (hW ⊛ gap hs) ⊞ 780000 · (hW ⊛ hζ))
+    (gap hx ⊞ gap hy ⊞ 2 · (sqr W ⊛ (gap hq ⊞ gap hr)) ⊞ 7000000014 · (hW ⊛ gap hs) ⊞ 6 · (hη ⊛ gap hs) ⊞ 6 · (hη ⊛ hζ) ⊞ 780000 · (hW ⊛ gap hs)
+    ⊞ 780000 · (hW ⊛ hζ))
     (search polys depth 60 fits 100000) tt
 
 -- (X − Y)² is at most 7 eps² W² (X + Y).
-even-lengths : (W X Y : ℤ) → pos 3999089983998180000 *ℤ (W *ℤ W) ≼ pos 2 *ℤ (X +ℤ Y) → pos 2 *ℤ (X -ℤ Y) ≼ pos 910117401820000 *ℤ (W *ℤ W) → pos 2 *ℤ (Y -ℤ X) ≼ pos 910117401820000 *ℤ (W *ℤ W)
+even-lengths : (W X Y : ℤ) → pos 3999089983998180000 *ℤ (W *ℤ W) ≼ pos 2 *ℤ (X +ℤ Y) → pos 2 *ℤ (X -ℤ Y) ≼ pos 910117401820000 *ℤ (W *ℤ W)
+    → pos 2 *ℤ (Y -ℤ X) ≼ pos 910117401820000 *ℤ (W *ℤ W)
     → (X -ℤ Y) *ℤ (X -ℤ Y) ≼ pos 7 *ℤ eps *ℤ eps *ℤ (W *ℤ W) *ℤ (X +ℤ Y)
 even-lengths W X Y hs hd he =
     cert! (W ∷ X ∷ Y ∷ []) 3 (gap hd ⊛ gap he ⊞ 236600000000 · (sqr W ⊛ gap hs) ⊞ 117871005118382048687600000000 · (sqr W ⊛ sqr W))
     (search polys depth 60 fits 100000) tt
 
-pub record Sizes (W X Y : ℤ) : Type 0 where
+pub record Lengths (W X Y : ℤ) : Type 0 where
   pub X-high : pos 1000 *ℤ X ≼ pos (1001 * (U * U)) *ℤ (W *ℤ W)
   pub Y-high : pos 1000 *ℤ Y ≼ pos (1001 * (U * U)) *ℤ (W *ℤ W)
   pub sum-pos : pos 0 ≺ X +ℤ Y
@@ -60,19 +63,23 @@ pub record Sizes (W X Y : ℤ) : Type 0 where
 unit-length : (W q : ℤ) → q ≼ pos (U * U + 4 * U) → W *ℤ W *ℤ q ≼ W *ℤ pos (U + 2) *ℤ (W *ℤ pos (U + 2))
 unit-length W q h = cert! (W ∷ q ∷ []) 0 (sqr W ⊛ gap h ⊞ 4 · sqr W) (search polys depth 60 fits 100000) tt
 
-module _ (W η ζ : ℤ) (u v s g : Vector) (hW : pos 0 ≺ W) (hu : Unit³ u) (hv : Unit³ v) (ws : Bd³ η (sub s (scl W u))) (wg : Bd³ ζ (sub g (scl W v))) (small : η +ℤ ζ ≼ eps *ℤ W) where
+module _ (W η ζ : ℤ) (u v s g : Vector) (hW : pos 0 ≺ W) (hu : Unit³ u) (hv : Unit³ v) (ws : Bd³ η (sub s (scl W u))) (wg : Bd³ ζ (sub g (scl W v)))
+    (small : η +ℤ ζ ≼ eps *ℤ W) where
   W₀ : pos 0 ≼ W
   W₀ = ≺-≼ hW
 
   lower : (t : ℤ) (a a′ : Vector) → Unit³ a → Bd³ t (sub a′ (scl W a)) → pos 2 *ℤ (W *ℤ W *ℤ dot a a) ≼ pos 2 *ℤ dot a′ a′ +ℤ pos 7 *ℤ t *ℤ (W *ℤ pos (U + 2))
   lower t a a′ ha w =
       subst (λ (d : ℤ). pos 2 *ℤ d ≼ pos 2 *ℤ dot a′ a′ +ℤ pos 7 *ℤ t *ℤ (W *ℤ pos (U + 2))) (dot-scl W W a a)
-      (length-low t (W *ℤ pos (U + 2)) (scl W a) a′ w (W₀ ⊛ nonneg (U + 2)) (subst (λ (d : ℤ). d ≼ W *ℤ pos (U + 2) *ℤ (W *ℤ pos (U + 2))) (sym (dot-scl W W a a)) (unit-length W (dot a a) (ha .most))))
+      (length-low t (W *ℤ pos (U + 2)) (scl W a) a′ w (W₀ ⊛ nonneg (U + 2))
+      (subst (λ (d : ℤ). d ≼ W *ℤ pos (U + 2) *ℤ (W *ℤ pos (U + 2))) (sym (dot-scl W W a a)) (unit-length W (dot a a) (ha .most))))
 
-  upper : (t : ℤ) (a a′ : Vector) → Unit³ a → Bd³ t (sub a′ (scl W a)) → pos 2 *ℤ dot a′ a′ ≼ pos 2 *ℤ (W *ℤ W *ℤ dot a a) +ℤ pos 7 *ℤ t *ℤ (W *ℤ pos (U + 2)) +ℤ pos 6 *ℤ (t *ℤ t)
+  upper : (t : ℤ) (a a′ : Vector) → Unit³ a → Bd³ t (sub a′ (scl W a))
+      → pos 2 *ℤ dot a′ a′ ≼ pos 2 *ℤ (W *ℤ W *ℤ dot a a) +ℤ pos 7 *ℤ t *ℤ (W *ℤ pos (U + 2)) +ℤ pos 6 *ℤ (t *ℤ t)
   upper t a a′ ha w =
       subst (λ (d : ℤ). pos 2 *ℤ dot a′ a′ ≼ pos 2 *ℤ d +ℤ pos 7 *ℤ t *ℤ (W *ℤ pos (U + 2)) +ℤ pos 6 *ℤ (t *ℤ t)) (dot-scl W W a a)
-      (length-high t (W *ℤ pos (U + 2)) (scl W a) a′ w (W₀ ⊛ nonneg (U + 2)) (subst (λ (d : ℤ). d ≼ W *ℤ pos (U + 2) *ℤ (W *ℤ pos (U + 2))) (sym (dot-scl W W a a)) (unit-length W (dot a a) (ha .most))))
+      (length-high t (W *ℤ pos (U + 2)) (scl W a) a′ w (W₀ ⊛ nonneg (U + 2))
+      (subst (λ (d : ℤ). d ≼ W *ℤ pos (U + 2) *ℤ (W *ℤ pos (U + 2))) (sym (dot-scl W W a a)) (unit-length W (dot a a) (ha .most))))
 
   η₀ : pos 0 ≼ η
   η₀ = bd³-nonneg η (sub s (scl W u)) ws
@@ -90,16 +97,19 @@ module _ (W η ζ : ℤ) (u v s g : Vector) (hW : pos 0 ≺ W) (hu : Unit³ u) (
   small-r = cert! (W ∷ η ∷ ζ ∷ []) 0 (gap small) (search polys depth 60 fits 100000) tt
 
   lows : pos 2 *ℤ (W *ℤ W *ℤ dot u u) +ℤ pos 2 *ℤ (W *ℤ W *ℤ dot v v) ≼ pos 2 *ℤ dot s s +ℤ pos 2 *ℤ dot g g +ℤ pos 7 *ℤ (η +ℤ ζ) *ℤ (W *ℤ pos (U + 2))
-  lows = cert! (W ∷ η ∷ ζ ∷ dot u u ∷ dot v v ∷ dot s s ∷ dot g g ∷ []) 0 (gap (lower η u s hu ws) ⊞ gap (lower ζ v g hv wg)) (search polys depth 60 fits 100000) tt
+  lows =
+      cert! (W ∷ η ∷ ζ ∷ dot u u ∷ dot v v ∷ dot s s ∷ dot g g ∷ []) 0 (gap (lower η u s hu ws) ⊞ gap (lower ζ v g hv wg))
+      (search polys depth 60 fits 100000) tt
 
   two-sum : pos 3999089983998180000 *ℤ (W *ℤ W) ≼ pos 2 *ℤ (dot s s +ℤ dot g g)
   two-sum = sum-low W (η +ℤ ζ) (dot u u) (dot v v) (dot s s) (dot g g) W₀ small (hu .least) (hv .least) lows
 
-  pub sizes : Sizes W (dot s s) (dot g g)
-  sizes = record {
+  pub lengths : Lengths W (dot s s) (dot g g)
+  lengths = record {
     X-high = size W η (dot u u) (dot s s) W₀ η₀ small-η (hu .most) (upper η u s hu ws);
     Y-high = size W ζ (dot v v) (dot g g) W₀ ζ₀ small-ζ (hv .most) (upper ζ v g hv wg);
-    sum-pos = cert<! (W ∷ dot s s ∷ dot g g ∷ []) 1 (gap two-sum ⊞ 3999089983998180000 · (gap< hW ⊛ gap< hW ⊞ 2 · gap< hW)) (search polys depth 60 fits 100000) tt;
+    sum-pos =
+        cert<! (W ∷ dot s s ∷ dot g g ∷ []) 1 (gap two-sum ⊞ 3999089983998180000 · (gap< hW ⊛ gap< hW ⊞ 2 · gap< hW)) (search polys depth 60 fits 100000) tt;
     even = even-lengths W (dot s s) (dot g g) two-sum
         (difference W η ζ (dot u u) (dot v v) (dot s s) (dot g g) W₀ η₀ ζ₀ small (hu .most) (hv .least) (upper η u s hu ws) (lower ζ v g hv wg))
         (difference W ζ η (dot v v) (dot u u) (dot g g) (dot s s) W₀ ζ₀ η₀ small-r (hv .most) (hu .least) (upper ζ v g hv wg) (lower η u s hu ws));

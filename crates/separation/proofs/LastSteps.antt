@@ -18,7 +18,8 @@ pub turn-exact : (up low G W X F : ℤ) → pos 0 ≺ up → up ≼ low → pos 
     → (low *ℤ low -ℤ up *ℤ up) *ℤ X -ℤ up *ℤ F ≼ low *ℤ G *ℤ W *ℤ (low *ℤ G *ℤ W)
 turn-exact up low G W X F hu hl hX hg hF =
     cert! (up ∷ low ∷ G ∷ W ∷ X ∷ F ∷ []) 999
-    (sqr W ⊛ gap hg ⊞ gap hl ⊛ (gap hl ⊞ 2 · gap (≺-≼ hu)) ⊛ gap hX ⊞ 1000 · (gap (≺-≼ hu) ⊛ gap hF) ⊞ 118300000000000 · (sqr W ⊛ ((gap hl ⊞ gap (≺-≼ hu)) ⊛ gap hl)))
+    (sqr W ⊛ gap hg ⊞ gap hl ⊛ (gap hl ⊞ 2 · gap (≺-≼ hu)) ⊛ gap hX ⊞ 1000 · (gap (≺-≼ hu) ⊛ gap hF)
+    ⊞ 118300000000000 · (sqr W ⊛ ((gap hl ⊞ gap (≺-≼ hu)) ⊛ gap hl)))
     (search polys depth 60 fits 100000) tt
 
 -- and at the working ones.
@@ -32,7 +33,8 @@ turn-working up low G W q F hu hl hq hg hF =
     ⊞ 1000 · (gap (≺-≼ hu) ⊛ (sqr W ⊛ hF)) ⊞ 118300000000000 · (sqr W ⊛ sqr low))
     (search polys depth 60 fits 100000) tt
 
-pub listed-end : (up low G W σ F₀ F₁ q r d T : ℤ) → pos 0 ≺ up → up ≼ low → pos 0 ≼ G → pos 0 ≺ W → pos 0 ≼ σ → σ ≼ eps *ℤ W → q ≼ pos (U * U + 4 * U) → r ≼ pos (U * U + 4 * U)
+pub listed-end : (up low G W σ F₀ F₁ q r d T : ℤ) → pos 0 ≺ up → up ≼ low → pos 0 ≼ G → pos 0 ≺ W → pos 0 ≼ σ → σ ≼ eps *ℤ W → q ≼ pos (U * U + 4 * U)
+    → r ≼ pos (U * U + 4 * U)
     → pos 2 *ℤ (low -ℤ up) *ℤ pos (2 * U * U + 8 * U) +ℤ (pos 7 *ℤ eps *ℤ G +ℤ pos 20 *ℤ eps *ℤ eps) *ℤ low ≼ pos 2 *ℤ T *ℤ low
     → negℤ (pos 7 *ℤ eps *ℤ eps *ℤ (W *ℤ W) *ℤ low) ≼ F₀
     → pos 2 *ℤ F₀ ≼ pos 2 *ℤ (W *ℤ W *ℤ F₁) +ℤ pos 7 *ℤ σ *ℤ (low *ℤ G *ℤ W) +ℤ pos 6 *ℤ low *ℤ (σ *ℤ σ)
@@ -40,7 +42,8 @@ pub listed-end : (up low G W σ F₀ F₁ q r d T : ℤ) → pos 0 ≺ up → up
     → d ≼ T
 listed-end up low G W σ F₀ F₁ q r d T hu hl hG hW hσ hs hq hr ha hF ht e =
     cert*! (up ∷ low ∷ G ∷ W ∷ σ ∷ F₀ ∷ F₁ ∷ q ∷ r ∷ d ∷ T ∷ []) (pos 2 *ℤ low *ℤ (W *ℤ W)) (positive low W low-pos hW)
-    (sqr W ⊛ gap ha ⊞ 2 · (sqr W ⊛ gap hl ⊛ (gap hq ⊞ gap hr)) ⊞ gap ht ⊞ 2 · gap hF ⊞ 7 · (low₀ ⊛ hG ⊛ (≺-≼ hW ⊛ gap hs)) ⊞ 6 · (low₀ ⊛ gap hs ⊛ (gap hs ⊞ 2 · hσ)) ⊞ 2 · (sqr W ⊛ gap≡ e))
+    (sqr W ⊛ gap ha ⊞ 2 · (sqr W ⊛ gap hl ⊛ (gap hq ⊞ gap hr)) ⊞ gap ht ⊞ 2 · gap hF ⊞ 7 · (low₀ ⊛ hG ⊛ (≺-≼ hW ⊛ gap hs))
+    ⊞ 6 · (low₀ ⊛ gap hs ⊛ (gap hs ⊞ 2 · hσ)) ⊞ 2 · (sqr W ⊛ gap≡ e))
     (search polys depth 60 fits 100000) tt
   where
     low₀ : pos 0 ≼ low -ℤ up +ℤ (up -ℤ pos 0)
@@ -51,7 +54,8 @@ listed-end up low G W σ F₀ F₁ q r d T hu hl hG hW hσ hs hq hr ha hF ht e =
 
     positive : (low W : ℤ) → pos 0 ≺ low → pos 0 ≺ W → pos 0 ≺ pos 2 *ℤ low *ℤ (W *ℤ W)
     positive low W h k =
-        cert<! (low ∷ W ∷ []) 0 (2 · (gap< h ⊛ (gap< k ⊛ gap< k ⊞ 2 · gap< k)) ⊞ 2 · (gap< k ⊛ gap< k ⊞ 2 · gap< k) ⊞ 2 · gap< h) (search polys depth 60 fits 100000) tt
+        cert<! (low ∷ W ∷ []) 0 (2 · (gap< h ⊛ (gap< k ⊛ gap< k ⊞ 2 · gap< k)) ⊞ 2 · (gap< k ⊛ gap< k ⊞ 2 · gap< k) ⊞ 2 · gap< h)
+        (search polys depth 60 fits 100000) tt
 
 -- What is listed has F at least (7 eps G + 20 eps²)/2.
 pub clear-end : (up low G F₁ q r d T : ℤ) → pos 0 ≺ up → up ≼ low → pos (U * U) ≼ q +ℤ pos (4 * U) → pos (U * U) ≼ r +ℤ pos (4 * U)
