@@ -1,4 +1,4 @@
-//! The refusals of document 01, in words.
+//! The refusals of the rules (docs/RULES.md), in words.
 
 use std::fmt;
 
@@ -12,7 +12,7 @@ pub enum Field {
     DayNumber,
 }
 
-/// Why a call gave no answer. Each case has a number in document 01's table and, but for the last, a figure.
+/// Why a call gave no answer. Each case has a number in the table of include/stephylax.h and, but for the last, a figure.
 #[derive(Clone, Copy, Debug, PartialEq, Eq)]
 pub enum Refusal {
     /// 1: the first field that does not exist.
@@ -65,7 +65,7 @@ impl Refusal {
         }
     }
 
-    /// The number in document 01's table.
+    /// The number in that table.
     pub fn number(self) -> u64 {
         match self {
             Refusal::NoSuchDate(_) => 1,

@@ -1,8 +1,17 @@
-// Reads lines of standard input, each a date as three numbers, and prints the day number, `refused 1`, or what is wrong with the line.
+// Reads lines of standard input, each a date as three numbers, and prints the day number, `refused 1`, or what is wrong with the line
+// (RULES, "Programs").
 use date_lines::answer_last;
 use date_lines::answer_piece;
 use date_lines::reader::Line;
 use date_lines::reader::start;
+use libc::STDIN_FILENO;
+use libc::STDOUT_FILENO;
+
+// How much is read at once.
+const PIECE: usize = 512;
+
+// Room for any reply; each byte of a piece may end a line.
+const REPLY_ROOM: usize = 40;
 
 // The line that is being read, and whether there may be more input.
 struct State {
@@ -12,9 +21,9 @@ struct State {
 
 // Reads once and prints the replies to the lines that ended.
 fn step(line: Line) -> State {
-    let mut piece = [0u8; 512];
-    let mut out = [0u8; 20480];
-    let got = libc::read(0, &mut piece);
+    let mut piece = [0u8; PIECE];
+    let mut out = [0u8; REPLY_ROOM * PIECE];
+    let got = libc::read(STDIN_FILENO, &mut piece);
     if got <= 0 {
         return State { line, more: false };
     }
@@ -22,7 +31,7 @@ fn step(line: Line) -> State {
     let turn = answer_piece(line, &piece[..n], &mut out);
     let at = turn.at;
     let next = turn.line;
-    let printed = io::write_all(1, &out[..at]);
+    let printed = io::write_all(STDOUT_FILENO, &out[..at]);
     State {
         line: next,
         more: printed,
@@ -47,7 +56,7 @@ fn run() -> Line {
 
 fn main() {
     let last = run();
-    let mut out = [0u8; 40];
+    let mut out = [0u8; REPLY_ROOM];
     let n = answer_last(last, &mut out);
-    io::write_all(1, &out[..n]);
+    io::write_all(STDOUT_FILENO, &out[..n]);
 }

@@ -1,4 +1,4 @@
--- `main` meets its contract. Assumes nothing.
+-- `date::main` meets its contract. Assumes nothing.
 use native.Mathlib.Omega.{arith}
 use Rattle.date_lines.proofs.PieceLoop.{last-fits, taken}
 use borrow.Author.Needs.{needs}

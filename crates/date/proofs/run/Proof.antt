@@ -1,4 +1,4 @@
--- `run` meets its contract. Assumes nothing.
+-- `date::run` meets its contract. Assumes nothing.
 use native.Mathlib.Omega.{arith}
 use Rattle.date.proofs.run.Statement.{statement}
 use Rattle.date.proofs.run.Tie as tie

@@ -1,4 +1,4 @@
--- `step` meets its contract. Assumes nothing.
+-- `date::step` meets its contract. Assumes nothing.
 use native.Mathlib.Omega.{arith}
 use Rattle.date_lines.proofs.PieceLoop.{replies-fit, taken}
 use borrow.Author.Needs.{needs}

@@ -20,14 +20,22 @@ abs-requires c κs = search needs
 write-all-requires : tie.Need-write-all-requires
 write-all-requires c κs = search needs
 
-mul-print-decimals : tie.Need-mul-print-decimals
-mul-print-decimals c = let a = c .before in let s = a .before .before .before in let h = small (s .args .k) (a .abs .result) (s .pre) (a .abs .ensures) in omega arith
+mul-write-decimals : tie.Need-mul-write-decimals
+mul-write-decimals c =
+    let a = c .before in
+    let s = a .before .before .before in
+    let h = small (s .args .k) (a .abs .result) (s .pre) (a .abs .ensures) in
+    omega arith
 
-add-print-decimals : tie.Need-add-print-decimals
-add-print-decimals c = let a = c .before in let s = a .before .before .before in let h = small (s .args .k) (a .abs .result) (s .pre) (a .abs .ensures) in omega arith
+add-write-decimals : tie.Need-add-write-decimals
+add-write-decimals c =
+    let a = c .before in
+    let s = a .before .before .before in
+    let h = small (s .args .k) (a .abs .result) (s .pre) (a .abs .ensures) in
+    omega arith
 
-print-decimals-requires : tie.Need-print-decimals-requires
-print-decimals-requires c κs = search needs
+write-decimals-requires : tie.Need-write-decimals-requires
+write-decimals-requires c κs = search needs
 
 slice-aggregate-write-all : tie.Need-slice-aggregate-write-all
 slice-aggregate-write-all c = search needs
@@ -35,8 +43,8 @@ slice-aggregate-write-all c = search needs
 write-all-requires-2 : tie.Need-write-all-requires-2
 write-all-requires-2 c κs = search needs
 
-print-signed-requires : tie.Need-print-signed-requires
-print-signed-requires c κs = search needs
+write-signed-requires : tie.Need-write-signed-requires
+write-signed-requires c κs = search needs
 
 slice-aggregate-write-all-2 : tie.Need-slice-aggregate-write-all-2
 slice-aggregate-write-all-2 c = search needs
@@ -54,12 +62,12 @@ print-angle-spec =
     is-neg-requires
     abs-requires
     write-all-requires
-    mul-print-decimals
-    add-print-decimals
-    print-decimals-requires
+    mul-write-decimals
+    add-write-decimals
+    write-decimals-requires
     slice-aggregate-write-all
     write-all-requires-2
-    print-signed-requires
+    write-signed-requires
     slice-aggregate-write-all-2
     write-all-requires-3
     returns)

@@ -1,4 +1,4 @@
--- `convert` is safe. Assumes nothing.
+-- `unpack::convert` is safe. Assumes nothing.
 use mathlib.Core.Path.{sym}
 use native.Mathlib.Omega.{arith}
 use lib.Seq.{length-take-le}
@@ -24,8 +24,8 @@ write-first-requires c κs = search needs
 enum-known-printed-2 : tie.Need-enum-known-printed-2
 enum-known-printed-2 c = search needs
 
-explain-requires : tie.Need-explain-requires
-explain-requires c κs = search needs
+write-refusal-requires : tie.Need-write-refusal-requires
+write-refusal-requires c κs = search needs
 
 same-length : tie.Need-same-length
 same-length c = search needs
@@ -49,7 +49,7 @@ convert-spec =
     enum-known-printed
     write-first-requires
     enum-known-printed-2
-    explain-requires
+    write-refusal-requires
     same-length
     returns-2
     same-length-2

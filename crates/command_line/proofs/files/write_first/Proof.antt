@@ -1,10 +1,10 @@
--- `write_first` is safe. Assumes nothing.
+-- `command_line::files::write_first` is safe. Assumes nothing.
 use mathlib.Core.Path.{sym}
 use native.Mathlib.Omega.{arith}
 use lib.Seq.{length-take-le}
 use borrow.Author.Needs.{needs}
-use Rattle.unpack.proofs.write_first.Statement.{statement}
-use Rattle.unpack.proofs.write_first.Tie as tie
+use Rattle.command_line.proofs.files.write_first.Statement.{statement}
+use Rattle.command_line.proofs.files.write_first.Tie as tie
 
 slice-aggregate-write-all : tie.Need-slice-aggregate-write-all
 slice-aggregate-write-all c = sym (length-take-le _ _ (omega arith))

@@ -1,9 +1,9 @@
--- `command_line::digits` meets its contract. The invariant: the place is within the text, and the value has at most nine digits. Assumes nothing.
+-- `command_line::arguments::digits` meets its contract. The invariant: the place is within the text, and the value has at most nine digits. Assumes nothing.
 use Prim.Native.Nat.{_≤_, _-_}
 use native.Mathlib.Omega.{arith}
 use lib.ListN.{length}
-use Rattle.command_line.proofs.digits.Statement.{statement}
-use Rattle.command_line.proofs.digits.Tie as tie
+use Rattle.command_line.proofs.arguments.digits.Statement.{statement}
+use Rattle.command_line.proofs.arguments.digits.Tie as tie
 
 abbrev Inv-loop : tie.InvT-loop
 Inv-loop text from value₀ i₀ value i = (i ≤ length text) × (value ≤ 999999999)

@@ -1,14 +1,14 @@
--- `position::print_decimals` is safe and ends. The measure is the scale, which every turn divides by ten. Assumes nothing.
+-- `command_line::words::write_decimals` is safe and ends. The measure is the scale, which every turn divides by ten. Assumes nothing.
 use Prim.Native.Nat.{_≤_}
 use borrow.Author.Needs.{needs}
-use Rattle.position.proofs.print_decimals.Statement.{statement}
-use Rattle.position.proofs.print_decimals.Tie as tie
+use Rattle.command_line.proofs.words.write_decimals.Statement.{statement}
+use Rattle.command_line.proofs.words.write_decimals.Tie as tie
 
 abbrev Inv-loop : tie.InvT-loop
-Inv-loop below n unit scale₀ scale = 0 ≤ scale
+Inv-loop to below n unit scale₀ scale = 0 ≤ scale
 
 abbrev μ-loop : tie.MeasureT-loop
-μ-loop below n unit scale₀ scale = scale
+μ-loop to below n unit scale₀ scale = scale
 
 slice-aggregate-write-all : tie.Need-slice-aggregate-write-all Inv-loop μ-loop
 slice-aggregate-write-all c = search needs
@@ -46,8 +46,8 @@ loop-again c = search needs
 returns : tie.Need-returns Inv-loop μ-loop
 returns c = search needs
 
-pub print-decimals-spec : {M : Type 1} → statement M
-print-decimals-spec =
+pub write-decimals-spec : {M : Type 1} → statement M
+write-decimals-spec =
     tie.close
     (tie.spec
     Inv-loop

@@ -1,0 +1,47 @@
+// Files of packed series in, and bytes out.
+use libc::PATH_MAX;
+use libc::STDOUT_FILENO;
+use units::SERIES_LIMIT;
+
+// Room for any packed series: a term has at most 8, 6 and 9 packed bytes, and each of the 18 counts at most 2.
+pub const PACKED_ROOM: usize = 24 * SERIES_LIMIT as usize;
+
+// How many bytes a file had; or that it was not read, which is then told on standard output.
+pub enum Contents {
+    Bytes(usize),
+    Unread,
+}
+
+fn no_file(whose: &[u8]) -> Contents {
+    io::write_all(STDOUT_FILENO, b"no file for ");
+    io::write_all(STDOUT_FILENO, whose);
+    io::write_all(STDOUT_FILENO, b"\n");
+    Contents::Unread
+}
+
+// Reads the file that argument i names, the series of this body, into a buffer that is longer than any file that is taken.
+pub fn read_series(i: usize, whose: &[u8], into: &mut [u8]) -> Contents {
+    let mut path = [0u8; PATH_MAX];
+    let n = os::arg(i, &mut path);
+    if os::errno() != 0 {
+        return no_file(whose);
+    }
+    let fd = os::open_read(&path[..n]);
+    if fd < 0 {
+        return no_file(whose);
+    }
+    let got = io::read_full(fd, into);
+    libc::close(fd);
+    if into.len() <= got {
+        io::write_all(STDOUT_FILENO, b"too long\n");
+        return Contents::Unread;
+    }
+    Contents::Bytes(got)
+}
+
+// Writes the first n bytes on standard output.
+pub fn write_first(bytes: &[u8], n: usize) {
+    if n <= bytes.len() {
+        io::write_all(STDOUT_FILENO, &bytes[..n]);
+    }
+}
