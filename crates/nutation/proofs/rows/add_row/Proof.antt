@@ -13,6 +13,7 @@ use Rattle.cosine.specs.Cosine.{cosine, sine}
 use Rattle.nutation_table.specs.Table.{psi, psi-rate, eps, eps-rate}
 use Rattle.nutation.specs.Nutation.{row-angle, coefficient, longitude-term, obliquity-term}
 use Rattle.cosine.proofs.Ranges.{cosine-size, sine-size}
+use Rattle.nutation.specs.machine.Reduced.{coefficient-limit, sum-limit}
 use Rattle.nutation.proofs.Terms.{same-small, sum-fits, sine-row, cosine-row, longitude-small, obliquity-small}
 use Rattle.nutation.proofs.rows.add_row.Statement.{statement}
 use Rattle.nutation.proofs.rows.add_row.Tie as tie
@@ -41,7 +42,7 @@ at-cos c =
     cosine-row (s .args .t) (s .args .r) (s .args .a) (m .row-sum .result) (c .trig-of .result .cos) (s .pre .2) (m .row-sum .ensures)
     (rw (back (m .row-sum .result) (ok (m .row-sum .ok))) at (c .trig-of .ensures .0))
 
-small : (n : ℕ) → n ≤ 1754800 → n < 2 ^ 63
+small : (n : ℕ) → n ≤ coefficient-limit → n < 2 ^ 63
 small n h = omega arith
 
 scale-requires : tie.Need-scale-requires
@@ -87,10 +88,10 @@ at-eps c =
     let q : k .coefficient-at2 .result ≡ coefficient (s .args .t) (eps (s .args .r)) (eps-rate (s .args .r)) = rw (back (s .args .t) (s .fits .t), f, g) at (k .coefficient-at2 .ensures .0) in
     rw (back (k .coefficient-at2 .result) (ok (k .coefficient-at2 .ok)), e) at (c .scale2 .ensures) ∙ ap₂ (λ x y. rounded (x *ℤ y) U) q (at-cos w)
 
-sum-room : (n : ℕ) → n ≤ 2 ^ 40 → n ≤ 2 ^ 60
+sum-room : (n : ℕ) → n ≤ sum-limit → n ≤ 2 ^ 60
 sum-room n h = omega arith
 
-term-room : (n : ℕ) → n ≤ 1754800 → n ≤ 2 ^ 60
+term-room : (n : ℕ) → n ≤ coefficient-limit → n ≤ 2 ^ 60
 term-room n h = omega arith
 
 add-requires : tie.Need-add-requires
