@@ -10,10 +10,10 @@ use Rattle.integers.proofs.Order.{natAbs-low, natAbs-high, ≺-nat}
 use Rattle.units.specs.Units.{U, quarter, angle-step, angle-per-part}
 use Rattle.cosine.specs.Cosine.{q-of, cosine, sine}
 use Rattle.cosine.specs.Reference.{reference-cosine, reference-sine, Within}
-use Rattle.cosine.proofs.Work.{rounded-most, rounded-least}
-use Rattle.cosine.proofs.Reduce.{Y, B}
-use Rattle.cosine.proofs.Any.{Close-angles, all-errors}
-use Rattle.cosine.proofs.Within.{within-any, within-any-sine, the-turn, G}
+use Rattle.cosine.proofs.WorkingSeries.{rounded-most, rounded-least}
+use Rattle.cosine.proofs.Reductions.{Y, B}
+use Rattle.cosine.proofs.AnyAngle.{Close-angles, all-errors}
+use Rattle.cosine.proofs.WithinReference.{within-any, within-any-sine, the-turn, G}
 
 -- L parts and the fraction n/N (in radians) differ by at most 2·10^5 parts
 pub record Near-longitude (L n : ℤ) (N : ℕ) : Type 0 where

@@ -16,10 +16,10 @@ use Rattle.units.specs.Units.{parts, millennium as T, t-limit, turn as P, quart
 use Rattle.cosine.specs.Cosine.{horner, y-of, cosine-by, even-part, odd-part, q-of, r-of, w-of, working-cosine, cosine}
 use Rattle.cosine.specs.Reference.{power, factorial, sum, alternate, four as F, ref-q, ref-r, even-series, odd-series, reference-cosine, Within}
 use Rattle.cosine.specs.Terms.{Allowed, term-angle, term-cosine, term-reference}
-use Rattle.cosine.proofs.Work.{rounded-most, rounded-least}
-use Rattle.cosine.proofs.Any.{Close-angles}
-use Rattle.cosine.proofs.Turns.{cosine-mod}
-use Rattle.cosine.proofs.Within.{within-any, the-turn, G}
+use Rattle.cosine.proofs.WorkingSeries.{rounded-most, rounded-least}
+use Rattle.cosine.proofs.AnyAngle.{Close-angles}
+use Rattle.cosine.proofs.WholeTurns.{cosine-mod}
+use Rattle.cosine.proofs.WithinReference.{within-any, the-turn, G}
 
 -- |ct| is at most its limits' product, so that |100ct/T|, rounded, is at most 2·10^19
 product : {b : ℕ} {c t : ℤ} → Allowed b c t → Bd (pos c-limit *ℤ pos t-limit) (c *ℤ t)

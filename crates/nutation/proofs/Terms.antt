@@ -18,7 +18,7 @@ use Rattle.integers.proofs.Rounding.{rounded-mono, rounded-zero, rounded-scale}
 use Rattle.arith.proofs.Ranges.{scaled-within}
 use Rattle.units.specs.Units.{U, millennium, turn, t-limit}
 use Rattle.cosine.specs.Cosine.{cosine, sine}
-use Rattle.cosine.proofs.Turns.{cosine-turns, sine-turns}
+use Rattle.cosine.proofs.WholeTurns.{cosine-turns, sine-turns}
 use Rattle.cosine.proofs.Ranges.{cosine-size, sine-size}
 use Rattle.direction.specs.Angles.{units-angle}
 use Rattle.nutation_table.specs.declared.Row.{Row}

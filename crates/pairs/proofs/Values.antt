@@ -12,7 +12,7 @@ use Rattle.arith.proofs.Signs.{back}
 use Rattle.arith.proofs.Cells.{Cell}
 use Rattle.arith.proofs.Ranges.{scaled-within}
 use Rattle.units.specs.Units.{U, a-limit}
-use Rattle.cosine.proofs.Natural.{unbiased}
+use Rattle.cosine.proofs.NaturalSteps.{unbiased}
 
 value-small : (a : ℤ) (c : ℕ) → natAbs a < a-limit → c ≤ 2 * U → natAbs (rounded (a *ℤ (pos c -ℤ pos U)) U) ≤ a-limit
 value-small a c h k = scaled-within a (pos c -ℤ pos U) U a-limit (omega arith) (omega arith) (natAbs-le (pos c -ℤ pos U) U (less (negᵢ (nat U)) (nat c -ᵢ nat U) (omega arith)) (less (nat c -ᵢ nat U) (nat U) (omega arith)))

@@ -1,6 +1,6 @@
 -- `pairs::even_series_pair` meets its contract. Assumes nothing.
 use borrow.Author.Needs.{needs}
-use Rattle.cosine.proofs.Natural.{six}
+use Rattle.cosine.proofs.NaturalSteps.{six}
 use Rattle.pairs.proofs.even_series_pair.Statement.{statement}
 use Rattle.pairs.proofs.even_series_pair.Tie as tie
 

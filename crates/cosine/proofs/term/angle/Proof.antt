@@ -6,7 +6,7 @@ use lib.IntN.{pos, _+ℤ_}
 use borrow.Author.Needs.{needs}
 use Rattle.arith.proofs.Signs.{back}
 use Rattle.cosine.specs.machine.Prepared.{c-bias}
-use Rattle.cosine.proofs.Places.{biased-most, angle-is}
+use Rattle.cosine.proofs.TermAngle.{biased-most, angle-is}
 use Rattle.cosine.proofs.term.angle.Statement.{statement}
 use Rattle.cosine.proofs.term.angle.Tie as tie
 

@@ -1,6 +1,6 @@
 -- `cosine::term::combined` meets its contract. Assumes nothing.
 use native.Mathlib.Omega.{arith}
-use Rattle.cosine.proofs.Places.{digit-product}
+use Rattle.cosine.proofs.TermAngle.{digit-product}
 use Rattle.cosine.proofs.term.combined.Statement.{statement}
 use Rattle.cosine.proofs.term.combined.Tie as tie
 

@@ -5,7 +5,7 @@ use mir.Syntax.{w64}
 use mir.Val.{toZ, ofZ}
 use borrow.Author.Needs.{needs}
 use Rattle.units.specs.Units.{t-limit}
-use Rattle.cosine.proofs.Places.{biased-most, ready}
+use Rattle.cosine.proofs.TermAngle.{biased-most, ready}
 use Rattle.cosine.proofs.term.prepare.Statement.{statement}
 use Rattle.cosine.proofs.term.prepare.Tie as tie
 

@@ -5,7 +5,7 @@ use lib.IntN.{pos, negℤ, natAbs, _-ℤ_}
 use Rattle.integers.proofs.Order.{natAbs-neg}
 use Rattle.arith.proofs.Cells.{Cell}
 use Rattle.arith.proofs.Signs.{back, ok}
-use Rattle.cosine.proofs.Halves.{minus-fits, minus-is}
+use Rattle.cosine.proofs.TermValue.{minus-fits, minus-is}
 use Rattle.cosine.proofs.term.signed_amplitude.Statement.{statement}
 use Rattle.cosine.proofs.term.signed_amplitude.Tie as tie
 

@@ -6,7 +6,7 @@ use lib.IntN.{pos, _+ℤ_}
 use borrow.Author.Needs.{needs}
 use Rattle.units.specs.Units.{a-limit}
 use Rattle.arith.proofs.Signs.{back, ok}
-use Rattle.cosine.proofs.Places.{biased-most, times-cosine-high, times-cosine-low, times-cosine-is}
+use Rattle.cosine.proofs.TermAngle.{biased-most, times-cosine-high, times-cosine-low, times-cosine-is}
 use Rattle.cosine.proofs.term.times_cosine.Statement.{statement}
 use Rattle.cosine.proofs.term.times_cosine.Tie as tie
 

@@ -4,7 +4,7 @@ use native.Mathlib.Omega.{arith}
 use lib.IntN.{negℤ, natAbs}
 use borrow.Author.Needs.{needs}
 use Rattle.arith.proofs.Signs.{back, ok}
-use Rattle.cosine.proofs.Halves.{worked-is}
+use Rattle.cosine.proofs.TermValue.{worked-is}
 use Rattle.cosine.proofs.term.worked_term.Statement.{statement}
 use Rattle.cosine.proofs.term.worked_term.Tie as tie
 

@@ -1,7 +1,7 @@
 -- `cosine::working::biased_cosine` meets its contract. Assumes nothing.
 use native.Mathlib.Omega.{arith}
 use borrow.Author.Needs.{needs}
-use Rattle.cosine.proofs.Natural.{in-0, in-1, in-2, in-3, odd-small}
+use Rattle.cosine.proofs.NaturalSteps.{in-0, in-1, in-2, in-3, odd-small}
 use Rattle.cosine.proofs.working.biased_cosine.Statement.{statement}
 use Rattle.cosine.proofs.working.biased_cosine.Tie as tie
 

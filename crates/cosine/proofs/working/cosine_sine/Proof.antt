@@ -2,7 +2,7 @@
 use mathlib.Core.Path.{_∙_}
 use borrow.Author.Needs.{needs}
 use Rattle.arith.proofs.Signs.{back, ok}
-use Rattle.cosine.proofs.Natural.{unbiased, cosine-from, sine-from}
+use Rattle.cosine.proofs.NaturalSteps.{unbiased, cosine-from, sine-from}
 use Rattle.cosine.proofs.working.cosine_sine.Statement.{statement}
 use Rattle.cosine.proofs.working.cosine_sine.Tie as tie
 

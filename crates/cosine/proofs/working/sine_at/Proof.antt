@@ -2,7 +2,7 @@
 use mathlib.Core.Path.{_∙_}
 use borrow.Author.Needs.{needs}
 use Rattle.arith.proofs.Signs.{back, ok}
-use Rattle.cosine.proofs.Natural.{unbiased, sine-from}
+use Rattle.cosine.proofs.NaturalSteps.{unbiased, sine-from}
 use Rattle.cosine.proofs.working.sine_at.Statement.{statement}
 use Rattle.cosine.proofs.working.sine_at.Tie as tie
 

@@ -14,9 +14,9 @@ use Rattle.units.specs.Units.{U}
 use Rattle.cosine.specs.Cosine.{q-of, r-of, w-of}
 use Rattle.cosine.specs.Reference.{two-pi as A, four as F, ref-q, ref-r}
 use Rattle.integers.proofs.Near.{Near, near-trans, near-weaken, near-times, near-as}
-use Rattle.cosine.proofs.Part.{Angle, f-up, f-low, f-low-pos, near-f}
-use Rattle.cosine.proofs.Work.{rounded-most, rounded-least, working, near-working}
-use Rattle.cosine.proofs.Reduce.{Y, B, bound, Two, Agree, near-two}
+use Rattle.cosine.proofs.Lipschitz.{Angle, f-up, f-low, f-low-pos, near-f}
+use Rattle.cosine.proofs.WorkingSeries.{rounded-most, rounded-least, working, near-working}
+use Rattle.cosine.proofs.Reductions.{Y, B, bound, Two, Agree, near-two}
 
 -- a turn of four quarters Q in 1/(step·U), with G/(Y·step·U) the most that Q/(step·U) differs from the reference's quarter
 pub record Turn (Q step G : ℕ) : Type 0 where

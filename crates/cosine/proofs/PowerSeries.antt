@@ -5,9 +5,9 @@ use Prim.Native.Nat.{ℕ, zero, suc, _*_, _+_, _-_, _/_}
 use lib.IntN.{ℤ, pos, _*ℤ_}
 use Rattle.integers.proofs.Ring.{E, v, #, _⊕_, _⊖_, _⊗_, ⊝, ring}
 use Rattle.cosine.specs.Reference.{power, factorial, sum, alternate, even-series, odd-series}
-use Rattle.cosine.proofs.Lists.{all-evens, all-odds}
-use Rattle.cosine.proofs.Horner.{low, up}
-use Rattle.cosine.proofs.Part.{C-up, C-low, S-up, S-low}
+use Rattle.cosine.proofs.Divisors.{all-evens, all-odds}
+use Rattle.cosine.proofs.NestedSeries.{low, up}
+use Rattle.cosine.proofs.Lipschitz.{C-up, C-low, S-up, S-low}
 
 -- the same as expressions
 abbrev lowᴱ : E → List ℕ → E

@@ -8,10 +8,10 @@ use Rattle.integers.proofs.Division.{modulo-lt, modulo-add}
 use Rattle.integers.specs.Fractions.{Fraction, negᶠ}
 use Rattle.cosine.specs.Cosine.{cosine-by, sine-by, even-part, odd-part, q-of, w-of, working-cosine, working-sine}
 use Rattle.cosine.specs.Reference.{four as F, ref-q, ref-r, even-series, odd-series, reference-cosine, reference-sine}
-use Rattle.cosine.proofs.Lists.{low-by-quarter}
-use Rattle.cosine.proofs.Part.{f-up, f-low}
-use Rattle.cosine.proofs.Work.{working}
-use Rattle.cosine.proofs.Series.{C-up-is, C-low-is, S-up-is, S-low-is}
+use Rattle.cosine.proofs.Divisors.{low-by-quarter}
+use Rattle.cosine.proofs.Lipschitz.{f-up, f-low}
+use Rattle.cosine.proofs.WorkingSeries.{working}
+use Rattle.cosine.proofs.PowerSeries.{C-up-is, C-low-is, S-up-is, S-low-is}
 
 shifted : (q : ℤ) → modulo (q +ℤ pos 3) 4 ≡ (modulo q 4 + 3) % 4
 unfolding modulo

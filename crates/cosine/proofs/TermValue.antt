@@ -13,8 +13,8 @@ use Rattle.units.specs.Units.{U, turn, quarter, angle-step, a-limit}
 use Rattle.cosine.specs.Cosine.{q-of, w-of, even-part, odd-part, cosine-by}
 use Rattle.cosine.specs.Terms.{term-angle, term-value}
 use Rattle.cosine.specs.machine.Parity.{even-value, odd-value, half-value}
-use Rattle.cosine.proofs.Natural.{cosine-from}
-use Rattle.cosine.proofs.Places.{value-is}
+use Rattle.cosine.proofs.NaturalSteps.{cosine-from}
+use Rattle.cosine.proofs.TermAngle.{value-is}
 
 -- the amplitude turned about
 pub minus-fits : (a : ℤ) → natAbs a < a-limit → SFits w64 (pos 0 -ℤ a)

@@ -17,8 +17,8 @@ use Rattle.cosine.specs.declared.term.Prepared.{Prepared}
 use Rattle.cosine.specs.machine.Prepared.{base, base², base³, half-base, c-bias, half-millennium, Residue, Ready}
 use Rattle.cosine.specs.Cosine.{cosine}
 use Rattle.cosine.specs.Terms.{term-angle, term-cosine, term-value}
-use Rattle.cosine.proofs.Natural.{rounded-nat}
-use Rattle.cosine.proofs.Turns.{cosine-mod}
+use Rattle.cosine.proofs.NaturalSteps.{rounded-nat}
+use Rattle.cosine.proofs.WholeTurns.{cosine-mod}
 use Rattle.cosine.proofs.Residues.{residue-+, residue-*, residue-carry, residue-rest, residue-as, angle-of}
 
 -- ---- x + k
