@@ -38,7 +38,8 @@ digit q r g b d h = record {
 pub digit-fits : (q r g b d : ℕ) → 0 < d → (q * d + r) * base + g * b < d * 2 ^ 64 → q * base + (r * base + g * b) / d < 2 ^ 64
 digit-fits q r g b d h k =
     let e = div-add-mod (r * base + g * b) d in
-    let u : q * base + (r * base + g * b) / d ≤ 2 ^ 64 - 1 = by-contra _ (2 ^ 64 - 1) (λ (l : 2 ^ 64 - 1 < q * base + (r * base + g * b) / d). omega (arith, mul-le-mul-left d l)) in
+    let u : q * base + (r * base + g * b) / d ≤ 2 ^ 64 - 1 =
+    by-contra _ (2 ^ 64 - 1) (λ (l : 2 ^ 64 - 1 < q * base + (r * base + g * b) / d). omega (arith, mul-le-mul-left d l)) in
     omega arith
 
 -- the partial sum fits

@@ -18,15 +18,15 @@ abbrev upᴱ : E → E → List ℕ → E
 upᴱ D Z [] = # 1
 upᴱ D Z (d ∷ ds) = # d ⊗ D ⊗ lowᴱ D ds ⊖ Z ⊗ upᴱ D Z ds
 
-abbrev pub powerᴱ : E → ℕ → E
+abbrev powerᴱ : E → ℕ → E
 powerᴱ x zero = # 1
 powerᴱ x (suc m) = x ⊗ powerᴱ x m
 
-abbrev pub sumᴱ : ℕ → (ℕ → E) → E
+abbrev sumᴱ : ℕ → (ℕ → E) → E
 sumᴱ zero t = t 0
 sumᴱ (suc m) t = sumᴱ m t ⊕ t (suc m)
 
-abbrev pub alternateᴱ : ℕ → E → E
+abbrev alternateᴱ : ℕ → E → E
 alternateᴱ zero x = x
 alternateᴱ (suc m) x = ⊝ (alternateᴱ m x)
 

@@ -41,7 +41,8 @@ signed-value (suc (suc (suc zero))) a s v h f g =
     both a o = ring! (a ∷ o ∷ []) (search polys depth 60 fits 100000) tt
 signed-value (suc (suc (suc (suc k)))) a s v h f g = absurd (omega arith)
 
-pub worked-is : (a : ℤ) (b : ℕ) (c t s : ℤ) (x q v : ℕ) → modulo (pos x) turn ≡ term-angle b c t → pos q ≡ q-of quarter (pos x) → pos v ≡ pos U +ℤ w-of quarter angle-step (pos x)
+pub worked-is : (a : ℤ) (b : ℕ) (c t s : ℤ) (x q v : ℕ) → modulo (pos x) turn ≡ term-angle b c t → pos q ≡ q-of quarter (pos x)
+    → pos v ≡ pos U +ℤ w-of quarter angle-step (pos x)
     → (q % 4 < 2 → s ≡ a) → (2 ≤ q % 4 → s ≡ negℤ a) → half-value (q % 2) s v ≡ term-value a b c t
 worked-is a b c t s x q v m e f g h =
     ap (λ k. half-value k s v) (parity q)

@@ -47,7 +47,8 @@ unfolding polynomial
 polynomial-scale k hk n d h [] = refl
 polynomial-scale k hk n d h (c ∷ cs) =
     ap (λ t. c +ℤ rounded (t *ℤ (pos k *ℤ n)) (k * d)) (polynomial-scale k hk n d h cs)
-    ∙ ap (λ t. c +ℤ rounded t (k * d)) (ring! (pos k ∷ n ∷ polynomial n d cs ∷ []) {y = pos k *ℤ (polynomial n d cs *ℤ n)} (search polys depth 60 fits 100000) tt)
+    ∙ ap (λ t. c +ℤ rounded t (k * d))
+    (ring! (pos k ∷ n ∷ polynomial n d cs ∷ []) {y = pos k *ℤ (polynomial n d cs *ℤ n)} (search polys depth 60 fits 100000) tt)
     ∙ ap (λ t. c +ℤ t) (rounded-scale k (polynomial n d cs *ℤ n) d hk h)
 
 -- ---- from the highest coefficient down: v is worked out of those from i on

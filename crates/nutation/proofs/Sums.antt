@@ -36,7 +36,8 @@ all-rows = refl
 next-row : (i : ℕ) → i < row-count → drop i rows ≡ getD rows i no-row ∷ drop (i + 1) rows
 next-row i h = rw (add-one) (drop-cons rows i no-row (subst (λ (n : ℕ). i < n) (sym all-rows) h))
 
-add-next : (term : Row → ℤ) (s s′ : ℤ) (i : ℕ) (r : Row) → i < row-count → r ≡ getD rows i no-row → s′ ≡ s +ℤ term r → add-up term s′ (drop (i + 1) rows) ≡ add-up term s (drop i rows)
+add-next : (term : Row → ℤ) (s s′ : ℤ) (i : ℕ) (r : Row) → i < row-count → r ≡ getD rows i no-row → s′ ≡ s +ℤ term r
+    → add-up term s′ (drop (i + 1) rows) ≡ add-up term s (drop i rows)
 unfolding add-up
 add-next term s s′ i r h e f =
     sym (ap (λ l. add-up term s l) (next-row i h) ∙ ap (λ z. add-up term z (drop (i + 1) rows)) (ap (λ (q : Row). s +ℤ term q) (sym e) ∙ sym f))

@@ -15,7 +15,8 @@ figures-over : Row → ℕ
 figures-over r = (natAbs (psi r) - figure-limit) + (natAbs (psi-rate r) - rate-limit) + (natAbs (eps r) - figure-limit) + (natAbs (eps-rate r) - rate-limit)
 
 multipliers-over : Row → ℕ
-multipliers-over r = (natAbs (times-d r) - multiplier-limit) + (natAbs (times-m r) - multiplier-limit) + (natAbs (times-m1 r) - multiplier-limit) + (natAbs (times-f r) - multiplier-limit) + (natAbs (times-node r) - multiplier-limit)
+multipliers-over r = (natAbs (times-d r) - multiplier-limit) + (natAbs (times-m r) - multiplier-limit) + (natAbs (times-m1 r) - multiplier-limit)
+    + (natAbs (times-f r) - multiplier-limit) + (natAbs (times-node r) - multiplier-limit)
 
 is-small : (r : Row) → figures-over r ≡ 0 → multipliers-over r ≡ 0 → Small r
 unfolding figures-over multipliers-over
@@ -44,7 +45,7 @@ at [] e i = nothing
 at (r ∷ rs) e zero = is-small r (omega arith) (omega arith)
 at (r ∷ rs) e (suc i) = at rs (omega arith) i
 
-pub rows-small : (i : ℕ) → Small (getD rows i no-row)
+rows-small : (i : ℕ) → Small (getD rows i no-row)
 unfolding all-over figures-over multipliers-over rows
 rows-small i = at rows refl i
 

@@ -32,7 +32,8 @@ add-requires c κs =
     let n = m .before in
     let e : toZ w64 (ofZ w64 (n .nutation-at .result .obliquity)) ≡ n .nutation-at .result .obliquity = search needs in
     rw (back (m .mean-obliquity-at .result) (ok (m .mean-obliquity-at .ok)), e)
-    (sum-fits (m .mean-obliquity-at .result) (n .nutation-at .result .obliquity) (mean-room _ (m .mean-obliquity-at .ensures .1)) (small-room _ (n .nutation-at .ensures .obliquity-small)))
+    (sum-fits (m .mean-obliquity-at .result) (n .nutation-at .result .obliquity) (mean-room _ (m .mean-obliquity-at .ensures .1))
+    (small-room _ (n .nutation-at .ensures .obliquity-small)))
   where
     mean-room : (n : ℕ) → n ≤ 2 ^ 34 → n ≤ 2 ^ 60
     mean-room n h = omega arith
@@ -60,8 +61,13 @@ units-angle-requires-2 : tie.Need-units-angle-requires-2
 units-angle-requires-2 c κs =
     let a = c .before .before in
     let m = a .before .before in
-    let n = m .before in
-    (lit< tt, lit≤ tt, room _ (same-small _ _ _ (back (a .add .result) (ok (a .add .ok)) ∙ at-add a) (sum (m .mean-obliquity-at .result) (n .nutation-at .result .obliquity) (m .mean-obliquity-at .ensures .1) (n .nutation-at .ensures .obliquity-small))))
+    let n = m .before in (
+      lit< tt,
+      lit≤ tt,
+      room _ (same-small _ _ _ (back (a .add .result) (ok (a .add .ok)) ∙ at-add a)
+          (sum (m .mean-obliquity-at .result) (n .nutation-at .result .obliquity) (m .mean-obliquity-at .ensures .1)
+          (n .nutation-at .ensures .obliquity-small))),
+    )
   where
     sum : (x y : ℤ) → natAbs x ≤ 2 ^ 34 → natAbs y ≤ sum-limit → natAbs (x +ℤ y) ≤ 2 ^ 35
     sum x y h k = omega (arith, natAbs-+ x y)
@@ -80,7 +86,8 @@ returns c =
     let q : n .nutation-at .result .obliquity ≡ obliquity-nutation (s .args .t) = rw t at (n .nutation-at .ensures .obliquity-is) in
     let r : m .mean-obliquity-at .result ≡ mean-obliquity (s .args .t) = rw t at (m .mean-obliquity-at .ensures .0) in (
       back (u .units-angle .result) (ok (u .units-angle .ok)) ∙ rw e at (u .units-angle .ensures) ∙ ap (λ z. units-angle sum-turn z) p,
-      back (c .units-angle2 .result) (ok (c .units-angle2 .ok)) ∙ rw (back (a .add .result) (ok (a .add .ok))) at (c .units-angle2 .ensures) ∙ ap (λ z. units-angle sum-turn z) (at-add a ∙ ap₂ _+ℤ_ r q),
+      back (c .units-angle2 .result) (ok (c .units-angle2 .ok)) ∙ rw (back (a .add .result) (ok (a .add .ok))) at (c .units-angle2 .ensures)
+          ∙ ap (λ z. units-angle sum-turn z) (at-add a ∙ ap₂ _+ℤ_ r q),
     )
 
 pub angles-at-spec : {M : Type 1} → statement M

@@ -26,13 +26,15 @@ third-at-requires : tie.Need-third-at-requires
 third-at-requires c κs = search needs
 
 returns-3 : tie.Need-returns-3
-returns-3 c = let i = c .before .before .before .before .args .i in found i _ (part-is rows (2 * part-size) i _ (omega arith) (omega arith) (c .third-at .ensures))
+returns-3 c = let i = c .before .before .before .before .args .i in
+    found i _ (part-is rows (2 * part-size) i _ (omega arith) (omega arith) (c .third-at .ensures))
 
 fourth-at-requires : tie.Need-fourth-at-requires
 fourth-at-requires c κs = search needs
 
 returns-4 : tie.Need-returns-4
-returns-4 c = let i = c .before .before .before .before .args .i in found i _ (part-is rows (3 * part-size) i _ (omega arith) (omega arith) (c .fourth-at .ensures))
+returns-4 c = let i = c .before .before .before .before .args .i in
+    found i _ (part-is rows (3 * part-size) i _ (omega arith) (omega arith) (c .fourth-at .ensures))
 
 pub row-at-spec : {M : Type 1} → statement M
 row-at-spec =

@@ -18,10 +18,12 @@ product-by-unit-requires-2 : tie.Need-product-by-unit-requires-2
 product-by-unit-requires-2 c κs = search needs
 
 -- the two words of each product
-left : (c : tie.After-product-by-unit2) → Divided (c .before .before .args .x * c .before .before .args .s) U (c .before .product-by-unit .result .q) (c .before .product-by-unit .result .r)
+left : (c : tie.After-product-by-unit2)
+    → Divided (c .before .before .args .x * c .before .before .args .s) U (c .before .product-by-unit .result .q) (c .before .product-by-unit .result .r)
 left c = divided _ _ _ _ (lit< tt) (c .before .product-by-unit .ensures)
 
-right : (c : tie.After-product-by-unit2) → Divided (c .before .before .args .y * c .before .before .args .c) U (c .product-by-unit2 .result .q) (c .product-by-unit2 .result .r)
+right : (c : tie.After-product-by-unit2)
+    → Divided (c .before .before .args .y * c .before .before .args .c) U (c .product-by-unit2 .result .q) (c .product-by-unit2 .result .r)
 right c = divided _ _ _ _ (lit< tt) (c .product-by-unit2 .ensures)
 
 returns : tie.Need-returns

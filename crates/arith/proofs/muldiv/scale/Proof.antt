@@ -32,7 +32,8 @@ at-c c = let s = c .before .before .before in rw (back (s .args .c) (s .fits .c)
 product-by-unit-requires : tie.Need-product-by-unit-requires
 product-by-unit-requires c κs = subst (λ (n : ℕ). n ≤ U) (sym (at-c c)) (c .before .before .before .pre .1)
 
-product : (c : tie.After-product-by-unit) → Divided (c .before .before .abs .result * c .before .abs2 .result) U (c .product-by-unit .result .q) (c .product-by-unit .result .r)
+product : (c : tie.After-product-by-unit)
+    → Divided (c .before .before .abs .result * c .before .abs2 .result) U (c .product-by-unit .result .q) (c .product-by-unit .result .r)
 product c = divided _ _ _ _ (lit< tt) (c .product-by-unit .ensures)
 
 -- the product is at most as many times U as a is
@@ -53,7 +54,8 @@ of-parts-requires : tie.Need-of-parts-requires
 of-parts-requires c κs =
     let m = c .before in
     let s = m .before .before .before .before in
-    below (c .nearest .ensures) (near-most _ (natAbs (s .args .a)) _ U (lit< tt) (subst (λ (n : ℕ). n ≤ natAbs (s .args .a) * U) (sym (product m .whole)) (most m))) (s .pre .0)
+    below (c .nearest .ensures) (near-most _ (natAbs (s .args .a)) _ U (lit< tt)
+    (subst (λ (n : ℕ). n ≤ natAbs (s .args .a) * U) (sym (product m .whole)) (most m))) (s .pre .0)
   where
     below : {z n k : ℕ} → z ≡ n → n ≤ k → k < 2 ^ 63 → z < 2 ^ 63
     below e l h = omega arith
@@ -65,7 +67,8 @@ returns c =
     let b = m .before in
     let s = b .before .before .before in
     back (c .of-parts .result) (ok (c .of-parts .ok)) ∙ c .of-parts .ensures
-    ∙ rounded-mul (s .args .a) (s .args .c) U (m .product-by-unit .result .q) (m .product-by-unit .result .r) (n .nearest .result) (b .before .before .signs-differ .result) (lit< tt)
+    ∙ rounded-mul (s .args .a) (s .args .c) U (m .product-by-unit .result .q) (m .product-by-unit .result .r) (n .nearest .result)
+    (b .before .before .signs-differ .result) (lit< tt)
     (rw (back (s .args .a) (s .fits .a), back (s .args .c) (s .fits .c)) at (b .before .before .signs-differ .ensures))
     (product m .whole ∙ ap₂ _*_ (at-a b) (at-c b))
     (n .nearest .ensures)

@@ -62,7 +62,8 @@ returns : tie.Need-returns
 returns c =
     let d = c .before .before in
     let s = d .before in (
-      angle-is (s .args .p) (s .pre .0) (s .args .b) (s .args .c) (d .biased .result) (c .before .combined .result) (c .combined2 .result) (raised d) (c .before .combined .ensures .0) (c .combined2 .ensures .0),
+      angle-is (s .args .p) (s .pre .0) (s .args .b) (s .args .c) (d .biased .result) (c .before .combined .result) (c .combined2 .result) (raised d)
+          (c .before .combined .ensures .0) (c .combined2 .ensures .0),
       omega (arith, c .before .combined .ensures .1, c .combined2 .ensures .1, s .pre .1),
     )
 

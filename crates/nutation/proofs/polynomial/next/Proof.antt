@@ -13,8 +13,12 @@ use Rattle.nutation.proofs.polynomial.next.Tie as tie
 mul-div-round-requires : tie.Need-mul-div-round-requires
 mul-div-round-requires c κs =
     let b = c .pre .0 in
-    rw (back (c .args .n) (c .fits .n), back (c .args .v) (c .fits .v))
-    (b .positive, b .divisor, b .factor, room (natAbs (c .args .v)) (natAbs (c .args .n)) (c .args .d) (2 ^ 63 - 1) (b .positive) (b .ratio) (more _ _ (c .pre .1)))
+    rw (back (c .args .n) (c .fits .n), back (c .args .v) (c .fits .v)) (
+      b .positive,
+      b .divisor,
+      b .factor,
+      room (natAbs (c .args .v)) (natAbs (c .args .n)) (c .args .d) (2 ^ 63 - 1) (b .positive) (b .ratio) (more _ _ (c .pre .1)),
+    )
   where
     more : (a v : ℕ) → a + centuries * v < 2 ^ 63 - 1 → centuries * v < 2 ^ 63 - 1
     more a v h = omega arith

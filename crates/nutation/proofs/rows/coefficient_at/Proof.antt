@@ -27,7 +27,8 @@ next-requires c κs =
     small : (a b : ℕ) → a ≤ 10 * figure-limit → b ≤ rate-limit → a + centuries * b < 2 ^ 63 - 1
     small a b h k = omega arith
 
-at-next : (c : tie.After-next) → c .next .result ≡ pos 10 *ℤ c .before .before .args .first +ℤ rounded (c .before .before .args .rate *ℤ c .before .before .args .t) century
+at-next : (c : tie.After-next) → c .next .result
+    ≡ pos 10 *ℤ c .before .before .args .first +ℤ rounded (c .before .before .args .rate *ℤ c .before .before .args .t) century
 at-next c =
     let m = c .before in
     let s = m .before in
@@ -36,8 +37,11 @@ at-next c =
 returns : tie.Need-returns
 returns c =
     let s = c .before .before in
-    rw (back (c .next .result) (ok (c .next .ok)))
-    (coefficient-is (s .args .t) (s .args .first) (s .args .rate) (c .next .result) (at-next c), subst (λ z. natAbs z ≤ coefficient-limit) (sym (at-next c)) (coefficient-small (s .args .t) (s .args .first) (s .args .rate) (s .pre .0) (s .pre .1) (s .pre .2)))
+    rw (back (c .next .result) (ok (c .next .ok))) (
+      coefficient-is (s .args .t) (s .args .first) (s .args .rate) (c .next .result) (at-next c),
+      subst (λ z. natAbs z ≤ coefficient-limit) (sym (at-next c))
+          (coefficient-small (s .args .t) (s .args .first) (s .args .rate) (s .pre .0) (s .pre .1) (s .pre .2)),
+    )
 
 pub coefficient-at-spec : {M : Type 1} → statement M
 coefficient-at-spec = tie.close (tie.spec mul-requires next-requires returns)

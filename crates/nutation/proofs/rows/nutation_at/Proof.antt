@@ -47,7 +47,8 @@ loop-again : tie.Need-loop-again Inv-loop μ-loop
 loop-again c =
     let r = c .before in
     let l = r .before .before in
-    summed-more _ (l .loop .sum) (c .add-row .result) (l .loop .i) (r .row-at .result) (time (l .before .before)) (l .loop .inv) (omega arith) (r .row-at .ensures .0) (r .row-at .ensures .1) (c .add-row .ensures .0) (c .add-row .ensures .1)
+    summed-more _ (l .loop .sum) (c .add-row .result) (l .loop .i) (r .row-at .result) (time (l .before .before)) (l .loop .inv) (omega arith)
+    (r .row-at .ensures .0) (r .row-at .ensures .1) (c .add-row .ensures .0) (c .add-row .ensures .1)
 
 returns : tie.Need-returns Inv-loop μ-loop
 returns c =
