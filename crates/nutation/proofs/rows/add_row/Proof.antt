@@ -55,7 +55,8 @@ scale-requires c κs =
     )
 
 -- the term of the longitude, and that of the obliquity
-at-psi : (c : tie.After-scale) → (let s = c .before .before .before .before .before .before .before in c .scale .result ≡ longitude-term (s .args .t) (s .args .r))
+at-psi : (c : tie.After-scale)
+    → (let s = c .before .before .before .before .before .before .before in c .scale .result ≡ longitude-term (s .args .t) (s .args .r))
 unfolding longitude-term
 at-psi c =
     let k = c .before .before in
@@ -117,7 +118,8 @@ add-requires-2 c κs =
     rw (e, back (m .scale2 .result) (ok (m .scale2 .ok)), at-eps m)
     (sum-fits (s .args .sum .obliquity) _ (sum-room _ (s .pre .4)) (term-room _ (obliquity-small (s .args .t) (s .args .r) (s .pre .0) (s .pre .1))))
 
-at-longitude : (c : tie.After-add) → (let s = c .before .before .before .before .before .before .before .before .before .before .before .before .before .before in
+at-longitude : (c : tie.After-add)
+    → (let s = c .before .before .before .before .before .before .before .before .before .before .before .before .before .before in
     c .add .result ≡ s .args .sum .longitude +ℤ longitude-term (s .args .t) (s .args .r))
 at-longitude c =
     let m = c .before .before .before .before .before .before .before in
@@ -125,7 +127,8 @@ at-longitude c =
     let e : toZ w64 (ofZ w64 (s .args .sum .longitude)) ≡ s .args .sum .longitude = search needs in
     rw (e, back (m .scale .result) (ok (m .scale .ok)), at-psi m) at (c .add .ensures)
 
-at-obliquity : (c : tie.After-add2) → (let s = c .before .before .before .before .before .before .before .before .before .before .before .before .before .before .before .before in
+at-obliquity : (c : tie.After-add2)
+    → (let s = c .before .before .before .before .before .before .before .before .before .before .before .before .before .before .before .before in
     c .add2 .result ≡ s .args .sum .obliquity +ℤ obliquity-term (s .args .t) (s .args .r))
 at-obliquity c =
     let m = c .before .before .before .before in
