@@ -10,9 +10,9 @@ use mir.Val.{SFits}
 use Rattle.arith.proofs.Cells.{Cell}
 use Rattle.units.specs.Units.{U, a-limit, series-limit}
 use Rattle.cosine.specs.Cosine.{even-part, odd-part}
-use Rattle.cosine.specs.machine.Parity.{even-value, odd-value, half-value, InRange}
+use Rattle.cosine.specs.machine.Parity.{even-value, odd-value, value-by-parity, InRange}
 use Rattle.cosine.specs.Terms.{term-value}
-use Rattle.cosine.specs.declared.term.Worked.{Worked}
+use Rattle.cosine.specs.declared.term.ReducedTerm.{ReducedTerm}
 use Rattle.limits.specs.declared.Term.{Term}
 use Rattle.limits.specs.Allowed.{BlockFits}
 use Rattle.packed.specs.machine.Tables.{terms-at}
@@ -65,8 +65,8 @@ module _ {ea : List ℤ} {ev : List ℕ} {oa : List ℤ} {ov : List ℕ} {evens 
   }
 
   -- a term goes to the table of its parity
-  put : (odd : ℕ) → odd ≤ 1 → Small (half-value odd) a v → Holding (set ea evens a) (set ev evens v) (set oa odds a) (set ov odds v) (evens + (1 - odd)) (odds + odd) (x +ℤ half-value odd a v)
-  unfolding half-value
+  put : (odd : ℕ) → odd ≤ 1 → Small (value-by-parity odd) a v → Holding (set ea evens a) (set ev evens v) (set oa odds a) (set ov odds v) (evens + (1 - odd)) (odds + odd) (x +ℤ value-by-parity odd a v)
+  unfolding value-by-parity
   put zero h s = let e : odds + 0 ≡ odds = omega arith in rw e (even-put s)
   put (suc k) h s = let e : evens + (1 - suc k) ≡ evens = omega arith in let f : odds + suc k ≡ odds + 1 = omega arith in rw (e, f) (odd-put s)
 
@@ -105,11 +105,11 @@ module _ {t : ℤ} {la : List ℤ} {lb : List ℕ} {lc : List ℤ} {from to : �
     pub odds-free : n .odds < room
     odds-free = let m = p .many in let s = p .short in let w = p .summed .within in omega arith
 
-    module _ (h : i < to) (w : Worked) (e : half-value (w .odd) (w .a) (w .v) ≡ term-value (Cell (getD la i (pos 0))) (getD lb i 0) (Cell (getD lc i (pos 0))) t) (ha : natAbs (w .a) ≡ natAbs (Cell (getD la i (pos 0)))) (ho : w .odd ≤ 1) (hv : InRange (w .v)) where
-      value : half-value (w .odd) (w .a) (w .v) ≡ term-value (getD la i (pos 0)) (getD lb i 0) (getD lc i (pos 0)) t
+    module _ (h : i < to) (w : ReducedTerm) (e : value-by-parity (w .odd) (w .a) (w .v) ≡ term-value (Cell (getD la i (pos 0))) (getD lb i 0) (Cell (getD lc i (pos 0))) t) (ha : natAbs (w .a) ≡ natAbs (Cell (getD la i (pos 0)))) (ho : w .odd ≤ 1) (hv : InRange (w .v)) where
+      value : value-by-parity (w .odd) (w .a) (w .v) ≡ term-value (getD la i (pos 0)) (getD lb i 0) (getD lc i (pos 0)) t
       value = e ∙ same-value (p .summed) h
 
-      small : Small (half-value (w .odd)) (w .a) (w .v)
+      small : Small (value-by-parity (w .odd)) (w .a) (w .v)
       small = record {
         a-below = let l = term-asks (p .summed) h .0 in omega arith;
         v-within = hv;
@@ -118,7 +118,7 @@ module _ {t : ℤ} {la : List ℤ} {lb : List ℕ} {lc : List ℤ} {from to : �
 
       moved : Partly t la lb lc from to (set ea (n .evens) (w .a)) (set ev (n .evens) (w .v)) (set oa (n .odds) (w .a)) (set ov (n .odds) (w .v)) (record { evens = n .evens + (1 - w .odd); odds = n .odds + w .odd }) (i + 1)
       moved = record {
-        x = p .x +ℤ half-value (w .odd) (w .a) (w .v);
+        x = p .x +ℤ value-by-parity (w .odd) (w .a) (w .v);
         holding = put (p .holding) evens-free odds-free (w .a) (w .v) (w .odd) ho small;
         summed = subst (λ (z : ℤ). Summed t la lb lc from to (p .x +ℤ z) (i + 1)) (sym value) (summed-term (p .summed) h);
         many = let m = p .many in omega arith;

@@ -15,8 +15,8 @@ ghost use Rattle.pieces.specs.Sums.{block-sum};
 ghost use Rattle.pieces.specs.machine.Parted.{piece-limit, room, half-sum, PutInBoth, Half, Closed, Parted};
 use arith::signed::add;
 use cosine::term::Prepared;
-use cosine::term::Worked;
-use cosine::term::worked_term;
+use cosine::term::ReducedTerm;
+use cosine::term::reduced_term;
 use pairs::Pair;
 use pairs::even_values;
 use pairs::odd_values;
@@ -29,7 +29,7 @@ pub struct Counts {
 
 // Puts a term at the next free place of both tables; only the count of the one that it belongs to moves on.
 fn put_term(
-    w: Worked,
+    w: ReducedTerm,
     n: Counts,
     ea: &mut [i64; 257],
     ev: &mut [u64; 257],
@@ -72,10 +72,10 @@ fn part_terms(
     let mut n = Counts { evens: 0, odds: 0 };
     let mut i = from;
     while i < to {
-        n = put_term(worked_term(p, a[i], b[i], c[i]), n, ea, ev, oa, ov);
+        n = put_term(reduced_term(p, a[i], b[i], c[i]), n, ea, ev, oa, ov);
         i = i + 1;
     }
-    let none = Worked {
+    let none = ReducedTerm {
         a: 0,
         v: 1000000000,
         odd: 0,

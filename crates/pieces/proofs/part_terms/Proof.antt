@@ -16,26 +16,26 @@ abbrev μ-loop : tie.MeasureT-loop
 loop-holds : tie.Need-loop-holds Inv-loop μ-loop
 loop-holds c = partly-none (c .pre .6) (c .pre .7) (c .pre .8) (c .pre .9) (c .pre .2) (c .pre .3) (c .pre .4) (c .pre .5)
 
-mul-worked-term : tie.Need-mul-worked-term Inv-loop μ-loop
-mul-worked-term c = search needs
+mul-reduced-term : tie.Need-mul-reduced-term Inv-loop μ-loop
+mul-reduced-term c = search needs
 
-element-copy-out-worked-term : tie.Need-element-copy-out-worked-term Inv-loop μ-loop
-element-copy-out-worked-term c = search needs
+element-copy-out-reduced-term : tie.Need-element-copy-out-reduced-term Inv-loop μ-loop
+element-copy-out-reduced-term c = search needs
 
-mul-worked-term-2 : tie.Need-mul-worked-term-2 Inv-loop μ-loop
-mul-worked-term-2 c = search needs
+mul-reduced-term-2 : tie.Need-mul-reduced-term-2 Inv-loop μ-loop
+mul-reduced-term-2 c = search needs
 
-element-copy-out-worked-term-2 : tie.Need-element-copy-out-worked-term-2 Inv-loop μ-loop
-element-copy-out-worked-term-2 c = search needs
+element-copy-out-reduced-term-2 : tie.Need-element-copy-out-reduced-term-2 Inv-loop μ-loop
+element-copy-out-reduced-term-2 c = search needs
 
-mul-worked-term-3 : tie.Need-mul-worked-term-3 Inv-loop μ-loop
-mul-worked-term-3 c = search needs
+mul-reduced-term-3 : tie.Need-mul-reduced-term-3 Inv-loop μ-loop
+mul-reduced-term-3 c = search needs
 
-element-copy-out-worked-term-3 : tie.Need-element-copy-out-worked-term-3 Inv-loop μ-loop
-element-copy-out-worked-term-3 c = search needs
+element-copy-out-reduced-term-3 : tie.Need-element-copy-out-reduced-term-3 Inv-loop μ-loop
+element-copy-out-reduced-term-3 c = search needs
 
-worked-term-requires : tie.Need-worked-term-requires Inv-loop μ-loop
-worked-term-requires c κs =
+reduced-term-requires : tie.Need-reduced-term-requires Inv-loop μ-loop
+reduced-term-requires c κs =
     let l = c .before .before .before .before in
     let s = l .before in
     let asks = term-asks (l .loop .inv .summed) (c .before .before .before .loop-test .taken) in
@@ -45,7 +45,7 @@ put-term-requires : tie.Need-put-term-requires Inv-loop μ-loop
 put-term-requires c κs =
     let w = c .before .before .before .before in
     let l = w .before .before .before .before .before in
-    (w .worked-term .ensures .2, evens-free (l .loop .inv), odds-free (l .loop .inv))
+    (w .reduced-term .ensures .2, evens-free (l .loop .inv), odds-free (l .loop .inv))
 
 add-i : tie.Need-add-i Inv-loop μ-loop
 add-i c = omega arith
@@ -57,8 +57,8 @@ loop-again : tie.Need-loop-again Inv-loop μ-loop
 loop-again c =
     let w = c .before .before .before .before .before in
     let l = w .before .before .before .before .before in
-    let e = w .worked-term .ensures in
-    partly-more (l .loop .inv) (w .before .before .before .before .loop-test .taken) (w .worked-term .result) (e .0) (e .1) (e .2) (e .3) (c .put-term .ensures)
+    let e = w .reduced-term .ensures in
+    partly-more (l .loop .inv) (w .before .before .before .before .loop-test .taken) (w .reduced-term .result) (e .0) (e .1) (e .2) (e .3) (c .put-term .ensures)
 
 put-term-requires-2 : tie.Need-put-term-requires-2 Inv-loop μ-loop
 put-term-requires-2 c κs =
@@ -77,13 +77,13 @@ part-terms-spec =
     Inv-loop
     μ-loop
     loop-holds
-    mul-worked-term
-    element-copy-out-worked-term
-    mul-worked-term-2
-    element-copy-out-worked-term-2
-    mul-worked-term-3
-    element-copy-out-worked-term-3
-    worked-term-requires
+    mul-reduced-term
+    element-copy-out-reduced-term
+    mul-reduced-term-2
+    element-copy-out-reduced-term-2
+    mul-reduced-term-3
+    element-copy-out-reduced-term-3
+    reduced-term-requires
     put-term-requires
     add-i
     loop-less

@@ -6,7 +6,7 @@ use lib.IntN.{ℤ, pos, natAbs, _+ℤ_}
 use lib.ListN.{length, getD, set}
 use Rattle.units.specs.Units.{a-limit}
 use Rattle.cosine.specs.machine.Parity.{even-value, odd-value, InRange}
-use Rattle.cosine.specs.declared.term.Worked.{Worked}
+use Rattle.cosine.specs.declared.term.ReducedTerm.{ReducedTerm}
 use Rattle.limits.specs.declared.Term.{Term}
 use Rattle.pieces.specs.declared.Counts.{Counts}
 use Rattle.pieces.specs.Sums.{block-sum}
@@ -24,7 +24,7 @@ half-sum f la lv zero = pos 0
 half-sum f la lv (suc n) = half-sum f la lv n +ℤ f (getD la n (pos 0)) (getD lv n 0)
 
 -- A term is put at the next free place of both tables; only the count of the one that it belongs to moves on.
-pub record PutInBoth (w : Worked) (n : Counts) (ea₀ : List ℤ) (ev₀ : List ℕ) (oa₀ : List ℤ) (ov₀ : List ℕ) (ea : List ℤ) (ev : List ℕ) (oa : List ℤ) (ov : List ℕ) (r : Counts) : Type 0 where
+pub record PutInBoth (w : ReducedTerm) (n : Counts) (ea₀ : List ℤ) (ev₀ : List ℕ) (oa₀ : List ℤ) (ov₀ : List ℕ) (ea : List ℤ) (ev : List ℕ) (oa : List ℤ) (ov : List ℕ) (r : Counts) : Type 0 where
   pub evens-a : ea ≡ set ea₀ (n .evens) (w .a)
   pub evens-v : ev ≡ set ev₀ (n .evens) (w .v)
   pub odds-a : oa ≡ set oa₀ (n .odds) (w .a)
