@@ -4,6 +4,7 @@ use Prim.Native.Nat.{ℕ, _+_, _-_, _*_, _/_, _%_, _^_, _≤_, _<_}
 use native.Mathlib.Omega.{arith, by-contra}
 use native.Mathlib.Nat.{div-add-mod, div-add-mod', mod-lt, mul-le-mul-left, mul-le-mul-right}
 use Rattle.integers.proofs.Division.{div-is}
+use Rattle.arith.specs.machine.Digits.{base}
 
 pub record Divided (n d q r : ℕ) : Type 0 where
   pub rest : r < d
@@ -27,30 +28,31 @@ quotient n d q r z =
     rest e f = let w = z .whole in omega (arith, ap (λ (t : ℕ). d * t) e)
 
 -- the next digit g of the one factor, times the other factor b
-pub digit : (q r g b d : ℕ) → 0 < d → Divided ((q * d + r) * 65536 + g * b) d (q * 65536 + (r * 65536 + g * b) / d) ((r * 65536 + g * b) % d)
+pub digit : (q r g b d : ℕ) → 0 < d → Divided ((q * d + r) * base + g * b) d (q * base + (r * base + g * b) / d) ((r * base + g * b) % d)
 digit q r g b d h = record {
-  rest = mod-lt (r * 65536 + g * b) h;
-  whole = let e = div-add-mod (r * 65536 + g * b) d in omega arith;
+  rest = mod-lt (r * base + g * b) h;
+  whole = let e = div-add-mod (r * base + g * b) d in omega arith;
 }
 
 -- the new quotient fits where the whole quotient does
-pub digit-fits : (q r g b d : ℕ) → 0 < d → (q * d + r) * 65536 + g * b < d * 2 ^ 64 → q * 65536 + (r * 65536 + g * b) / d < 2 ^ 64
+pub digit-fits : (q r g b d : ℕ) → 0 < d → (q * d + r) * base + g * b < d * 2 ^ 64 → q * base + (r * base + g * b) / d < 2 ^ 64
 digit-fits q r g b d h k =
-    let e = div-add-mod (r * 65536 + g * b) d in
-    let u : q * 65536 + (r * 65536 + g * b) / d ≤ 2 ^ 64 - 1 = by-contra _ (2 ^ 64 - 1) (λ (l : 2 ^ 64 - 1 < q * 65536 + (r * 65536 + g * b) / d). omega (arith, mul-le-mul-left d l)) in
+    let e = div-add-mod (r * base + g * b) d in
+    let u : q * base + (r * base + g * b) / d ≤ 2 ^ 64 - 1 =
+    by-contra _ (2 ^ 64 - 1) (λ (l : 2 ^ 64 - 1 < q * base + (r * base + g * b) / d). omega (arith, mul-le-mul-left d l)) in
     omega arith
 
 -- the partial sum fits
-pub sum-fits : (r g b d : ℕ) → r < d → d ≤ 2 ^ 47 → b ≤ 2 ^ 47 → g < 65536 → r * 65536 + g * b < 2 ^ 64
+pub sum-fits : (r g b d : ℕ) → r < d → d ≤ 2 ^ 47 → b ≤ 2 ^ 47 → g < base → r * base + g * b < 2 ^ 64
 sum-fits r g b d h k l m =
     let p : g * b ≤ g * 2 ^ 47 = mul-le-mul-left g l in
     omega arith
 
 -- the digits so far are h, the next is g, and with it they are k
-pub next-is : (h g k b n m : ℕ) → n ≡ h * b → m ≡ n * 65536 + g * b → h * 65536 + g ≡ k → m ≡ k * b
+pub next-is : (h g k b n m : ℕ) → n ≡ h * b → m ≡ n * base + g * b → h * base + g ≡ k → m ≡ k * b
 next-is h g k b n m p q e = omega (arith, ap (λ (t : ℕ). t * b) e)
 
-pub next-fits : (h g a b d n : ℕ) → n ≡ h * b → h * 65536 + g ≤ a → a * b < d * 2 ^ 64 → n * 65536 + g * b < d * 2 ^ 64
+pub next-fits : (h g a b d n : ℕ) → n ≡ h * b → h * base + g ≤ a → a * b < d * 2 ^ 64 → n * base + g * b < d * 2 ^ 64
 next-fits h g a b d n p l k = omega (arith, mul-le-mul-right b l)
 
 -- a quotient below a bound
@@ -64,13 +66,13 @@ quot-lt n d q r k z h =
 pub above-zero : {r d : ℕ} → r < d → 0 < d
 above-zero {r} {d} h = omega arith
 
-pub times-base : {r d : ℕ} → r < d → d ≤ 2 ^ 47 → r * 65536 < 2 ^ 64
+pub times-base : {r d : ℕ} → r < d → d ≤ 2 ^ 47 → r * base < 2 ^ 64
 times-base {r} {d} h k = omega arith
 
-pub first-fits : (a b d : ℕ) → a * b < d * 2 ^ 64 → (0 * d + 0) * 65536 + a / 281474976710656 * b < d * 2 ^ 64
-first-fits a b d h = let l : a / 281474976710656 ≤ a = omega arith in omega (arith, mul-le-mul-right b l)
+pub first-fits : (a b d : ℕ) → a * b < d * 2 ^ 64 → (0 * d + 0) * base + a / (base * base * base) * b < d * 2 ^ 64
+first-fits a b d h = let l : a / (base * base * base) ≤ a = omega arith in omega (arith, mul-le-mul-right b l)
 
-pub top-digit : (a : ℕ) → a < 2 ^ 64 → a / 281474976710656 < 65536
+pub top-digit : (a : ℕ) → a < 2 ^ 64 → a / (base * base * base) < base
 top-digit a h = omega arith
 
 pub le-left : (a b : ℕ) {k : ℕ} → a + b < k → a < k

@@ -12,14 +12,6 @@ unfolding natural-or negative
 natural-of-negative (negsuc n) other e = refl
 natural-of-negative (pos n) other e = absurd (false-true e)
 
-pub natural-of-pos : (n other : ℕ) → natural-or (pos n) other ≡ n
-unfolding natural-or
-natural-of-pos n other = refl
-
-pub natural-of-negsuc : (n other : ℕ) → natural-or (negsuc n) other ≡ other
-unfolding natural-or
-natural-of-negsuc n other = refl
-
 -- a value other than `other` is the number's own
 pub natural-back : (x : ℤ) (other : ℕ) → (natural-or x other ≡ other → ⊥) → pos (natural-or x other) ≡ x
 unfolding natural-or

@@ -8,16 +8,12 @@ use Rattle.integers.specs.Signs.{negative, near}
 use Rattle.integers.proofs.Division.{rounded-by, near-most, near-le}
 use Rattle.integers.proofs.Order.{natAbs-*, natAbs-sgn}
 
-pub natAbs-rounded : (n : ℤ) (d : ℕ) → 0 < d → natAbs (rounded n d) ≡ near (negative n) (natAbs n) d
+natAbs-rounded : (n : ℤ) (d : ℕ) → 0 < d → natAbs (rounded n d) ≡ near (negative n) (natAbs n) d
 natAbs-rounded n d h = ap natAbs (rounded-by n d h) ∙ natAbs-sgn (negative n) (near (negative n) (natAbs n) d)
 
 -- |n| ≤ k·d gives |rounded n d| ≤ k
 pub rounded-within : (n : ℤ) (d k : ℕ) → 0 < d → natAbs n ≤ k * d → natAbs (rounded n d) ≤ k
 rounded-within n d k h l = subst (λ (t : ℕ). t ≤ k) (sym (natAbs-rounded n d h)) (near-most (negative n) k (natAbs n) d h l)
-
--- and it is never larger than n
-pub rounded-smaller : (n : ℤ) (d : ℕ) → 0 < d → natAbs (rounded n d) ≤ natAbs n
-rounded-smaller n d h = subst (λ (t : ℕ). t ≤ natAbs n) (sym (natAbs-rounded n d h)) (near-le (negative n) (natAbs n) d h)
 
 -- a product by no more than the divisor
 pub scaled-within : (a c : ℤ) (d k : ℕ) → 0 < d → natAbs a ≤ k → natAbs c ≤ d → natAbs (rounded (a *ℤ c) d) ≤ k

@@ -19,7 +19,7 @@ lt-zero (pos n) = is-false (ltb n 0) (λ t. let h : n < 0 = ltb→lt n 0 t in om
 lt-zero (negsuc n) = refl
 
 -- −1 − z of a negative z, as a natural
-pub flipped : (z : ℤ) → negative z ≡ true → negsuc 0 -ℤ z ≡ pos (mag z)
+flipped : (z : ℤ) → negative z ≡ true → negsuc 0 -ℤ z ≡ pos (mag z)
 unfolding negative
 flipped (pos n) e = absurd (false-true e)
 flipped (negsuc n) e = sub-pos (suc n) 1 n (omega arith)
@@ -71,7 +71,8 @@ sgn-at-neg s m e = ap (λ b. sgn b m) (sym e)
 pub flip-low : (a b : ℤ) → negative a ≡ true → b ≡ negsuc 0 -ℤ a → pos 0 ≤ℤ b
 flip-low a b e p = subst (λ t. pos 0 ≤ℤ t) (sym (p ∙ flipped a e)) (nonneg (mag a))
 
--- A signed value that is passed on or returned stands in a goal as `toZ w64 (ofZ w64 z)`. `back` takes it to z: of a parameter by `c .fits .a`, of a call's result by `ok (c .f .ok)`
+-- A signed value that is passed on or returned stands in a goal as `toZ w64 (ofZ w64 z)`. `back` takes it to z: of a parameter by `c .fits .a`, of a
+-- call's result by `ok (c .f .ok)`
 pub back : (z : ℤ) → SFits w64 z → toZ w64 (ofZ w64 z) ≡ z
 back z h = toZ-ofZ w64 z h
 

@@ -34,7 +34,7 @@ low-factor x k d w h l = let g : x % d ≤ d = below (mod-lt x h) in omega (arit
     below g = omega arith
 
 -- rounding by an even t does not see the rest of a division before it
-pub two-steps : (n s t : ℕ) → 0 < s → 0 < t → t % 2 ≡ 0 → near false (n / s) t ≡ near false n (s * t)
+two-steps : (n s t : ℕ) → 0 < s → 0 < t → t % 2 ≡ 0 → near false (n / s) t ≡ near false n (s * t)
 unfolding near
 two-steps n s t hs ht even =
     let q = (2 * (n / s) + t) / (2 * t) in
@@ -58,7 +58,7 @@ two-steps n s t hs ht even =
         last : (q w e h t : ℕ) → t ≡ 2 * h → 2 * t * q + w ≡ 2 * e + t → w < 2 * t → w + 2 ≤ 2 * t
         last q w e h t th m l = omega (arith, ap (λ (x : ℕ). x * q) th)
 
-pub times-pos : (s t : ℕ) → 0 < s → 0 < t → 0 < s * t
+times-pos : (s t : ℕ) → 0 < s → 0 < t → 0 < s * t
 times-pos s t h k = let g : 1 * 1 ≤ s * t = mul-le-mul h k in omega arith
 
 pub rounded-two-steps : (a x s t z : ℕ) → 0 < s → 0 < t → t % 2 ≡ 0 → z ≡ near false (x / s * a + x % s * a / s) t → pos z ≡ rounded (pos a *ℤ pos x) (s * t)

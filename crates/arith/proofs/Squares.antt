@@ -27,7 +27,8 @@ L x = x % 8388608 * (x % 8388608) + M x % 8388608 * 8388608
 pub square-is : (x : ℕ) → Divided (x * x) (2 ^ 46) (x / 8388608 * (x / 8388608) + M x / 8388608 + L x / 70368744177664) (L x % 70368744177664)
 square-is x = record {
   rest = omega arith;
-  whole = law 8388608 (x / 8388608) (x % 8388608) (M x / 8388608) (M x % 8388608) (L x / 70368744177664) (L x % 70368744177664) (sym (div-add-mod' (M x) 8388608)) (sym (div-add-mod' (L x) 70368744177664))
+  whole = law 8388608 (x / 8388608) (x % 8388608) (M x / 8388608) (M x % 8388608) (L x / 70368744177664) (L x % 70368744177664)
+      (sym (div-add-mod' (M x) 8388608)) (sym (div-add-mod' (L x) 70368744177664))
       ∙ ap (λ (t : ℕ). t * t) (div-add-mod' x 8388608);
 }
 
@@ -63,7 +64,7 @@ pub upper-below : (n h l : ℕ) → Divided n (2 ^ 46) h l → n < 2 ^ 92 → h 
 upper-below n h l d k = let e = d .whole in omega arith
 
 -- whether a square is above the number, by limbs
-pub ltb-same : (a b c d : ℕ) → (a < b → c < d) → (c < d → a < b) → ltb a b ≡ ltb c d
+ltb-same : (a b c d : ℕ) → (a < b → c < d) → (c < d → a < b) → ltb a b ≡ ltb c d
 ltb-same a b c d f g = go (decLe b a)
   where
     go : Dec (b ≤ a) → ltb a b ≡ ltb c d
@@ -97,15 +98,6 @@ root-from n g h k = root-is n g (record { low = h; high = k })
 -- ---- the sum of three squares of whole numbers
 pub squares-value : (x y z : ℤ) → natAbs (x *ℤ x +ℤ y *ℤ y +ℤ z *ℤ z) ≡ natAbs x * natAbs x + natAbs y * natAbs y + natAbs z * natAbs z
 squares-value x y z = ap natAbs (ap₂ _+ℤ_ (ap₂ _+ℤ_ (square-natAbs x) (square-natAbs y)) (square-natAbs z))
-
--- three components of at most b: the sum is at most 3·b·b
-pub squares-within : (x y z : ℤ) (b : ℕ) → natAbs x ≤ b → natAbs y ≤ b → natAbs z ≤ b → natAbs (x *ℤ x +ℤ y *ℤ y +ℤ z *ℤ z) ≤ 3 * (b * b)
-squares-within x y z b h k l =
-    subst (λ (t : ℕ). t ≤ 3 * (b * b)) (sym (squares-value x y z)) (omega (arith, mul-le-mul h h, mul-le-mul k k, mul-le-mul l l))
-
--- the room that `length` asks for
-pub squares-fit : (x y z : ℤ) → natAbs x ≤ 2 ^ 45 → natAbs y ≤ 2 ^ 45 → natAbs z ≤ 2 ^ 45 → natAbs (x *ℤ x +ℤ y *ℤ y +ℤ z *ℤ z) < 2 ^ 92
-squares-fit x y z h k l = let g = squares-within x y z (2 ^ 45) h k l in omega arith
 
 -- a quotient by a divisor that is not small
 pub quotient-below : (m a A B : ℕ) → A ≤ a → m < B * A → m / a < B

@@ -4,25 +4,34 @@ ghost use Prim.Native.Nat.{_+_, _-_, _*_, _/_, _%_, _<_, _≤_, _^_};
 ghost use lib.IntN.{pos, natAbs, _*ℤ_};
 ghost use Rattle.integers.specs.Division.{rounded};
 ghost use Rattle.units.specs.Units.{U};
+ghost use Rattle.arith.specs.machine.Digits.{base};
 use crate::round::nearest;
 use crate::signed::abs;
 use crate::signed::of_parts;
 use crate::signed::signs_differ;
 use crate::signed::wide;
+use units::U;
+
+// The base of the digits of a long division, 2^16, and its powers.
+const BASE: u64 = 65536;
+
+const BASE_2: u64 = BASE * BASE;
+
+const BASE_3: u64 = BASE * BASE_2;
 
 pub struct Quot {
     pub q: u64,
     pub r: u64,
 }
 
-// One digit of 16 bits more: (q, r) are the quotient and the rest of the digits so far, times b.
+// One digit more: (q, r) are the quotient and the rest of the digits so far, times b.
 fn step(q: u64, r: u64, g: u64, b: u64, d: u64) -> Quot
-    requires { ⌜ (r < d) × (d ≤ 2 ^ 47) × (b ≤ 2 ^ 47) × (g < 65536) × ((q * d + r) * 65536 + g * b < d * 2 ^ 64) ⌝ }
-    ensures { λ z. ⌜ (z .q ≡ ((q * d + r) * 65536 + g * b) / d) × (z .r ≡ ((q * d + r) * 65536 + g * b) % d) ⌝ }
+    requires { ⌜ (r < d) × (d ≤ 2 ^ 47) × (b ≤ 2 ^ 47) × (g < base) × ((q * d + r) * base + g * b < d * 2 ^ 64) ⌝ }
+    ensures { λ z. ⌜ (z .q ≡ ((q * d + r) * base + g * b) / d) × (z .r ≡ ((q * d + r) * base + g * b) % d) ⌝ }
 {
-    let x = r * 65536 + g * b;
+    let x = r * BASE + g * b;
     Quot {
-        q: q * 65536 + x / d,
+        q: q * BASE + x / d,
         r: x % d,
     }
 }
@@ -32,10 +41,10 @@ fn mul_div(a: u64, b: u64, d: u64) -> Quot
     requires { ⌜ (0 < d) × (d ≤ 2 ^ 47) × (b ≤ 2 ^ 47) × (a * b < d * 2 ^ 64) ⌝ }
     ensures { λ z. ⌜ (z .q ≡ a * b / d) × (z .r ≡ a * b % d) ⌝ }
 {
-    let s3 = step(0, 0, a / 281474976710656, b, d);
-    let s2 = step(s3.q, s3.r, a / 4294967296 % 65536, b, d);
-    let s1 = step(s2.q, s2.r, a / 65536 % 65536, b, d);
-    step(s1.q, s1.r, a % 65536, b, d)
+    let s3 = step(0, 0, a / BASE_3, b, d);
+    let s2 = step(s3.q, s3.r, a / BASE_2 % BASE, b, d);
+    let s1 = step(s2.q, s2.r, a / BASE % BASE, b, d);
+    step(s1.q, s1.r, a % BASE, b, d)
 }
 
 // a·b / d rounded.
@@ -49,14 +58,14 @@ pub fn mul_div_round(a: i64, b: i64, d: u64) -> i64
 }
 
 // m·k by U: the quotient and the rest. m is split at U.
-pub fn scaled(m: u64, k: u64) -> Quot
+pub fn product_by_unit(m: u64, k: u64) -> Quot
     requires { ⌜ k ≤ U ⌝ }
     ensures { λ z. ⌜ (z .q ≡ m * k / U) × (z .r ≡ m * k % U) ⌝ }
 {
-    let p = m % 1000000000 * k;
+    let p = m % U * k;
     Quot {
-        q: m / 1000000000 * k + p / 1000000000,
-        r: p % 1000000000,
+        q: m / U * k + p / U,
+        r: p % U,
     }
 }
 
@@ -66,8 +75,8 @@ pub fn scale(a: i64, c: i64) -> i64
     ensures { λ r. ⌜ r ≡ rounded (a *ℤ c) U ⌝ }
 {
     let neg = signs_differ(a, c);
-    let z = scaled(abs(a), abs(c));
-    of_parts(neg, nearest(neg, z.q, z.r, 1000000000))
+    let z = product_by_unit(abs(a), abs(c));
+    of_parts(neg, nearest(neg, z.q, z.r, U))
 }
 
 // a·x / (s·t) rounded: the floor by s, x split there, and then the rounding by t, which has to be even.

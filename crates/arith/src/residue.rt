@@ -1,4 +1,4 @@
-// The remainder that is never negative: document 01, "Units and rounding". For the crates above.
+// The remainder that is never negative: RULES, "Units and rounding". For the crates above.
 ghost use mathlib.Core.Path.{_≡_};
 ghost use Prim.Native.Nat.{_*_, _<_, _^_};
 ghost use lib.IntN.{pos, _*ℤ_};

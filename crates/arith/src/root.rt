@@ -5,7 +5,37 @@ ghost use Prim.Native.Nat.{_+_, _*_, _/_, _%_, _<_, _≤_, _^_};
 ghost use lib.Dec.{ltb};
 ghost use lib.IntN.{natAbs, _+ℤ_, _*ℤ_};
 ghost use Rattle.integers.specs.Root.{root};
+ghost use Rattle.arith.specs.machine.Digits.{sketch-least};
 use crate::signed::abs;
+
+// A limb is below this, 2^46, and a half of one below its root, 2^23.
+const LIMB: u64 = HALF_LIMB * HALF_LIMB;
+
+const HALF_LIMB: u64 = 8388608;
+
+const LAST_LIMB: u64 = LIMB - 1;
+
+// The unit of the sketch's argument, 2^16, and by what a number below LIMB becomes it, 2^28; the coefficients, each with its sign in the code.
+const SKETCH_UNIT: u64 = 65536;
+
+const SKETCH_STEP: u64 = 268435456;
+
+const SKETCH_0: u64 = 1597633;
+
+const SKETCH_1: u64 = 3242809;
+
+const SKETCH_2: u64 = 773776;
+
+const SKETCH_3: u64 = 139310;
+
+const SKETCH_4: u64 = 10616;
+
+// What moves a limb to the top of 64 bits, 2^18, and to the bit below, 2^17; and a bound on a rest, 2^40, that the checker sees.
+const TO_TOP: u64 = 262144;
+
+const BELOW_TOP: u64 = 131072;
+
+const REST_BOUND: u64 = 1099511627776;
 
 struct Wide {
     hi: u64,
@@ -17,13 +47,13 @@ fn square(x: u64) -> Wide
     requires { ⌜ x ≤ 2 ^ 46 ⌝ }
     ensures { λ w. ⌜ (w .hi ≡ x * x / 2 ^ 46) × (w .lo ≡ x * x % 2 ^ 46) ⌝ }
 {
-    let h = x / 8388608;
-    let l = x % 8388608;
+    let h = x / HALF_LIMB;
+    let l = x % HALF_LIMB;
     let m = 2 * (h * l);
-    let s = l * l + m % 8388608 * 8388608;
+    let s = l * l + m % HALF_LIMB * HALF_LIMB;
     Wide {
-        hi: h * h + m / 8388608 + s / 70368744177664,
-        lo: s % 70368744177664,
+        hi: h * h + m / HALF_LIMB + s / LIMB,
+        lo: s % LIMB,
     }
 }
 
@@ -37,8 +67,8 @@ fn squares(x: u64, y: u64, z: u64) -> Wide
     let c = square(z);
     let s = a.lo + b.lo + c.lo;
     Wide {
-        hi: a.hi + b.hi + c.hi + s / 70368744177664,
-        lo: s % 70368744177664,
+        hi: a.hi + b.hi + c.hi + s / LIMB,
+        lo: s % LIMB,
     }
 }
 
@@ -48,7 +78,7 @@ fn above(g: u64, hi: u64, lo: u64) -> bool
     ensures { λ r. ⌜ r ≡ ltb (hi * 2 ^ 46 + lo) (g * g) ⌝ }
 {
     let w = square(g);
-    let more = (w.lo + 70368744177663 - lo) / 70368744177664;
+    let more = (w.lo + LAST_LIMB - lo) / LIMB;
     hi < w.hi + more
 }
 
@@ -79,18 +109,18 @@ fn raised(start: u64, hi: u64, lo: u64) -> u64
 // 2^22 times the root of m / 2^44, within a part in 4,000 from 2^44 on: a polynomial of degree four.
 fn sketch(m: u64) -> u64
     requires { ⌜ m < 2 ^ 46 ⌝ }
-    ensures { λ r. ⌜ (1597633 ≤ r) × (r < 2 ^ 24) ⌝ }
+    ensures { λ r. ⌜ (sketch-least ≤ r) × (r < 2 ^ 24) ⌝ }
 {
-    let t = m / 268435456;
-    let a = 139310 - 10616 * t / 65536;
-    let b = 773776 - a * t / 65536;
-    let c = 3242809 - b * t / 65536;
-    1597633 + c * t / 65536
+    let t = m / SKETCH_STEP;
+    let a = SKETCH_3 - SKETCH_4 * t / SKETCH_UNIT;
+    let b = SKETCH_2 - a * t / SKETCH_UNIT;
+    let c = SKETCH_1 - b * t / SKETCH_UNIT;
+    SKETCH_0 + c * t / SKETCH_UNIT
 }
 
 // A step of Newton's towards the root of m.
 fn newton(a: u64, m: u64) -> u64
-    requires { ⌜ (1597633 ≤ a) × (a < 2 ^ 24) × (m < 2 ^ 46) ⌝ }
+    requires { ⌜ (sketch-least ≤ a) × (a < 2 ^ 24) × (m < 2 ^ 46) ⌝ }
     ensures { λ r. ⌜ (1 < r) × (r < 2 ^ 26) ⌝ }
 {
     (a + m / a) / 2
@@ -122,14 +152,13 @@ fn rest(s: u64, m: u64) -> u64
 fn guess(hi: u64, lo: u64) -> u64
     requires { ⌜ (hi < 2 ^ 46) × (lo < 2 ^ 46) ⌝ }
 {
-    let n = u64::leading_zeros(hi * 262144 + 1) % 64 / 2;
-    let m = ((hi << (2 * n)) % 70368744177664 + ((lo * 131072) >> (63 - 2 * n)) % 70368744177664)
-        % 70368744177664;
-    let l = (lo << (2 * n)) % 70368744177664;
+    let n = u64::leading_zeros(hi * TO_TOP + 1) % 64 / 2;
+    let m = ((hi << (2 * n)) % LIMB + ((lo * BELOW_TOP) >> (63 - 2 * n)) % LIMB) % LIMB;
+    let l = (lo << (2 * n)) % LIMB;
     let a = sketch(m);
     let s = not_above(newton(a, m), m);
-    let d = (rest(s, m) % 1099511627776 * 8388608 + l / 8388608) / (2 * s);
-    (s * 8388608 + d) >> n
+    let d = (rest(s, m) % REST_BOUND * HALF_LIMB + l / HALF_LIMB) / (2 * s);
+    (s * HALF_LIMB + d) >> n
 }
 
 // The guess with its range; that of a number of one limb is made at the upper one.
@@ -138,13 +167,13 @@ fn start(hi: u64, lo: u64) -> u64
     ensures { λ r. ⌜ r ≤ 2 ^ 46 ⌝ }
 {
     if hi == 0 {
-        return guess(lo, 0) / 8388608;
+        return guess(lo, 0) / HALF_LIMB;
     }
     let g = guess(hi, lo);
-    if g < 70368744177664 {
+    if g < LIMB {
         return g;
     }
-    70368744177663
+    LAST_LIMB
 }
 
 // The floor root of the number.

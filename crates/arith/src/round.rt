@@ -1,4 +1,4 @@
-// A fraction rounded to the nearest whole number, a tie going up: document 01, "Units and rounding". For muldiv.rt.
+// A fraction rounded to the nearest whole number, a tie going up: RULES, "Units and rounding". For muldiv.rt.
 ghost use mathlib.Core.Path.{_≡_};
 ghost use Prim.Native.Nat.{_+_, _*_, _<_, _^_};
 ghost use Rattle.integers.specs.Signs.{near};

@@ -1,4 +1,4 @@
--- Document 01's figures: the cosine at 0, at a quarter and at two quarters is U, 0 and -U. Assumes nothing.
+-- The figures of the rules: the cosine at 0, at a quarter and at two quarters is U, 0 and -U. Assumes nothing.
 use mathlib.Core.Path.{_≡_, refl}
 use mathlib.Core.List.{[], _∷_, map}
 use Prim.Native.Nat.{_*_}

@@ -10,16 +10,7 @@ use Rattle.integers.specs.Fractions.{Fraction, _*ᶠ_, _+ᶠ_, overᶠ, power�
 use Rattle.integers.proofs.Auto.{polys, ring! }
 use Rattle.integers.proofs.Order.{product-pos, ≺-nat}
 use Rattle.integers.proofs.Fractions.{Over, over-+}
-use Rattle.cosine.specs.Reference.{power, factorial, sum, alternate, even-series, odd-series}
-
--- t 0 + t 1 + .. + t m
-unfoldable pub total : ℕ → (ℕ → Fraction) → Fraction
-total zero t = t 0
-total (suc m) t = total m t +ᶠ t (suc m)
-
--- (-1)^m x^i / i!
-unfoldable pub power-term : Fraction → ℕ → ℕ → Fraction
-power-term x m i = overᶠ (alternate m (pos 1)) (factorial i) *ᶠ powerᶠ x i
+use Rattle.cosine.specs.Reference.{power, factorial, sum, alternate, even-series, odd-series, total, power-term}
 
 power-pos : (x : ℤ) → pos 0 ≺ x → (m : ℕ) → pos 0 ≺ power x m
 unfolding power
@@ -71,14 +62,18 @@ alternate-times (suc m) x = ap negℤ (alternate-times m x) ∙ minus (alternate
 
 -- a term over the one lower number d! N^d
 term-over : (n : ℤ) (N d m i : ℕ) → 0 < N → i ≤ d → factorial d / factorial i * factorial i ≡ factorial d
-    → Over (pos (factorial d) *ℤ power (pos N) d) (power-term (overᶠ n N) m i) (alternate m (pos (factorial d / factorial i) *ℤ power n i *ℤ power (pos N) (d - i)))
+    → Over (pos (factorial d) *ℤ power (pos N) d) (power-term (overᶠ n N) m i)
+    (alternate m (pos (factorial d / factorial i) *ℤ power n i *ℤ power (pos N) (d - i)))
 unfolding power-term _*ᶠ_
 term-over n N d m i h l e = record {
-  low-pos = product-pos (pos (factorial i)) (powerᶠ (overᶠ n N) i .lower) (≺-nat (factorial i) (factorial-pos i)) (subst (λ z. pos 0 ≺ z) (sym (power-lower n N i)) (power-pos (pos N) (≺-nat N h) i));
+  low-pos = product-pos (pos (factorial i)) (powerᶠ (overᶠ n N) i .lower) (≺-nat (factorial i) (factorial-pos i))
+      (subst (λ z. pos 0 ≺ z) (sym (power-lower n N i)) (power-pos (pos N) (≺-nat N h) i));
   same =
-      ap₂ (λ u v. alternate m (pos 1) *ℤ u *ℤ v) (power-upper n N i) (ap₂ _*ℤ_ (ap pos (sym e)) (ap (λ k. power (pos N) k) (back l) ∙ power-add (pos N) (d - i) i))
+      ap₂ (λ u v. alternate m (pos 1) *ℤ u *ℤ v) (power-upper n N i)
+      (ap₂ _*ℤ_ (ap pos (sym e)) (ap (λ k. power (pos N) k) (back l) ∙ power-add (pos N) (d - i) i))
       ∙ law (alternate m (pos 1)) (power n i) (pos (factorial d / factorial i)) (pos (factorial i)) (power (pos N) (d - i)) (power (pos N) i)
-      ∙ ap₂ (λ u v. u *ℤ (pos (factorial i) *ℤ v)) (sym (alternate-times m (pos (factorial d / factorial i) *ℤ power n i *ℤ power (pos N) (d - i)))) (sym (power-lower n N i));
+      ∙ ap₂ (λ u v. u *ℤ (pos (factorial i) *ℤ v)) (sym (alternate-times m (pos (factorial d / factorial i) *ℤ power n i *ℤ power (pos N) (d - i))))
+      (sym (power-lower n N i));
 }
   where
     back : i ≤ d → d ≡ d - i + i
@@ -93,7 +88,8 @@ record Fit (d : ℕ) (i : ℕ → ℕ) (m : ℕ) : Type 0 where
   divides : factorial d / factorial (i m) * factorial (i m) ≡ factorial d
 
 total-over : (n : ℤ) (N d : ℕ) (i : ℕ → ℕ) → 0 < N → (m : ℕ) → ((k : ℕ) → k ≤ m → Fit d i k)
-    → Over (pos (factorial d) *ℤ power (pos N) d) (total m (λ k. power-term (overᶠ n N) k (i k))) (sum m (λ k. alternate k (pos (factorial d / factorial (i k)) *ℤ power n (i k) *ℤ power (pos N) (d - i k))))
+    → Over (pos (factorial d) *ℤ power (pos N) d) (total m (λ k. power-term (overᶠ n N) k (i k)))
+    (sum m (λ k. alternate k (pos (factorial d / factorial (i k)) *ℤ power n (i k) *ℤ power (pos N) (d - i k))))
 unfolding total sum
 total-over n N d i h zero f = let a = f 0 (omega arith) in term-over n N d 0 (i 0) h (a .inside) (a .divides)
 total-over n N d i h (suc m) f =

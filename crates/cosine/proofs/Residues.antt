@@ -32,7 +32,8 @@ residue-* {n} {q} {r} g a = record { turns = pos g *ℤ a .turns; is = ap (λ z.
 pub residue-carry : {n : ℤ} {q r : ℕ} → Residue n q r → Residue n ((q + r / T) % P) (r % T)
 residue-carry {n} {q} {r} a = record {
   turns = a .turns +ℤ pos ((q + r / T) / P);
-  is = a .is ∙ ap₂ (λ s t. pos T *ℤ (pos P *ℤ a .turns +ℤ s) +ℤ t) whole rest ∙ law (pos T) (pos P) (a .turns) (pos ((q + r / T) / P)) (pos ((q + r / T) % P)) (pos (r / T)) (pos (r % T));
+  is = a .is ∙ ap₂ (λ s t. pos T *ℤ (pos P *ℤ a .turns +ℤ s) +ℤ t) whole rest
+      ∙ law (pos T) (pos P) (a .turns) (pos ((q + r / T) / P)) (pos ((q + r / T) % P)) (pos (r / T)) (pos (r % T));
 }
   where
     rest : pos r ≡ pos T *ℤ pos (r / T) +ℤ pos (r % T)
@@ -51,13 +52,15 @@ residue-carry {n} {q} {r} a = record {
 pub residue-rest : {n : ℤ} {q r : ℕ} → q < P → r < T → Residue n q r → Residue (pos half-millennium -ℤ n) ((P - 1) - q) ((T + half-millennium) - r)
 residue-rest {n} {q} {r} hq hr a = record {
   turns = negℤ (a .turns) -ℤ pos 1;
-  is = ap (λ z. pos half-millennium -ℤ z) (a .is) ∙ law (a .turns) (pos q) (pos r) ∙ ap₂ (λ s t. pos T *ℤ (pos P *ℤ (negℤ (a .turns) -ℤ pos 1) +ℤ s) +ℤ t) (minus (P - 1) q (omega arith)) (minus (T + half-millennium) r (omega arith));
+  is = ap (λ z. pos half-millennium -ℤ z) (a .is) ∙ law (a .turns) (pos q) (pos r)
+      ∙ ap₂ (λ s t. pos T *ℤ (pos P *ℤ (negℤ (a .turns) -ℤ pos 1) +ℤ s) +ℤ t) (minus (P - 1) q (omega arith)) (minus (T + half-millennium) r (omega arith));
 }
   where
     minus : (x y : ℕ) → y ≤ x → pos x -ℤ pos y ≡ pos (x - y)
     minus x y h = same (nat x -ᵢ nat y) (nat (x - y)) (omega arith)
 
-    law : (k q r : ℤ) → pos half-millennium -ℤ (pos T *ℤ (pos P *ℤ k +ℤ q) +ℤ r) ≡ pos T *ℤ (pos P *ℤ (negℤ k -ℤ pos 1) +ℤ (pos (P - 1) -ℤ q)) +ℤ (pos (T + half-millennium) -ℤ r)
+    law : (k q r : ℤ) → pos half-millennium -ℤ (pos T *ℤ (pos P *ℤ k +ℤ q) +ℤ r)
+        ≡ pos T *ℤ (pos P *ℤ (negℤ k -ℤ pos 1) +ℤ (pos (P - 1) -ℤ q)) +ℤ (pos (T + half-millennium) -ℤ r)
     law k q r = ring! (k ∷ q ∷ r ∷ []) (search polys depth 60 fits 100000) tt
 
 -- the same number, written otherwise
@@ -65,7 +68,7 @@ pub residue-as : {n m : ℤ} {q r : ℕ} → n ≡ m → Residue n q r → Resid
 residue-as e a = record { turns = a .turns; is = sym e ∙ a .is }
 
 -- rounded n/T, from n + T/2
-pub rounded-residue : (n : ℤ) (q r : ℕ) (a : Residue (pos half-millennium +ℤ n) q r) → rounded n T ≡ pos P *ℤ a .turns +ℤ pos (q + r / T)
+rounded-residue : (n : ℤ) (q r : ℕ) (a : Residue (pos half-millennium +ℤ n) q r) → rounded n T ≡ pos P *ℤ a .turns +ℤ pos (q + r / T)
 unfolding rounded
 rounded-residue n q r a =
     let k = a .turns in
@@ -78,11 +81,13 @@ rounded-residue n q r a =
     (cert<! ρ 0 (2 · gap≡ (a .is) ⊞ 2 · gap (≼-nat (r + 1) (T * e + T) (omega arith))) (search polys depth 60 fits 100000) tt)
 
 -- so the term's angle is q + r/T + angle-per-part·b, but for whole turns
-pub angle-of : (b : ℕ) (c t : ℤ) (q r : ℕ) → Residue (pos half-millennium +ℤ pos angle-per-part *ℤ c *ℤ t) q r → modulo (pos (q + r / T + angle-per-part * b)) P ≡ term-angle b c t
+pub angle-of : (b : ℕ) (c t : ℤ) (q r : ℕ) → Residue (pos half-millennium +ℤ pos angle-per-part *ℤ c *ℤ t) q r
+    → modulo (pos (q + r / T + angle-per-part * b)) P ≡ term-angle b c t
 unfolding term-angle
 angle-of b c t q r a =
     sym (modulo-shift (a .turns) (pos (q + r / T + angle-per-part * b)) P (omega arith))
-    ∙ ap (λ z. modulo z P) (law (pos P *ℤ a .turns) (pos (q + r / T)) (pos (angle-per-part * b)) ∙ ap (λ z. pos (angle-per-part * b) +ℤ z) (sym (rounded-residue (pos angle-per-part *ℤ c *ℤ t) q r a)))
+    ∙ ap (λ z. modulo z P) (law (pos P *ℤ a .turns) (pos (q + r / T)) (pos (angle-per-part * b))
+    ∙ ap (λ z. pos (angle-per-part * b) +ℤ z) (sym (rounded-residue (pos angle-per-part *ℤ c *ℤ t) q r a)))
   where
     law : (x y z : ℤ) → x +ℤ (y +ℤ z) ≡ z +ℤ (x +ℤ y)
     law x y z = ring! (x ∷ y ∷ z ∷ []) (search polys depth 60 fits 100000) tt

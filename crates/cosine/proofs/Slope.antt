@@ -9,10 +9,10 @@ use Rattle.integers.proofs.Pairs.{nonneg}
 use Rattle.integers.proofs.Auto.{ring!, cert!, polys, gap, _⊞_, _⊛_, _·_}
 use Rattle.integers.proofs.Order.{≺-≼, ≼-or-≺, cert*!, product-pos}
 use Rattle.integers.proofs.Near.{Near, near-sym, near-neg, near-coarse, near-as}
-use Rattle.cosine.proofs.Lists.{all-evens, all-odds, more-odds, low-by-quarter}
-use Rattle.cosine.proofs.Horner.{low, up, lam, lip, Good, range′, Small}
+use Rattle.cosine.proofs.Divisors.{all-evens, all-odds, more-odds, low-by-quarter}
+use Rattle.cosine.proofs.NestedSeries.{low, up, lam, lip, Good, range′, Small}
 use Rattle.cosine.specs.Cosine.{cosine-by}
-use Rattle.cosine.proofs.Part.{Angle, angle-small, good-evens, good-odds, lam-odds, near-h, C-up, C-low, S-up, S-low, f-up, f-low, turn-about}
+use Rattle.cosine.proofs.Lipschitz.{Angle, angle-small, good-evens, good-odds, lam-odds, near-h, C-up, C-low, S-up, S-low, f-up, f-low, turn-about}
 
 -- Z/D at most Z′/D′ gives Z·h at most Z′·h′, with P = Z′D, R = ZD′, a = u′l, b = ul′, E = DD′, M = ll′ and k the Lipschitz bound of h
 fall-core : (P R a b E M k : ℤ) → pos 0 ≼ R → pos 0 ≺ E → pos 0 ≼ M → pos 0 ≼ k → R ≼ P → pos 1000 *ℤ R ≼ pos 617 *ℤ E
@@ -28,7 +28,8 @@ fall-step d D D′ Z Z′ l l′ u u′ hd h =
     cert! (d ∷ D ∷ D′ ∷ Z ∷ Z′ ∷ l ∷ l′ ∷ u ∷ u′ ∷ []) 0 (hd ⊛ gap h) (search polys depth 60 fits 100000) tt
 
 -- h is at least 1 - 0.617/d
-above-most : (d D Z l u : ℤ) → pos 20 ≼ d → pos 0 ≼ D → pos 0 ≼ l → pos 0 ≼ u → u ≼ l → pos 1000 *ℤ Z ≼ pos 617 *ℤ D → pos 19383 *ℤ (d *ℤ D *ℤ l) ≼ pos 20000 *ℤ (d *ℤ D *ℤ l -ℤ Z *ℤ u)
+above-most : (d D Z l u : ℤ) → pos 20 ≼ d → pos 0 ≼ D → pos 0 ≼ l → pos 0 ≼ u → u ≼ l → pos 1000 *ℤ Z ≼ pos 617 *ℤ D
+    → pos 19383 *ℤ (d *ℤ D *ℤ l) ≼ pos 20000 *ℤ (d *ℤ D *ℤ l -ℤ Z *ℤ u)
 above-most d D Z l u hd hD hl hu hul h =
     cert! (d ∷ D ∷ Z ∷ l ∷ u ∷ []) 0 (617 · (gap hd ⊛ hD ⊛ hl) ⊞ 12340 · (hD ⊛ gap hul) ⊞ 20 · (hu ⊛ gap h)) (search polys depth 60 fits 100000) tt
 
@@ -47,10 +48,12 @@ rest-large : {D Z : ℤ} → Small D Z → pos 19383 *ℤ low D rest ≼ pos 200
 unfolding low up
 rest-large {D} {Z} s =
     let r = range′ (6 * 7 ∷ 8 * 9 ∷ 10 * 11 ∷ 12 * 13 ∷ more-odds) (omega arith) s in
-    above-most (pos 20) D Z (low D (6 * 7 ∷ 8 * 9 ∷ 10 * 11 ∷ 12 * 13 ∷ more-odds)) (up D Z (6 * 7 ∷ 8 * 9 ∷ 10 * 11 ∷ 12 * 13 ∷ more-odds)) (record { le = tt }) (≺-≼ (s .positive)) (≺-≼ (r .above)) (r .least) (r .most) (s .small)
+    above-most (pos 20) D Z (low D (6 * 7 ∷ 8 * 9 ∷ 10 * 11 ∷ 12 * 13 ∷ more-odds)) (up D Z (6 * 7 ∷ 8 * 9 ∷ 10 * 11 ∷ 12 * 13 ∷ more-odds))
+    (record { le = tt }) (≺-≼ (s .positive)) (≺-≼ (r .above)) (r .least) (r .most) (s .small)
 
 -- the product that `fall-core` asks for
-large-product : (k l l′ u′ : ℤ) → pos 0 ≼ l → pos 0 ≼ l′ → pos 617 *ℤ k ≼ pos 969150000 → pos 19383 *ℤ l′ ≼ pos 20000 *ℤ u′ → pos 617 *ℤ k *ℤ (l *ℤ l′) ≼ pos 1000000000 *ℤ (u′ *ℤ l)
+large-product : (k l l′ u′ : ℤ) → pos 0 ≼ l → pos 0 ≼ l′ → pos 617 *ℤ k ≼ pos 969150000 → pos 19383 *ℤ l′ ≼ pos 20000 *ℤ u′
+    → pos 617 *ℤ k *ℤ (l *ℤ l′) ≼ pos 1000000000 *ℤ (u′ *ℤ l)
 large-product k l l′ u′ hl hl′ hk h = cert! (k ∷ l ∷ l′ ∷ u′ ∷ []) 0 (50000 · (hl ⊛ gap h) ⊞ gap hk ⊛ (hl ⊛ hl′)) (search polys depth 60 fits 100000) tt
 
 -- the odd series falls as the squared angle grows
@@ -67,7 +70,8 @@ fall D D′ Z Z′ s s′ h =
     let hD′ = ≺-≼ (s′ .positive) in
     let ρ = D ∷ D′ ∷ Z ∷ Z′ ∷ [] in
     fall-step (pos 6) D D′ Z Z′ l l′ u u′ (nonneg 6)
-    (fall-core (Z′ *ℤ D) (Z *ℤ D′) (u′ *ℤ l) (u *ℤ l′) (D *ℤ D′) (l *ℤ l′) (pos (lam rest)) (s .not-neg ⊛ hD′) (product-pos D D′ (s .positive) (s′ .positive)) (≺-≼ (r .above) ⊛ ≺-≼ (r′ .above)) (nonneg (lam rest)) h
+    (fall-core (Z′ *ℤ D) (Z *ℤ D′) (u′ *ℤ l) (u *ℤ l′) (D *ℤ D′) (l *ℤ l′) (pos (lam rest)) (s .not-neg ⊛ hD′)
+    (product-pos D D′ (s .positive) (s′ .positive)) (≺-≼ (r .above) ⊛ ≺-≼ (r′ .above)) (nonneg (lam rest)) h
     (cert! ρ 0 (hD′ ⊛ gap (s .small)) (search polys depth 60 fits 100000) tt)
     (lip rest good-rest D D′ Z Z′ (Z′ *ℤ D -ℤ Z *ℤ D′) (D *ℤ D′) s s′ (gap h)
     (cert! ρ 0 (nonneg 0) (search polys depth 60 fits 100000) tt)
@@ -97,7 +101,8 @@ falling n N m K a A b B f g y hN hA hB hf hg ha h p q =
 -- ---- the sine
 
 -- (x + y)(h - h′) is not positive where x is at least y
-signs : (n N m K a A b B : ℤ) → (m *ℤ m *ℤ (N *ℤ N) ≼ n *ℤ n *ℤ (K *ℤ K) → a *ℤ B ≼ b *ℤ A) → (n *ℤ n *ℤ (K *ℤ K) ≼ m *ℤ m *ℤ (N *ℤ N) → b *ℤ A ≼ a *ℤ B) → m *ℤ N ≼ n *ℤ K
+signs : (n N m K a A b B : ℤ) → (m *ℤ m *ℤ (N *ℤ N) ≼ n *ℤ n *ℤ (K *ℤ K) → a *ℤ B ≼ b *ℤ A) → (n *ℤ n *ℤ (K *ℤ K) ≼ m *ℤ m *ℤ (N *ℤ N) → b *ℤ A ≼ a *ℤ B)
+    → m *ℤ N ≼ n *ℤ K
     → (n *ℤ K +ℤ m *ℤ N) *ℤ (a *ℤ B -ℤ b *ℤ A) ≼ pos 0
 signs n N m K a A b B up down h = go (≼-or-≺ (pos 0) (n *ℤ K +ℤ m *ℤ N))
   where
@@ -110,11 +115,14 @@ signs n N m K a A b B up down h = go (≼-or-≺ (pos 0) (n *ℤ K +ℤ m *ℤ N
         let s = down (cert! (n ∷ N ∷ m ∷ K ∷ []) 0 (gap h ⊛ q) (search polys depth 60 fits 100000) tt) in
         cert! (n ∷ N ∷ m ∷ K ∷ a ∷ A ∷ b ∷ B ∷ []) 0 (q ⊛ gap s) (search polys depth 60 fits 100000) tt
 
-half-S : (n N m K f g : ℤ) → Angle n N → Angle m K → pos 0 ≼ f → pos 0 ≼ g → Near g f n N m K → g *ℤ (S-up n N *ℤ S-low K -ℤ S-up m K *ℤ S-low N) ≼ f *ℤ (S-low N *ℤ S-low K)
+half-S : (n N m K f g : ℤ) → Angle n N → Angle m K → pos 0 ≼ f → pos 0 ≼ g → Near g f n N m K
+    → g *ℤ (S-up n N *ℤ S-low K -ℤ S-up m K *ℤ S-low N) ≼ f *ℤ (S-low N *ℤ S-low K)
 unfolding S-up S-low
 half-S n N m K f g x y hf hg e = go (≼-or-≺ (m *ℤ N) (n *ℤ K))
   where
-    go : (m *ℤ N ≼ n *ℤ K) ⊎ (n *ℤ K ≺ m *ℤ N) → g *ℤ (n *ℤ up (N *ℤ N) (n *ℤ n) all-odds *ℤ (K *ℤ low (K *ℤ K) all-odds) -ℤ m *ℤ up (K *ℤ K) (m *ℤ m) all-odds *ℤ (N *ℤ low (N *ℤ N) all-odds)) ≼ f *ℤ (N *ℤ low (N *ℤ N) all-odds *ℤ (K *ℤ low (K *ℤ K) all-odds))
+    go : (m *ℤ N ≼ n *ℤ K) ⊎ (n *ℤ K ≺ m *ℤ N)
+        → g *ℤ (n *ℤ up (N *ℤ N) (n *ℤ n) all-odds *ℤ (K *ℤ low (K *ℤ K) all-odds) -ℤ m *ℤ up (K *ℤ K) (m *ℤ m) all-odds *ℤ (N *ℤ low (N *ℤ N) all-odds))
+        ≼ f *ℤ (N *ℤ low (N *ℤ N) all-odds *ℤ (K *ℤ low (K *ℤ K) all-odds))
     go w =
         let a = up (N *ℤ N) (n *ℤ n) all-odds in
         let A = low (N *ℤ N) all-odds in
@@ -122,9 +130,11 @@ half-S n N m K f g x y hf hg e = go (≼-or-≺ (m *ℤ N) (n *ℤ K))
         let B = low (K *ℤ K) all-odds in
         let r = range′ all-odds good-odds (angle-small x) in
         let r′ = range′ all-odds good-odds (angle-small y) in
-        let c = near-coarse (pos 3927 *ℤ pos (lam all-odds)) (pos 2702) (pos 2500000000) (pos 10000) g f (record { lt = tt }) (record { le = tt }) hf (r .above) (r′ .above) lam-odds (near-h all-odds good-odds n N m K f g x y hf e) in
+        let c = near-coarse (pos 3927 *ℤ pos (lam all-odds)) (pos 2702) (pos 2500000000) (pos 10000) g f (record { lt = tt }) (record { le = tt }) hf
+        (r .above) (r′ .above) lam-odds (near-h all-odds good-odds n N m K f g x y hf e) in
         cases w (λ h. rising n N m K a A b B f g (≺-≼ (x .positive)) (≺-≼ (y .positive)) (≺-≼ (r .above)) (≺-≼ (r′ .above)) hg (r .most) (r′ .most) h
-        (signs n N m K a A b B (λ s. fall (K *ℤ K) (N *ℤ N) (m *ℤ m) (n *ℤ n) (angle-small y) (angle-small x) s) (λ s. fall (N *ℤ N) (K *ℤ K) (n *ℤ n) (m *ℤ m) (angle-small x) (angle-small y) s) h) (e .hi))
+        (signs n N m K a A b B (λ s. fall (K *ℤ K) (N *ℤ N) (m *ℤ m) (n *ℤ n) (angle-small y) (angle-small x) s)
+        (λ s. fall (N *ℤ N) (K *ℤ K) (n *ℤ n) (m *ℤ m) (angle-small x) (angle-small y) s) h) (e .hi))
         (λ h. falling n N m K a A b B f g y (≺-≼ (x .positive)) (≺-≼ (r .above)) (≺-≼ (r′ .above)) hf hg (r .least) (≺-≼ h) (c .hi) (c .lo))
       where
         cases : {A B C : Type 0} → A ⊎ B → (A → C) → (B → C) → C
@@ -148,10 +158,13 @@ unfolding C-up C-low
 near-C n N m K f g x y hf h =
     let r = range′ all-evens good-evens (angle-small x) in
     let r′ = range′ all-evens good-evens (angle-small y) in
-    near-as g f (r .above) (r′ .above) (ring! (g ∷ []) (search polys depth 60 fits 100000) tt) (cert! (f ∷ []) 0 (nonneg 0) (search polys depth 60 fits 100000) tt)
-    (near-coarse (pos 3927 *ℤ pos (lam all-evens)) (pos 1) (pos 2500000000) (pos 1) g f (record { lt = tt }) (record { le = tt }) hf (r .above) (r′ .above) lam-evens (near-h all-evens good-evens n N m K f g x y hf h))
+    near-as g f (r .above) (r′ .above) (ring! (g ∷ []) (search polys depth 60 fits 100000) tt)
+    (cert! (f ∷ []) 0 (nonneg 0) (search polys depth 60 fits 100000) tt)
+    (near-coarse (pos 3927 *ℤ pos (lam all-evens)) (pos 1) (pos 2500000000) (pos 1) g f (record { lt = tt }) (record { le = tt }) hf (r .above) (r′ .above)
+    lam-evens (near-h all-evens good-evens n N m K f g x y hf h))
 
-pub near-one : (k : ℕ) (n N m K f g : ℤ) → Angle n N → Angle m K → pos 0 ≼ f → pos 0 ≼ g → Near g f n N m K → Near g f (f-up k n N) (f-low k N) (f-up k m K) (f-low k K)
+pub near-one : (k : ℕ) (n N m K f g : ℤ) → Angle n N → Angle m K → pos 0 ≼ f → pos 0 ≼ g → Near g f n N m K
+    → Near g f (f-up k n N) (f-low k N) (f-up k m K) (f-low k K)
 unfolding f-up f-low cosine-by low-by-quarter
 near-one zero n N m K f g x y hf hg h = near-C n N m K f g x y hf h
 near-one (suc zero) n N m K f g x y hf hg h = near-neg (near-S n N m K f g x y hf hg h)

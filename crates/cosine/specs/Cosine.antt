@@ -1,11 +1,11 @@
--- Document 01, "Working cosine and sums": the working cosine and sine of an angle, in U.
+-- RULES, "Working cosine and sums": the working cosine and sine of an angle, in U.
 use mathlib.Core.List.{List, [], _∷_}
 use Prim.Native.Nat.{ℕ, zero, suc, _*_}
 use lib.IntN.{ℤ, pos, negℤ, _-ℤ_, _*ℤ_}
 use Rattle.integers.specs.Division.{rounded, modulo}
 use Rattle.units.specs.Units.{U, quarter, angle-step}
 
--- "q is rounded x/quarter, r = x - q*quarter, w is rounded r/10^4, y is rounded w*w/U", for any quarter Q and any step in place of 10^4.
+-- The nearest quarter, what the angle has beyond it, that in U, and its square in U; for any quarter Q and any number of angles in 1/U, the step.
 unfoldable pub q-of : ℕ → ℤ → ℤ
 q-of Q x = rounded x Q
 
@@ -18,14 +18,14 @@ w-of Q step x = rounded (r-of Q x) step
 unfoldable pub y-of : ℤ → ℤ
 y-of w = rounded (w *ℤ w) U
 
--- "2m(2m-1)" and "2m(2m+1)", m from 1 to 6.
+-- The divisors 2m(2m-1) of the even series and 2m(2m+1) of the odd one, m from 1 to 6.
 abbrev pub evens : List ℕ
 evens = 2 * 1 ∷ 4 * 3 ∷ 6 * 5 ∷ 8 * 7 ∷ 10 * 9 ∷ 12 * 11 ∷ []
 
 abbrev pub odds : List ℕ
 odds = 2 * 3 ∷ 4 * 5 ∷ 6 * 7 ∷ 8 * 9 ∷ 10 * 11 ∷ 12 * 13 ∷ []
 
--- "h = U, then for m = 6 down to 1, h becomes U less rounded y*h/(U*d)", d from the last divisor to the first.
+-- The series by Horner's scheme, from the last divisor to the first, each quotient rounded.
 unfoldable pub horner : ℤ → List ℕ → ℤ
 horner y [] = pos U
 horner y (d ∷ ds) = pos U -ℤ rounded (y *ℤ horner y ds) (U * d)
@@ -36,7 +36,7 @@ even-part w = horner (y-of w) evens
 unfoldable pub odd-part : ℤ → ℤ
 odd-part w = rounded (w *ℤ horner (y-of w) odds) U
 
--- "By q mod 4 the cosine is even, -odd, -even, odd; the sine is odd, even, -odd, -even": for whole numbers, and for the fractions of the reference.
+-- Cosine and sine in each of the four quarters, from the even and the odd part: for whole numbers, and for the fractions of the reference.
 unfoldable pub cosine-by : {A : Type 0} → (A → A) → ℕ → A → A → A
 cosine-by neg zero even odd = even
 cosine-by neg (suc zero) even odd = neg odd

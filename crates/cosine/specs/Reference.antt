@@ -1,13 +1,13 @@
--- Document 01, "Reference cosine": exact fractions, the angle unrounded, the plain power series.
+-- RULES, "Working cosine and sums", of the reference cosine: exact fractions, the angle unrounded, the plain power series.
 use Prim.Native.Nat.{ℕ, zero, suc, _*_, _+_, _-_, _/_}
 use lib.IntN.{ℤ, pos, negℤ, _+ℤ_, _-ℤ_, _*ℤ_}
 use Rattle.integers.specs.Order.{_≼_, _≺_}
 use Rattle.integers.specs.Division.{rounded, modulo}
-use Rattle.integers.specs.Fractions.{Fraction, negᶠ}
+use Rattle.integers.specs.Fractions.{Fraction, _*ᶠ_, _+ᶠ_, negᶠ, overᶠ, powerᶠ}
 use Rattle.units.specs.Units.{U}
 use Rattle.cosine.specs.Cosine.{cosine-by, sine-by}
 
--- "2 pi = 6.283185307179586476925286766559": two-pi/10^30. A quarter of it is two-pi/four.
+-- The reference's 2 pi is two-pi/10^30. A quarter of it is two-pi/four.
 abbrev pub two-pi : ℕ
 two-pi = 6283185307179586476925286766559
 
@@ -32,21 +32,31 @@ unfoldable pub alternate : ℕ → ℤ → ℤ
 alternate zero x = x
 alternate (suc m) x = negℤ (alternate m x)
 
--- "The plain power series through degree 20": the sum over m from 0 to 10 of (-1)^m x^(2m) / (2m)!, x = n/N, over the one lower number 20! N^20.
+-- The even series, through degree 20: the sum over m from 0 to 10 of (-1)^m x^(2m) / (2m)!, x = n/N, over the one lower number 20! N^20.
 unfoldable pub even-series : ℤ → ℤ → Fraction
 even-series n N = record {
   upper = sum 10 (λ m. alternate m (pos (factorial 20 / factorial (2 * m)) *ℤ power n (2 * m) *ℤ power N (20 - 2 * m)));
   lower = pos (factorial 20) *ℤ power N 20;
 }
 
--- "or 21": the sum over m from 0 to 10 of (-1)^m x^(2m+1) / (2m+1)!, over 21! N^21.
+-- The odd series, through degree 21: the sum over m from 0 to 10 of (-1)^m x^(2m+1) / (2m+1)!, over 21! N^21.
 unfoldable pub odd-series : ℤ → ℤ → Fraction
 odd-series n N = record {
   upper = sum 10 (λ m. alternate m (pos (factorial 21 / factorial (2 * m + 1)) *ℤ power n (2 * m + 1) *ℤ power N (21 - (2 * m + 1))));
   lower = pos (factorial 21) *ℤ power N 21;
 }
 
--- "As above", of the angle n/N in radians: q is rounded (n/N) / (two-pi/four), and r = n/N - q (two-pi/four) is ref-r over four N.
+-- The same two series term by term, over fractions: cosine/proofs/Plain.antt proves that they have the same value.
+-- t 0 + t 1 + .. + t m
+unfoldable pub total : ℕ → (ℕ → Fraction) → Fraction
+total zero t = t 0
+total (suc m) t = total m t +ᶠ t (suc m)
+
+-- (-1)^m x^i / i!
+unfoldable pub power-term : Fraction → ℕ → ℕ → Fraction
+power-term x m i = overᶠ (alternate m (pos 1)) (factorial i) *ᶠ powerᶠ x i
+
+-- Of the angle n/N in radians: q is rounded (n/N) / (two-pi/four), and r = n/N - q (two-pi/four) is ref-r over four N.
 unfoldable pub ref-q : ℤ → ℕ → ℤ
 ref-q n N = rounded (n *ℤ pos four) (two-pi * N)
 

@@ -1,4 +1,4 @@
--- Document 01, "Working cosine and sums": a term a, b, c of a series, each in parts, at t milliseconds.
+-- RULES, "Working cosine and sums": a term a, b, c of a series, each in parts, at t milliseconds.
 use Prim.Native.Nat.{ℕ, _*_, _≤_, _<_}
 use lib.IntN.{ℤ, pos, natAbs, _+ℤ_, _*ℤ_}
 use Rattle.integers.specs.Division.{rounded, modulo}
@@ -13,14 +13,14 @@ pub record Allowed (b : ℕ) (c t : ℤ) : Type 0 where
   pub c-in : natAbs c < c-limit
   pub t-in : natAbs t ≤ t-limit
 
--- "A term's angle is (100b + rounded 100ct/T) mod P": in 10^-13 radian.
+-- The angle b + c*tau in 10^-13 radian, rounded, less whole turns.
 unfoldable pub term-angle : ℕ → ℤ → ℤ → ℕ
 term-angle b c t = modulo (pos (angle-per-part * b) +ℤ rounded (pos angle-per-part *ℤ c *ℤ t) millennium) turn
 
 unfoldable pub term-cosine : ℕ → ℤ → ℤ → ℤ
 term-cosine b c t = cosine (pos (term-angle b c t))
 
--- "Its value is rounded a*cos/U."
+-- In parts.
 unfoldable pub term-value : ℤ → ℕ → ℤ → ℤ → ℤ
 term-value a b c t = rounded (a *ℤ term-cosine b c t) U
 

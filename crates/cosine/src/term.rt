@@ -5,7 +5,7 @@ ghost use Prim.Native.Nat.{_+_, _*_, _/_, _%_, _<_, _≤_, _^_};
 ghost use lib.IntN.{pos, negℤ, natAbs, _+ℤ_, _-ℤ_, _*ℤ_};
 ghost use Rattle.integers.specs.Division.{rounded, modulo};
 ghost use Rattle.units.specs.Units.{U, millennium, turn, t-limit, a-limit, b-limit, c-limit};
-ghost use Rattle.cosine.specs.machine.Parity.{half-value, InRange};
+ghost use Rattle.cosine.specs.machine.Parity.{value-by-parity, InRange};
 ghost use Rattle.cosine.specs.machine.Prepared.{base, combined-limit, Ready, Products};
 ghost use Rattle.cosine.specs.Terms.{term-angle, term-value};
 use crate::working::HALF_UNIT;
@@ -69,7 +69,7 @@ struct ByMillennium {
 }
 
 // specs/machine/Parity.antt says what a term's value is of these.
-pub struct Worked {
+pub struct ReducedTerm {
     pub a: i64,
     pub v: u64,
     pub odd: u64,
@@ -167,13 +167,13 @@ fn signed_amplitude(a: i64, k: u64) -> i64
 }
 
 // A term with its angle reduced. Nothing here jumps on the quarter, which is as good as random from term to term.
-pub fn worked_term(p: Prepared, a: i64, b: u64, c: i64) -> Worked
+pub fn reduced_term(p: Prepared, a: i64, b: u64, c: i64) -> ReducedTerm
     requires { ⌜ Ready p × (natAbs a < a-limit) × (b < b-limit) × (natAbs c < c-limit) ⌝ }
-    ensures { λ r. ⌜ (half-value (r .odd) (r .a) (r .v) ≡ term-value a b c (p .t)) × (natAbs (r .a) ≡ natAbs a) × (r .odd ≤ 1) × InRange (r .v) ⌝ }
+    ensures { λ r. ⌜ (value-by-parity (r .odd) (r .a) (r .v) ≡ term-value a b c (p .t)) × (natAbs (r .a) ≡ natAbs a) × (r .odd ≤ 1) × InRange (r .v) ⌝ }
 {
     let x = angle(p, b, c);
     let q = quarters(x);
-    Worked {
+    ReducedTerm {
         a: signed_amplitude(a, q % 4),
         v: biased_angle(x, q),
         odd: q % 2,

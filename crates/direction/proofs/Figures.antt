@@ -13,7 +13,8 @@ use Rattle.direction.specs.Direction.{quarter-steps, steps-angle, not-pa
 use Rattle.direction.proofs.Halving.{Between, between-done, past-on}
 use Rattle.direction.proofs.Turns.{no-turn, two-turns}
 
-pub in-quarter-is : (x y k : ℕ) → k + 1 ≤ quarter-steps → not-past (pos x) (pos y) k ≡ true → not-past (pos x) (pos y) (k + 1) ≡ false → in-quarter (pos x) (pos y) ≡ k
+in-quarter-is : (x y k : ℕ) → k + 1 ≤ quarter-steps → not-past (pos x) (pos y) k ≡ true → not-past (pos x) (pos y) (k + 1) ≡ false
+    → in-quarter (pos x) (pos y) ≡ k
 in-quarter-is x y k h e f = sym (between-done x y k (k + 1) between (omega arith))
   where
     between : Between x y k (k + 1)
@@ -21,12 +22,14 @@ in-quarter-is x y k h e f = sym (between-done x y k (k + 1) between (omega arith
 
 -- (X, Y) = (1252845776, 1558966793): 18436787
 pub up-right : direction (sgn false 1252845776) (sgn false 1558966793) ≡ 18436787
-unfolding not-past steps-angle units-angle floor rounded modulo q-of r-of w-of y-of horner even-part odd-part cosine-by sine-by working-cosine working-sine cosine sine
+unfolding not-past steps-angle units-angle floor rounded modulo q-of r-of w-of y-of horner even-part odd-part cosine-by sine-by working-cosine working-sine
+    cosine sine
 up-right = no-turn 1252845776 1558966793 (lit< tt) ∙ ap (λ (n : ℕ). 0 * quarter-steps + n) (in-quarter-is 1252845776 1558966793 18436787 (lit≤ tt) refl refl)
 
--- Mercury as document 000 has it on 2005-01-01, at the earlier instant: 93024962, that is 4.509977 radians
+-- Mercury on 2005-01-01, at the earlier instant: 93024962, that is 4.509977 radians
 pub mercury : direction (sgn true 21282066905) (sgn true 103702719761) ≡ 93024962
-unfolding not-past steps-angle units-angle floor rounded modulo q-of r-of w-of y-of horner even-part odd-part cosine-by sine-by working-cosine working-sine cosine sine
+unfolding not-past steps-angle units-angle floor rounded modulo q-of r-of w-of y-of horner even-part odd-part cosine-by sine-by working-cosine working-sine
+    cosine sine
 mercury =
     two-turns 21282066905 103702719761 (lit< tt)
     ∙ ap (λ (n : ℕ). 2 * quarter-steps + n) (in-quarter-is 21282066905 103702719761 28224962 (lit≤ tt) refl refl)

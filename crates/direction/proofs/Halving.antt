@@ -30,16 +30,16 @@ steps-rise j k l =
     rounded-mono (pos j *ℤ pos turn) (pos k *ℤ pos turn) turn-steps (lit< tt)
     (cert! (pos j ∷ pos k ∷ []) 0 (turn · gap (≼-nat j k l)) (search polys depth 60 fits 100000) tt)
 
-pub steps-least : (k : ℕ) → pos 0 ≼ steps-angle (pos k)
+steps-least : (k : ℕ) → pos 0 ≼ steps-angle (pos k)
 unfolding steps-angle units-angle
 steps-least k = subst (λ t. t ≼ rounded (pos k *ℤ pos turn) turn-steps) (rounded-zero turn-steps (lit< tt)) (steps-rise 0 k (omega arith))
 
-pub steps-most : (k : ℕ) → k ≤ quarter-steps → steps-angle (pos k) ≼ pos quarter
+steps-most : (k : ℕ) → k ≤ quarter-steps → steps-angle (pos k) ≼ pos quarter
 unfolding steps-angle units-angle rounded floor
 steps-most k l = steps-rise k quarter-steps l
 
 -- ---- sine and cosine at the steps
-pub steps-open : (j k : ℕ) → j ≤ k → k ≤ quarter-steps → Opens (steps-angle (pos j)) (steps-angle (pos k))
+steps-open : (j k : ℕ) → j ≤ k → k ≤ quarter-steps → Opens (steps-angle (pos j)) (steps-angle (pos k))
 steps-open j k l h = quarter-opens (steps-angle (pos j)) (steps-angle (pos k)) (steps-least j) (steps-rise j k l) (steps-most k h)
 
 steps-first : steps-angle (pos 0) ≡ pos 0
@@ -63,10 +63,10 @@ cosine-quarter : cosine (pos quarter) ≡ pos 0
 unfolding cosine working-cosine cosine-by modulo q-of w-of r-of odd-part horner y-of rounded floor
 cosine-quarter = refl
 
-pub steps-sine : (k : ℕ) → k ≤ quarter-steps → pos 0 ≼ sine (steps-angle (pos k))
+steps-sine : (k : ℕ) → k ≤ quarter-steps → pos 0 ≼ sine (steps-angle (pos k))
 steps-sine k h = subst (λ t. t ≼ sine (steps-angle (pos k))) (ap sine steps-first ∙ sine-0) (steps-open 0 k (omega arith) h .sine-rises)
 
-pub steps-cosine : (k : ℕ) → k ≤ quarter-steps → pos 0 ≼ cosine (steps-angle (pos k))
+steps-cosine : (k : ℕ) → k ≤ quarter-steps → pos 0 ≼ cosine (steps-angle (pos k))
 steps-cosine k h = subst (λ t. t ≼ cosine (steps-angle (pos k))) cosine-last (steps-open k quarter-steps h (omega arith) .cosine-falls)
   where
     cosine-last : cosine (steps-angle (pos quarter-steps)) ≡ pos 0
@@ -82,7 +82,8 @@ pub past-on : (x y j k : ℕ) → j ≤ k → k ≤ quarter-steps → not-past (
 unfolding not-past
 past-on x y j k l h e = implied _ _ back e
   where
-    back : T (leZ (pos x *ℤ sine (steps-angle (pos k))) (pos y *ℤ cosine (steps-angle (pos k)))) → T (leZ (pos x *ℤ sine (steps-angle (pos j))) (pos y *ℤ cosine (steps-angle (pos j))))
+    back : T (leZ (pos x *ℤ sine (steps-angle (pos k))) (pos y *ℤ cosine (steps-angle (pos k))))
+        → T (leZ (pos x *ℤ sine (steps-angle (pos j))) (pos y *ℤ cosine (steps-angle (pos j))))
     back t =
         let o = steps-open j k l h in
         let s = sine (steps-angle (pos j)) in
@@ -91,11 +92,12 @@ past-on x y j k l h e = implied _ _ back e
         let c′ = cosine (steps-angle (pos k)) in
         let g : pos x *ℤ s′ ≼ pos y *ℤ c′ = record { le = t } in
         let r : pos x *ℤ s ≼ pos y *ℤ c =
-        cert! (pos x ∷ pos y ∷ s ∷ s′ ∷ c ∷ c′ ∷ []) 0 (gap g ⊞ nonneg x ⊛ gap (o .sine-rises) ⊞ nonneg y ⊛ gap (o .cosine-falls)) (search polys depth 60 fits 100000) tt in
+        cert! (pos x ∷ pos y ∷ s ∷ s′ ∷ c ∷ c′ ∷ []) 0 (gap g ⊞ nonneg x ⊛ gap (o .sine-rises) ⊞ nonneg y ⊛ gap (o .cosine-falls))
+        (search polys depth 60 fits 100000) tt in
         r .le
 
 -- 0 is past nothing
-pub start-not-past : (x y : ℕ) → not-past (pos x) (pos y) 0 ≡ true
+start-not-past : (x y : ℕ) → not-past (pos x) (pos y) 0 ≡ true
 unfolding not-past
 start-not-past x y =
     ap (λ a. leZ (pos x *ℤ sine a) (pos y *ℤ cosine a)) steps-first
@@ -134,7 +136,8 @@ sine-at-most s a e = leb→le s U (subst (λ t. t ≼ pos U) (sym e) (sine-range
 pub cosine-at-most : (c : ℕ) (a : ℤ) → pos c ≡ cosine a → c ≤ U
 cosine-at-most c a e = leb→le c U (subst (λ t. t ≼ pos U) (sym e) (cosine-range a .most) .le)
 
-pub not-past-is : (x y k a s c : ℕ) → pos a ≡ steps-angle (pos k) → pos s ≡ sine (pos a) → pos c ≡ cosine (pos a) → leb (x * s) (y * c) ≡ not-past (pos x) (pos y) k
+pub not-past-is : (x y k a s c : ℕ) → pos a ≡ steps-angle (pos k) → pos s ≡ sine (pos a) → pos c ≡ cosine (pos a)
+    → leb (x * s) (y * c) ≡ not-past (pos x) (pos y) k
 unfolding not-past
 not-past-is x y k a s c e f g = ap₂ (λ u v. leZ (pos x *ℤ u) (pos y *ℤ v)) (f ∙ ap sine e) (g ∙ ap cosine e)
 
@@ -154,10 +157,12 @@ between-all x y = record {
   high-past = λ j a b. absurd (omega arith);
 }
 
-pub between-up : (x y least most middle : ℕ) → Between x y least most → least < middle → middle < most → not-past (pos x) (pos y) middle ≡ true → Between x y middle most
+pub between-up : (x y least most middle : ℕ) → Between x y least most → least < middle → middle < most → not-past (pos x) (pos y) middle ≡ true
+    → Between x y middle most
 between-up x y least most middle b l h e = record { order = h; end = b .end; low-not-past = e; high-past = b .high-past }
 
-pub between-down : (x y least most middle : ℕ) → Between x y least most → least < middle → middle < most → not-past (pos x) (pos y) middle ≡ false → Between x y least middle
+pub between-down : (x y least most middle : ℕ) → Between x y least most → least < middle → middle < most → not-past (pos x) (pos y) middle ≡ false
+    → Between x y least middle
 between-down x y least most middle b l h e = record {
   order = l;
   end = lower-end (b .end);

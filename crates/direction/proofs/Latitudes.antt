@@ -24,6 +24,7 @@ root-less r n w l h = let g = by-contra (r + 1) w (λ (g : w < r + 1). omega (ar
 pub root-small : (n r : ℕ) → n < 2 ^ 92 → r ≡ root n → r < 2 ^ 46
 root-small n r h e = subst (λ (m : ℕ). m < 2 ^ 46) (sym e) (root-less (root n) n (2 ^ 46) (root-spec n .low) h)
 
-pub latitude-is : (x y z : ℤ) (f u k : ℕ) (s : Bool) → f ≡ root (natAbs (x *ℤ x +ℤ y *ℤ y)) → u ≡ natAbs z → k ≡ direction (pos f) (pos u) → s ≡ negative z → sgn s k ≡ latitude x y z
+pub latitude-is : (x y z : ℤ) (f u k : ℕ) (s : Bool) → f ≡ root (natAbs (x *ℤ x +ℤ y *ℤ y)) → u ≡ natAbs z → k ≡ direction (pos f) (pos u) → s ≡ negative z
+    → sgn s k ≡ latitude x y z
 unfolding latitude
 latitude-is x y z f u k s a b c d = ap₂ sgn d (c ∙ ap₂ (λ p q. direction (pos p) (pos q)) a b)

@@ -83,10 +83,12 @@ lower x h k = record {
 }
   where
     lower-least : pos 0 ≼ lower-w x
-    lower-least = unfold lower-w in let r = x -ℤ pos 0 *ℤ pos quarter in cert! (x ∷ rounded r angle-step ∷ []) 19999 (gap< (rounded-high r angle-step (lit< tt)) ⊞ 2 · h) (search polys depth 60 fits 100000) tt
+    lower-least = unfold lower-w in let r = x -ℤ pos 0 *ℤ pos quarter in
+        cert! (x ∷ rounded r angle-step ∷ []) 19999 (gap< (rounded-high r angle-step (lit< tt)) ⊞ 2 · h) (search polys depth 60 fits 100000) tt
 
     lower-most : lower-w x ≼ pos w-most
-    lower-most = unfold lower-w in let r = x -ℤ pos 0 *ℤ pos quarter in cert! (x ∷ rounded r angle-step ∷ []) 19999 (gap (rounded-low r angle-step (lit< tt)) ⊞ gap< k) (search polys depth 60 fits 100000) tt
+    lower-most = unfold lower-w in let r = x -ℤ pos 0 *ℤ pos quarter in
+        cert! (x ∷ rounded r angle-step ∷ []) 19999 (gap (rounded-low r angle-step (lit< tt)) ⊞ gap< k) (search polys depth 60 fits 100000) tt
 
 upper : (x : ℤ) → pos quarter ≼ pos 2 *ℤ x → x ≼ pos quarter → Upper x (upper-w x)
 upper x h k = record {
@@ -97,10 +99,12 @@ upper x h k = record {
 }
   where
     upper-least : pos 0 ≼ upper-w x
-    upper-least = unfold upper-w in let r = x -ℤ pos 1 *ℤ pos quarter in cert! (x ∷ rounded r angle-step ∷ []) 19999 (gap (rounded-low r angle-step (lit< tt)) ⊞ 2 · gap k) (search polys depth 60 fits 100000) tt
+    upper-least = unfold upper-w in let r = x -ℤ pos 1 *ℤ pos quarter in
+        cert! (x ∷ rounded r angle-step ∷ []) 19999 (gap (rounded-low r angle-step (lit< tt)) ⊞ 2 · gap k) (search polys depth 60 fits 100000) tt
 
     upper-most : upper-w x ≼ pos w-most
-    upper-most = unfold upper-w in let r = x -ℤ pos 1 *ℤ pos quarter in cert! (x ∷ rounded r angle-step ∷ []) 19999 (gap< (rounded-high r angle-step (lit< tt)) ⊞ gap h) (search polys depth 60 fits 100000) tt
+    upper-most = unfold upper-w in let r = x -ℤ pos 1 *ℤ pos quarter in
+        cert! (x ∷ rounded r angle-step ∷ []) 19999 (gap< (rounded-high r angle-step (lit< tt)) ⊞ gap h) (search polys depth 60 fits 100000) tt
 
 lower-rises : (x x′ : ℤ) → x ≼ x′ → lower-w x ≼ lower-w x′
 unfolding lower-w
@@ -111,7 +115,9 @@ unfolding upper-w
 upper-falls x x′ l =
     let r = x -ℤ pos 1 *ℤ pos quarter in
     let r′ = x′ -ℤ pos 1 *ℤ pos quarter in
-    cert! (rounded r angle-step ∷ rounded r′ angle-step ∷ []) 0 (gap (rounded-mono r r′ angle-step (lit< tt) (cert! (x ∷ x′ ∷ []) 0 (gap l) (search polys depth 60 fits 100000) tt))) (search polys depth 60 fits 100000) tt
+    cert! (rounded r angle-step ∷ rounded r′ angle-step ∷ []) 0
+    (gap (rounded-mono r r′ angle-step (lit< tt) (cert! (x ∷ x′ ∷ []) 0 (gap l) (search polys depth 60 fits 100000) tt)))
+    (search polys depth 60 fits 100000) tt
 
 -- ---- where the halves meet, computed
 meet-sine : odd-part (pos w-most) ≼ even-part (pos w-most)
@@ -150,8 +156,10 @@ across x x′ w w′ a b =
     let m = pos w-most in
     let here = ≤ℤ-refl m in
     record {
-      sine-rises = by-parts (a .sin) (b .sin) (≤ℤ-trans (odd-rises w m (a .least) (a .most) here) (≤ℤ-trans meet-sine (even-falls w′ m (b .least) (b .most) here)));
-      cosine-falls = by-parts (b .cos) (a .cos) (≤ℤ-trans (neg-le _ _ (odd-rises⁻ w′ m (b .least) (b .most) here)) (≤ℤ-trans meet-cosine (even-falls w m (a .least) (a .most) here)));
+      sine-rises = by-parts (a .sin) (b .sin)
+          (≤ℤ-trans (odd-rises w m (a .least) (a .most) here) (≤ℤ-trans meet-sine (even-falls w′ m (b .least) (b .most) here)));
+      cosine-falls = by-parts (b .cos) (a .cos)
+          (≤ℤ-trans (neg-le _ _ (odd-rises⁻ w′ m (b .least) (b .most) here)) (≤ℤ-trans meet-cosine (even-falls w m (a .least) (a .most) here)));
     }
 
 pub quarter-opens : (x x′ : ℤ) → pos 0 ≼ x → x ≼ x′ → x′ ≼ pos quarter → Opens x x′

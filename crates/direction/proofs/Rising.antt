@@ -1,7 +1,7 @@
 -- From 0 to a quarter turn the working sine never falls and the working cosine never rises. Assumes nothing.
 use mathlib.Core.Path.{_≡_, ap, subst}
 use mathlib.Core.List.{List, [], _∷_}
-use Prim.Native.Nat.{ℕ, _*_, _+_, _≤_, _<_}
+use Prim.Native.Nat.{ℕ, _*_, _+_, _/_, _≤_, _<_}
 use native.Mathlib.Omega.{arith}
 use lib.Dec.{le→leb, lit<, lit≤}
 use lib.IntN.{ℤ, pos, _+ℤ_, _-ℤ_, _*ℤ_, negℤ}
@@ -12,7 +12,7 @@ use Rattle.integers.proofs.Pairs.{nonneg}
 use Rattle.integers.proofs.Auto.{ring!, cert!, polys, gap, gap<, _⊞_, _⊛_, _·_}
 use Rattle.integers.proofs.Division.{rounded-low, rounded-high}
 use Rattle.integers.proofs.Rounding.{rounded-le, rounded-mono, rounded-zero}
-use Rattle.units.specs.Units.{U}
+use Rattle.units.specs.Units.{U, quarter, angle-step}
 use Rattle.cosine.specs.Cosine.{horner, y-of, even-part, odd-part, evens, odds}
 
 -- ---- the Horner values fall as y rises, by no more than y rises
@@ -23,7 +23,7 @@ pub record Falls (y y′ h h′ : ℤ) : Type 0 where
   pub least : y′ ≼ h′
   pub most : h ≼ pos U
 
--- the greatest y that occurs is a little below this one
+-- no y is greater: w-most·w-most/U is 616,850,275, here rounded up
 abbrev y-most : ℕ
 y-most = 620000000
 
@@ -47,18 +47,23 @@ module _ (y y′ : ℤ) (hy : pos 0 ≼ y) (le : y ≼ y′) (hy′ : y′ ≼ p
 
   product-slow : (d : ℕ) (h h′ : ℤ) → pos 1 ≼ pos d → Falls y y′ h h′ → y′ *ℤ h′ ≼ pos (U * d) *ℤ (y′ -ℤ y) +ℤ y *ℤ h
   product-slow d h h′ hd f =
-      cert! (y ∷ y′ ∷ h ∷ h′ ∷ pos d ∷ []) 0 ((hy ⊞ gap le) ⊛ gap (f .falls) ⊞ gap le ⊛ gap (f .most) ⊞ U · (gap hd ⊛ gap le)) (search polys depth 60 fits 100000) tt
+      cert! (y ∷ y′ ∷ h ∷ h′ ∷ pos d ∷ []) 0 ((hy ⊞ gap le) ⊛ gap (f .falls) ⊞ gap le ⊛ gap (f .most) ⊞ U · (gap hd ⊛ gap le))
+      (search polys depth 60 fits 100000) tt
 
   -- one step, with a divisor of 2 or more
-  next-falls : (d : ℕ) (h h′ : ℤ) → 2 ≤ d → pos 2 ≼ pos d → Falls y y′ h h′ → Falls y y′ (pos U -ℤ rounded (y *ℤ h) (U * d)) (pos U -ℤ rounded (y′ *ℤ h′) (U * d))
+  next-falls : (d : ℕ) (h h′ : ℤ) → 2 ≤ d → pos 2 ≼ pos d → Falls y y′ h h′
+      → Falls y y′ (pos U -ℤ rounded (y *ℤ h) (U * d)) (pos U -ℤ rounded (y′ *ℤ h′) (U * d))
   next-falls d h h′ hd hd′ f =
       let positive : 0 < U * d = omega arith in
       let r = rounded (y *ℤ h) (U * d) in
       let r′ = rounded (y′ *ℤ h′) (U * d) in
       let a = rounded-mono (y *ℤ h) (y′ *ℤ h′) (U * d) positive (product-le h h′ f) in
-      let b = rounded-le (y′ *ℤ h′) (y *ℤ h) (y′ -ℤ y) (U * d) positive (product-slow d h h′ (cert! (pos d ∷ []) 0 (gap hd′) (search polys depth 60 fits 100000) tt) f) in
+      let b = rounded-le (y′ *ℤ h′) (y *ℤ h) (y′ -ℤ y) (U * d) positive
+      (product-slow d h h′ (cert! (pos d ∷ []) 0 (gap hd′) (search polys depth 60 fits 100000) tt) f) in
       let top : y′ *ℤ h′ ≼ pos (U * d) *ℤ (pos U -ℤ y′) +ℤ pos 0 =
-      cert! (y ∷ y′ ∷ h ∷ h′ ∷ pos d ∷ []) 0 (U · (gap hd′ ⊛ (gap hy′ ⊞ nonneg 380000000)) ⊞ (3 * U) · gap hy′ ⊞ (hy ⊞ gap le) ⊛ (gap (f .most) ⊞ gap (f .falls))) (search polys depth 60 fits 100000) tt in
+      cert! (y ∷ y′ ∷ h ∷ h′ ∷ pos d ∷ []) 0
+      (U · (gap hd′ ⊛ (gap hy′ ⊞ nonneg 380000000)) ⊞ (3 * U) · gap hy′ ⊞ (hy ⊞ gap le) ⊛ (gap (f .most) ⊞ gap (f .falls)))
+      (search polys depth 60 fits 100000) tt in
       let l = rounded-le (y′ *ℤ h′) (pos 0) (pos U -ℤ y′) (U * d) positive top in
       let bottom : pos 0 ≼ pos (U * d) *ℤ pos 0 +ℤ y *ℤ h =
       cert! (y ∷ y′ ∷ h ∷ h′ ∷ pos d ∷ []) 0 (hy ⊛ (hy ⊞ gap le ⊞ gap (f .least) ⊞ gap (f .falls))) (search polys depth 60 fits 100000) tt in
@@ -90,19 +95,24 @@ module _ (y y′ : ℤ) (hy : pos 0 ≼ y) (le : y ≼ y′) (hy′ : y′ ≼ p
       let f = horner-falls odds-tail odds-divide in
       let r = rounded (y *ℤ h) (U * 6) in
       let r′ = rounded (y′ *ℤ h′) (U * 6) in
-      cert! (y ∷ y′ ∷ h ∷ h′ ∷ r ∷ r′ ∷ []) 1999999999 (gap (rounded-low (y′ *ℤ h′) (U * 6) (lit< tt)) ⊞ gap< (rounded-high (y *ℤ h) (U * 6) (lit< tt)) ⊞ 2 · ((hy ⊞ gap le) ⊛ gap (f .falls)) ⊞ 2 · (gap le ⊛ gap (f .most))) (search polys depth 60 fits 100000) tt
+      cert! (y ∷ y′ ∷ h ∷ h′ ∷ r ∷ r′ ∷ []) 1999999999
+      (gap (rounded-low (y′ *ℤ h′) (U * 6) (lit< tt)) ⊞ gap< (rounded-high (y *ℤ h) (U * 6) (lit< tt)) ⊞ 2 · ((hy ⊞ gap le) ⊛ gap (f .falls))
+      ⊞ 2 · (gap le ⊛ gap (f .most))) (search polys depth 60 fits 100000) tt
 
   odd-least : pos 790000000 ≼ horner y′ odds
   unfolding horner
   odd-least =
       let h′ = horner y′ odds-tail in
       let f = horner-falls odds-tail odds-divide in
-      let l = rounded-le (y′ *ℤ h′) (pos 0) (pos 210000000) (U * 6) (lit< tt) (cert! (y ∷ y′ ∷ horner y odds-tail ∷ h′ ∷ []) 0 ((hy ⊞ gap le) ⊛ (gap (f .most) ⊞ gap (f .falls)) ⊞ U · gap hy′) (search polys depth 60 fits 100000) tt) in
-      cert! (rounded (y′ *ℤ h′) (U * 6) ∷ []) 0 (gap (subst (λ t. rounded (y′ *ℤ h′) (U * 6) ≼ pos 210000000 +ℤ t) (rounded-zero (U * 6) (lit< tt)) l)) (search polys depth 60 fits 100000) tt
+      let l = rounded-le (y′ *ℤ h′) (pos 0) (pos 210000000) (U * 6) (lit< tt)
+      (cert! (y ∷ y′ ∷ horner y odds-tail ∷ h′ ∷ []) 0 ((hy ⊞ gap le) ⊛ (gap (f .most) ⊞ gap (f .falls)) ⊞ U · gap hy′)
+      (search polys depth 60 fits 100000) tt) in
+      cert! (rounded (y′ *ℤ h′) (U * 6) ∷ []) 0 (gap (subst (λ t. rounded (y′ *ℤ h′) (U * 6) ≼ pos 210000000 +ℤ t) (rounded-zero (U * 6) (lit< tt)) l))
+      (search polys depth 60 fits 100000) tt
 
--- ---- the parts, as w rises
+-- ---- the parts, as w rises, to the greatest w of a quarter: half of it, rounded
 abbrev pub w-most : ℕ
-w-most = 785398163
+w-most = quarter / (2 * angle-step)
 
 pub y-neg : (w : ℤ) → y-of (negℤ w) ≡ y-of w
 unfolding y-of
@@ -122,12 +132,15 @@ module _ (w w′ : ℤ) (hw : pos 0 ≼ w) (le : w ≼ w′) (hw′ : w′ ≼ p
   y-top : y-of w′ ≼ pos y-most
   unfolding y-of
   y-top =
-      cert! (w ∷ w′ ∷ rounded (w′ *ℤ w′) U ∷ []) 1999999999 (gap (rounded-low (w′ *ℤ w′) U (lit< tt)) ⊞ 2 · (gap hw′ ⊛ (hw ⊞ gap le)) ⊞ (2 * w-most) · gap hw′) (search polys depth 60 fits 100000) tt
+      cert! (w ∷ w′ ∷ rounded (w′ *ℤ w′) U ∷ []) 1999999999
+      (gap (rounded-low (w′ *ℤ w′) U (lit< tt)) ⊞ 2 · (gap hw′ ⊛ (hw ⊞ gap le)) ⊞ (2 * w-most) · gap hw′) (search polys depth 60 fits 100000) tt
 
   y-slow : y-of w′ -ℤ y-of w ≼ pos 2 *ℤ (w′ -ℤ w)
   unfolding y-of
   y-slow =
-      cert! (w ∷ w′ ∷ rounded (w *ℤ w) U ∷ rounded (w′ *ℤ w′) U ∷ []) 1999999999 (gap (rounded-low (w′ *ℤ w′) U (lit< tt)) ⊞ gap< (rounded-high (w *ℤ w) U (lit< tt)) ⊞ 4 · (gap le ⊛ gap hw′) ⊞ 2 · (gap le ⊛ gap le) ⊞ 858407348 · gap le) (search polys depth 60 fits 100000) tt
+      cert! (w ∷ w′ ∷ rounded (w *ℤ w) U ∷ rounded (w′ *ℤ w′) U ∷ []) 1999999999
+      (gap (rounded-low (w′ *ℤ w′) U (lit< tt)) ⊞ gap< (rounded-high (w *ℤ w) U (lit< tt)) ⊞ 4 · (gap le ⊛ gap hw′) ⊞ 2 · (gap le ⊛ gap le)
+      ⊞ 858407348 · gap le) (search polys depth 60 fits 100000) tt
 
   pub even-falls : even-part w′ ≼ even-part w
   unfolding even-part

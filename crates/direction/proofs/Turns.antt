@@ -29,7 +29,8 @@ turn-below : (t n : ℕ) (x : ℤ) → within-turns (suc t) x (negsuc n) ≡ qua
 unfolding within-turns first-quarter
 turn-below t n (pos m) = either (lib.Dec.ltb 0 m)
   where
-    either : (b : Bool) → cond (cond b false false) (in-quarter (pos m) (negsuc n)) (quarter-steps + within-turns t (negsuc n) (negℤ (pos m))) ≡ quarter-steps + within-turns t (negsuc n) (negℤ (pos m))
+    either : (b : Bool) → cond (cond b false false) (in-quarter (pos m) (negsuc n)) (quarter-steps + within-turns t (negsuc n) (negℤ (pos m)))
+        ≡ quarter-steps + within-turns t (negsuc n) (negℤ (pos m))
     either true = refl
     either false = refl
 turn-below t n (negsuc m) = refl
@@ -39,34 +40,38 @@ pub no-turn : (x y : ℕ) → 0 < x → direction (sgn false x) (sgn false y) �
 unfolding sgn
 no-turn x y h = no-origin (pos x) (pos y) (omega arith) ∙ stop 3 x y h ∙ omega arith
 
-pub one-turn : (x y : ℕ) → 0 < y → direction (sgn true x) (sgn false y) ≡ 1 * quarter-steps + in-quarter (pos y) (pos x)
+one-turn : (x y : ℕ) → 0 < y → direction (sgn true x) (sgn false y) ≡ 1 * quarter-steps + in-quarter (pos y) (pos x)
 unfolding sgn
 one-turn x y h = no-origin (negℤ (pos x)) (pos y) (omega arith) ∙ turn-neg 2 x (pos y) ∙ omega (arith, stop 2 y x h)
 
 pub two-turns : (x y : ℕ) → 0 < x → direction (sgn true x) (sgn true y) ≡ 2 * quarter-steps + in-quarter (pos x) (pos y)
 unfolding sgn
 two-turns x y h =
-    no-origin (negℤ (pos x)) (negℤ (pos y)) (omega (arith, natAbs-neg (pos x))) ∙ turn-neg 2 x (negℤ (pos y)) ∙ omega (arith, turn-neg 1 y (pos x), stop 1 x y h)
+    no-origin (negℤ (pos x)) (negℤ (pos y)) (omega (arith, natAbs-neg (pos x))) ∙ turn-neg 2 x (negℤ (pos y))
+    ∙ omega (arith, turn-neg 1 y (pos x), stop 1 x y h)
 
-pub three-turns : (x y : ℕ) → 0 < y → direction (sgn false x) (sgn true y) ≡ 3 * quarter-steps + in-quarter (pos y) (pos x)
+three-turns : (x y : ℕ) → 0 < y → direction (sgn false x) (sgn true y) ≡ 3 * quarter-steps + in-quarter (pos y) (pos x)
 unfolding sgn
 three-turns x zero h = absurd (omega arith)
 three-turns x (suc n) h =
-    no-origin (pos x) (negsuc n) (omega arith) ∙ turn-below 2 n (pos x) ∙ omega (arith, turn-neg 1 (suc n) (negℤ (pos x)), turn-neg 0 x (pos (suc n)), stop 0 (suc n) x (omega arith))
+    no-origin (pos x) (negsuc n) (omega arith) ∙ turn-below 2 n (pos x)
+    ∙ omega (arith, turn-neg 1 (suc n) (negℤ (pos x)), turn-neg 0 x (pos (suc n)), stop 0 (suc n) x (omega arith))
 
 -- ---- the same by the signs and magnitudes that the code has
-pub above : (x : ℤ) → negative x ≡ true → 0 < natAbs x
+above : (x : ℤ) → negative x ≡ true → 0 < natAbs x
 unfolding negative
 above (pos m) e = absurd (subst T (sym e) tt)
 above (negsuc m) e = omega arith
 
-pub by-none : (x y : ℤ) → negative x ≡ false → negative y ≡ false → 0 < natAbs x → 0 * quarter-steps + in-quarter (pos (natAbs x)) (pos (natAbs y)) ≡ direction x y
+pub by-none : (x y : ℤ) → negative x ≡ false → negative y ≡ false → 0 < natAbs x
+    → 0 * quarter-steps + in-quarter (pos (natAbs x)) (pos (natAbs y)) ≡ direction x y
 unfolding negative sgn
 by-none (pos m) (pos n) e f h = sym (no-turn m n h)
 by-none (pos m) (negsuc n) e f h = absurd (subst T f tt)
 by-none (negsuc m) y e f h = absurd (subst T e tt)
 
-pub by-one : (x y : ℤ) → negative x ≡ true → negative y ≡ false → 0 < natAbs y → 1 * quarter-steps + in-quarter (pos (natAbs y)) (pos (natAbs x)) ≡ direction x y
+pub by-one : (x y : ℤ) → negative x ≡ true → negative y ≡ false → 0 < natAbs y
+    → 1 * quarter-steps + in-quarter (pos (natAbs y)) (pos (natAbs x)) ≡ direction x y
 unfolding negative sgn
 by-one (pos m) y e f h = absurd (subst T (sym e) tt)
 by-one (negsuc m) (pos n) e f h = sym (one-turn (suc m) n h)
@@ -103,5 +108,6 @@ unfolding direction
 by-origin x y e f = sym (rw (eq-eqb (natAbs x + natAbs y) 0 (omega arith)) refl)
 
 -- ---- an answer for magnitudes that were worked out
-pub answer : (t a b p q z : ℕ) (r : ℤ) → r ≡ pos (t * quarter-steps + in-quarter (pos a) (pos b)) → a ≡ p → b ≡ q → t * quarter-steps + in-quarter (pos p) (pos q) ≡ z → r ≡ pos z
+pub answer : (t a b p q z : ℕ) (r : ℤ) → r ≡ pos (t * quarter-steps + in-quarter (pos a) (pos b)) → a ≡ p → b ≡ q
+    → t * quarter-steps + in-quarter (pos p) (pos q) ≡ z → r ≡ pos z
 answer t a b p q z r e f g h = e ∙ ap₂ (λ u v. pos (t * quarter-steps + in-quarter (pos u) (pos v))) f g ∙ ap pos h

@@ -18,10 +18,12 @@ use units::TURN;
 
 // Hundredths of an arcsecond in a quarter turn, and in a turn.
 const QUARTER_STEPS: u64 = 90 * 3600 * 100;
+
 pub const TURN_STEPS: u64 = 4 * QUARTER_STEPS;
 
 // A turn is so many angles for each of its steps, and this rest.
 const ANGLES_A_STEP: u64 = TURN / TURN_STEPS;
+
 const ANGLES_LEFT: u64 = TURN % TURN_STEPS;
 
 // The rest is rounded over twice the steps, as the rules round.

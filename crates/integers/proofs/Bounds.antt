@@ -66,10 +66,3 @@ bd-rounded n d h = record {
   low = cert! (n ∷ pos d ∷ rounded n d ∷ []) 0 (gap< (rounded-high n d h)) (search polys depth 60 fits 100000) tt;
   high = cert! (n ∷ pos d ∷ rounded n d ∷ []) 0 (gap (rounded-low n d h)) (search polys depth 60 fits 100000) tt;
 }
-
--- two products whose factors are near (G3): |x|, |y′| ≤ W, |x − x′| ≤ p, |y − y′| ≤ r give |x·y − x′·y′| ≤ W·r + p·W
-pub bd-products : (W p r x x′ y y′ : ℤ) → Bd W x → Bd W y′ → Bd p (x -ℤ x′) → Bd r (y -ℤ y′) → Bd (W *ℤ r +ℤ p *ℤ W) (x *ℤ y -ℤ x′ *ℤ y′)
-bd-products W p r x x′ y y′ hx hy dx dy =
-    bd-as (W *ℤ r +ℤ p *ℤ W) (W *ℤ r +ℤ p *ℤ W) (x *ℤ (y -ℤ y′) +ℤ (x -ℤ x′) *ℤ y′) (x *ℤ y -ℤ x′ *ℤ y′) refl
-    (ring! (x ∷ x′ ∷ y ∷ y′ ∷ []) (search polys depth 60 fits 100000) tt)
-    (bd-+ (W *ℤ r) (p *ℤ W) (x *ℤ (y -ℤ y′)) ((x -ℤ x′) *ℤ y′) (bd-* W r x (y -ℤ y′) hx dy) (bd-* p W (x -ℤ x′) y′ dx hy))

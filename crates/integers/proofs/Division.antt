@@ -10,19 +10,19 @@ use lib.Signed.{_<ℤ_}
 use Rattle.integers.proofs.Pairs.{nonneg, up, dn, int, nat, _+ᵢ_, _-ᵢ_, _*ᵢ_, negᵢ, same, same⁻¹, less, less⁻¹, <ℤ-suc, suc-<ℤ}
 use Rattle.integers.specs.Order.{_≼_, _≺_}
 use Rattle.integers.specs.Division.{floor, rounded, modulo}
-use Rattle.integers.specs.Signs.{negative, sgn, near, differ, turned}
+use Rattle.integers.specs.Signs.{negative, sgn, near, differ}
 use Rattle.integers.proofs.Ring.{v, #, _⊕_, _⊗_, hyp, hyp<, cert, cert<}
 use Rattle.integers.proofs.Order.{≼-antisym}
 use Rattle.integers.proofs.Auto.{polys, ring!, cert!, cert<!, gap<, gap≡, _⊞_}
 
 -- ---- floor division by its two bounds
 
-pub floor-low : (n : ℤ) (d : ℕ) → 0 < d → pos d *ℤ floor n d ≼ n
+floor-low : (n : ℤ) (d : ℕ) → 0 < d → pos d *ℤ floor n d ≼ n
 unfolding floor
 floor-low (pos a) d h = less (nat d *ᵢ nat (a / d)) (nat a) (omega (arith, div-add-mod a d))
 floor-low (negsuc a) d h = less (nat d *ᵢ int (negsuc (a / d))) (int (negsuc a)) (omega (arith, div-add-mod a d, mod-lt a h))
 
-pub floor-high : (n : ℤ) (d : ℕ) → 0 < d → n ≺ pos d *ℤ (floor n d +ℤ pos 1)
+floor-high : (n : ℤ) (d : ℕ) → 0 < d → n ≺ pos d *ℤ (floor n d +ℤ pos 1)
 unfolding floor
 floor-high (pos a) d h = suc-<ℤ _ _ (less (nat a +ᵢ nat 1) (nat d *ᵢ (nat (a / d) +ᵢ nat 1)) (omega (arith, div-add-mod a d, mod-lt a h)))
 floor-high (negsuc a) d h = suc-<ℤ _ _ (less (int (negsuc a) +ᵢ nat 1) (nat d *ᵢ (int (negsuc (a / d)) +ᵢ nat 1)) (omega (arith, div-add-mod a d, mod-lt a h)))
@@ -50,7 +50,8 @@ rounded-add k x d h =
     let Q = v 3 in
     floor-is (pos 2 *ℤ (pos d *ℤ k +ℤ x) +ℤ pos d) (k +ℤ q) (2 * d) (omega arith)
     (cert ρ (# 2 ⊗ D ⊗ (K ⊕ Q)) (# 2 ⊗ (D ⊗ K ⊕ X) ⊕ D) 0 (hyp (# 2 ⊗ D ⊗ Q) (# 2 ⊗ X ⊕ D) (floor-low (pos 2 *ℤ x +ℤ pos d) (2 * d) (omega arith))) tt)
-    (cert< ρ (# 2 ⊗ (D ⊗ K ⊕ X) ⊕ D) (# 2 ⊗ D ⊗ (K ⊕ Q ⊕ # 1)) 0 (hyp< (# 2 ⊗ X ⊕ D) (# 2 ⊗ D ⊗ (Q ⊕ # 1)) (floor-high (pos 2 *ℤ x +ℤ pos d) (2 * d) (omega arith))) tt)
+    (cert< ρ (# 2 ⊗ (D ⊗ K ⊕ X) ⊕ D) (# 2 ⊗ D ⊗ (K ⊕ Q ⊕ # 1)) 0
+    (hyp< (# 2 ⊗ X ⊕ D) (# 2 ⊗ D ⊗ (Q ⊕ # 1)) (floor-high (pos 2 *ℤ x +ℤ pos d) (2 * d) (omega arith))) tt)
 
 -- ---- a sign and a magnitude
 
@@ -132,14 +133,15 @@ near-next true q r d h = div-below (2 * (q * d + r) + (d - 1)) (2 * d) (q + 1) (
 
 -- ---- products, by the signs and the magnitudes
 
-pub sgn-mul : (a b : ℤ) → a *ℤ b ≡ sgn (differ (negative a) (negative b)) (natAbs a * natAbs b)
+sgn-mul : (a b : ℤ) → a *ℤ b ≡ sgn (differ (negative a) (negative b)) (natAbs a * natAbs b)
 unfolding sgn differ negative
 sgn-mul (pos a) (pos b) = refl
 sgn-mul (pos a) (negsuc b) = refl
 sgn-mul (negsuc a) (pos b) = refl
 sgn-mul (negsuc a) (negsuc b) = refl
 
-pub rounded-mul : (a b : ℤ) (d q r z : ℕ) (s : Bool) → 0 < d → s ≡ differ (negative a) (negative b) → q * d + r ≡ natAbs a * natAbs b → z ≡ near s (q * d + r) d → sgn s z ≡ rounded (a *ℤ b) d
+pub rounded-mul : (a b : ℤ) (d q r z : ℕ) (s : Bool) → 0 < d → s ≡ differ (negative a) (negative b) → q * d + r ≡ natAbs a * natAbs b
+    → z ≡ near s (q * d + r) d → sgn s z ≡ rounded (a *ℤ b) d
 rounded-mul a b d q r z s h e m p =
     ap (λ t. sgn s t) (p ∙ ap (λ t. near s t d) m) ∙ sym (rounded-near s (natAbs a * natAbs b) d h)
     ∙ ap (λ t. rounded t d) (ap (λ t. sgn t (natAbs a * natAbs b)) e ∙ sym (sgn-mul a b))
@@ -184,7 +186,8 @@ modulo-add x y d h =
     let s = modulo x d + modulo y d in
     modulo-is (x +ℤ y) (floor x d +ℤ floor y d +ℤ pos (s / d)) d (s % d) (mod-lt s h)
     (sym (ap₂ _+ℤ_ (floor-modulo x d h) (floor-modulo y d h))
-    ∙ ring! (pos d ∷ floor x d ∷ floor y d ∷ pos (modulo x d) ∷ pos (modulo y d) ∷ []) {y = pos d *ℤ (floor x d +ℤ floor y d) +ℤ pos s} (search polys depth 40) tt
+    ∙ ring! (pos d ∷ floor x d ∷ floor y d ∷ pos (modulo x d) ∷ pos (modulo y d) ∷ []) {y = pos d *ℤ (floor x d +ℤ floor y d) +ℤ pos s}
+    (search polys depth 40) tt
     ∙ ap (λ (n : ℕ). pos d *ℤ (floor x d +ℤ floor y d) +ℤ pos n) (sym (div-add-mod s d))
     ∙ ring! (pos d ∷ floor x d ∷ floor y d ∷ pos (s / d) ∷ pos (s % d) ∷ []) (search polys depth 40) tt)
 
@@ -207,32 +210,4 @@ near-shift true k x d h =
     let l : (2 * x + (d - 1)) % (2 * d) < 2 * d = mod-lt (2 * x + (d - 1)) (omega arith) in
     div-is (2 * (k * d + x) + (d - 1)) (2 * d) (k + (2 * x + (d - 1)) / (2 * d)) (omega arith) (omega arith)
 
-pub times-sgn : (k : ℕ) (s : Bool) (m : ℕ) → pos k *ℤ sgn s m ≡ sgn s (k * m)
-unfolding sgn
-times-sgn k false m = refl
-times-sgn k true m = same (nat k *ᵢ negᵢ (nat m)) (negᵢ (nat (k * m))) (omega arith)
-
 -- ---- the remainder of ±m, from that of m
-pub modulo-sgn : (s : Bool) (m d : ℕ) → 0 < d → modulo (sgn s m) d ≡ turned s (m % d) d
-unfolding modulo sgn turned
-modulo-sgn false m d h = refl
-modulo-sgn true m d h =
-    let a = m / d in
-    let x = m % d in
-    let y = d - x in
-    let b = y / d in
-    let e = div-add-mod m d in
-    let l = mod-lt m h in
-    let f = div-add-mod y d in
-    modulo-is (negℤ (pos m)) (negℤ (pos a) -ℤ pos 1 +ℤ pos b) d (y % d) (mod-lt y h)
-    (same (negᵢ (nat m)) (nat d *ᵢ (negᵢ (nat a) -ᵢ nat 1 +ᵢ nat b) +ᵢ nat (y % d)) (omega arith))
-
--- a factor is reduced before it is multiplied
-pub mod-times : (k q c d : ℕ) → 0 < d → (q % d * k + c) % d ≡ (q * k + c) % d
-unfolding modulo
-mod-times k q c d h =
-    let e = div-add-mod q d in
-    sym (ap (λ (n : ℕ). n % d) (split e) ∙ modulo-shift (pos (q / d * k)) (pos (q % d * k + c)) d h)
-  where
-    split : d * (q / d) + q % d ≡ q → q * k + c ≡ d * (q / d * k) + (q % d * k + c)
-    split e = omega (arith, ap (λ (t : ℕ). t * k) e)

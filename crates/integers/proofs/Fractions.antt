@@ -28,7 +28,8 @@ unfolding _+ᶠ_
 over-+ W n m f g h k = record {
   low-pos = product-pos (f .lower) (g .lower) (h .low-pos) (k .low-pos);
   same =
-      ring! (W ∷ f .upper ∷ f .lower ∷ g .upper ∷ g .lower ∷ []) {y = (f .upper *ℤ W) *ℤ g .lower +ℤ (g .upper *ℤ W) *ℤ f .lower} (search polys depth 60 fits 100000) tt
+      ring! (W ∷ f .upper ∷ f .lower ∷ g .upper ∷ g .lower ∷ []) {y = (f .upper *ℤ W) *ℤ g .lower +ℤ (g .upper *ℤ W) *ℤ f .lower}
+      (search polys depth 60 fits 100000) tt
       ∙ ap₂ (λ (s t : ℤ). s *ℤ g .lower +ℤ t *ℤ f .lower) (h .same) (k .same)
       ∙ ring! (n ∷ m ∷ f .lower ∷ g .lower ∷ []) (search polys depth 60 fits 100000) tt;
 }
@@ -59,17 +60,21 @@ over-as W Y n m f p q h = subst₂ (λ (s t : ℤ). Over s f t) p q h
 -- signs and comparisons go over
 pub up-pos : (W n : ℤ) (f : Fraction) → pos 0 ≺ W → Over W f n → pos 0 ≺ n → pos 0 ≺ f .upper
 up-pos W n f hW h k =
-    factor-pos W (f .upper) (≺-≼ hW) (subst (λ (t : ℤ). pos 0 ≺ t) (sym (h .same) ∙ ring! (W ∷ f .upper ∷ []) (search polys depth 60 fits 100000) tt) (product-pos n (f .lower) k (h .low-pos)))
+    factor-pos W (f .upper) (≺-≼ hW)
+    (subst (λ (t : ℤ). pos 0 ≺ t) (sym (h .same) ∙ ring! (W ∷ f .upper ∷ []) (search polys depth 60 fits 100000) tt)
+    (product-pos n (f .lower) k (h .low-pos)))
 
 pub n-pos : (W n : ℤ) (f : Fraction) → pos 0 ≺ W → Over W f n → pos 0 ≺ f .upper → pos 0 ≺ n
 n-pos W n f hW h k =
-    factor-pos (f .lower) n (≺-≼ (h .low-pos)) (subst (λ (t : ℤ). pos 0 ≺ t) (h .same ∙ ring! (n ∷ f .lower ∷ []) (search polys depth 60 fits 100000) tt) (product-pos (f .upper) W k hW))
+    factor-pos (f .lower) n (≺-≼ (h .low-pos))
+    (subst (λ (t : ℤ). pos 0 ≺ t) (h .same ∙ ring! (n ∷ f .lower ∷ []) (search polys depth 60 fits 100000) tt) (product-pos (f .upper) W k hW))
 
 -- both orders are that of n and m
 pub le-over : (W n m : ℤ) (f g : Fraction) → pos 0 ≺ W → Over W f n → Over W g m → n ≼ m → f ≤ᶠ g
 le-over W n m f g hW h k l =
     cert*! (W ∷ n ∷ m ∷ f .upper ∷ f .lower ∷ g .upper ∷ g .lower ∷ []) W hW
-    (gap l ⊛ (≺-≼ (h .low-pos) ⊛ ≺-≼ (k .low-pos)) ⊞ ≺-≼ (k .low-pos) ⊛ gap≡ (h .same) ⊞ ≺-≼ (h .low-pos) ⊛ gap≡ (sym (k .same))) (search polys depth 60 fits 100000) tt
+    (gap l ⊛ (≺-≼ (h .low-pos) ⊛ ≺-≼ (k .low-pos)) ⊞ ≺-≼ (k .low-pos) ⊛ gap≡ (h .same) ⊞ ≺-≼ (h .low-pos) ⊛ gap≡ (sym (k .same)))
+    (search polys depth 60 fits 100000) tt
 
 pub over-le : (W n m : ℤ) (f g : Fraction) → pos 0 ≺ W → Over W f n → Over W g m → f ≤ᶠ g → n ≼ m
 over-le W n m f g hW h k l =

@@ -39,14 +39,16 @@ near-trans {g} {e} {f} {a} {A} {b} {B} {c} {C} hA hB hC h k = record {
     back m = cert! (g ∷ e ∷ f ∷ a ∷ A ∷ c ∷ C ∷ []) 0 (gap m) (search polys depth 60 fits 100000) tt
 
 -- the bound p·f / (r·g), written coarser as p′·f / (r′·g)
-half-coarse : (p p′ r r′ g f x y : ℤ) → pos 0 ≺ r → pos 0 ≼ r′ → pos 0 ≼ f → pos 0 ≼ y → p *ℤ r′ ≼ p′ *ℤ r → r *ℤ g *ℤ x ≼ p *ℤ f *ℤ y → r′ *ℤ g *ℤ x ≼ p′ *ℤ f *ℤ y
+half-coarse : (p p′ r r′ g f x y : ℤ) → pos 0 ≺ r → pos 0 ≼ r′ → pos 0 ≼ f → pos 0 ≼ y → p *ℤ r′ ≼ p′ *ℤ r → r *ℤ g *ℤ x ≼ p *ℤ f *ℤ y
+    → r′ *ℤ g *ℤ x ≼ p′ *ℤ f *ℤ y
 half-coarse p p′ r r′ g f x y hr hr′ hf hy hp h =
     cert*! (p ∷ p′ ∷ r ∷ r′ ∷ g ∷ f ∷ x ∷ y ∷ []) r hr (hr′ ⊛ gap h ⊞ hf ⊛ hy ⊛ gap hp) (search polys depth 60 fits 100000) tt
 
 times : {A B : ℤ} → pos 0 ≺ A → pos 0 ≺ B → pos 0 ≼ A *ℤ B
 times hA hB = ≺-≼ hA ⊛ ≺-≼ hB
 
-pub near-coarse : (p p′ r r′ g f : ℤ) {a A b B : ℤ} → pos 0 ≺ r → pos 0 ≼ r′ → pos 0 ≼ f → pos 0 ≺ A → pos 0 ≺ B → p *ℤ r′ ≼ p′ *ℤ r → Near (r *ℤ g) (p *ℤ f) a A b B → Near (r′ *ℤ g) (p′ *ℤ f) a A b B
+pub near-coarse : (p p′ r r′ g f : ℤ) {a A b B : ℤ} → pos 0 ≺ r → pos 0 ≼ r′ → pos 0 ≼ f → pos 0 ≺ A → pos 0 ≺ B → p *ℤ r′ ≼ p′ *ℤ r
+    → Near (r *ℤ g) (p *ℤ f) a A b B → Near (r′ *ℤ g) (p′ *ℤ f) a A b B
 near-coarse p p′ r r′ g f {a} {A} {b} {B} hr hr′ hf hA hB hp h = record {
   hi = half-coarse p p′ r r′ g f (a *ℤ B -ℤ b *ℤ A) (A *ℤ B) hr hr′ hf (times hA hB) hp (h .hi);
   lo = half-coarse p p′ r r′ g f (b *ℤ A -ℤ a *ℤ B) (A *ℤ B) hr hr′ hf (times hA hB) hp (h .lo);

@@ -34,7 +34,7 @@ pub ≺-≼ : {x y : ℤ} → x ≺ y → x ≼ y
 ≺-≼ {x} {y} h = cert! (x ∷ y ∷ []) 0 (gap< h) (search polys depth 30) tt
 
 -- a factor above 0 is cancelled
-pub cancel : (k x y : ℤ) → pos 0 ≺ k → k *ℤ x ≼ k *ℤ y → x ≼ y
+cancel : (k x y : ℤ) → pos 0 ≺ k → k *ℤ x ≼ k *ℤ y → x ≼ y
 cancel k x y hk h = go (≼-or-≺ x y)
   where
     go : (x ≼ y) ⊎ (y ≺ x) → x ≼ y
@@ -64,16 +64,6 @@ factor-pos m p hm h = go (≼-or-≺ p (pos 0))
     go (inr l) = l
     go (inl g) =
         let bad : pos 1 ≼ pos 0 = cert! (m ∷ p ∷ []) 0 (gap< h ⊞ hm ⊛ gap g) (search polys depth 60 fits 100000) tt in
-        absurd (bad .le)
-
--- what has no larger square is no larger (G4): x ≼ y from x² ≼ y², where y is not negative
-pub squares-le : (x y : ℤ) → pos 0 ≼ y → x *ℤ x ≼ y *ℤ y → x ≼ y
-squares-le x y hy h = go (≼-or-≺ x y)
-  where
-    go : (x ≼ y) ⊎ (y ≺ x) → x ≼ y
-    go (inl l) = l
-    go (inr g) =
-        let bad : pos 1 ≼ pos 0 = cert! (x ∷ y ∷ []) 0 (gap h ⊞ gap< g ⊛ gap< g ⊞ 2 · gap< g ⊞ 2 · (hy ⊛ gap< g) ⊞ 2 · hy) (search polys depth 60 fits 100000) tt in
         absurd (bad .le)
 
 -- ---- magnitudes
@@ -137,5 +127,6 @@ fits (negsuc n) h = record { sfits = let k : suc n < 2 ^ 63 = h in omega arith }
 
 pub nat-difference-fits : (a b : ℕ) → a < 2 ^ 63 → b < 2 ^ 63 → SFits w64 (pos a -ℤ pos b)
 nat-difference-fits a b h k =
-    let l = natAbs-le (pos a -ℤ pos b) 9223372036854775807 (less (negᵢ (nat 9223372036854775807)) (nat a -ᵢ nat b) (omega arith)) (less (nat a -ᵢ nat b) (nat 9223372036854775807) (omega arith)) in
+    let l = natAbs-le (pos a -ℤ pos b) 9223372036854775807 (less (negᵢ (nat 9223372036854775807)) (nat a -ᵢ nat b) (omega arith))
+    (less (nat a -ᵢ nat b) (nat 9223372036854775807) (omega arith)) in
     fits (pos a -ℤ pos b) (omega arith)

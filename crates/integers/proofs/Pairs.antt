@@ -254,7 +254,7 @@ divided k x y h =
     small : (k a b : ℕ) → suc k * a ≤ suc k * b + k → a ≤ b
     small k a b l = by-contra a b (λ (h : b < a). omega (arith, mul-le-mul-left (suc k) h))
 
--- ---- for `omega` itself: rules that read and prove the order and an equation of integers by their parts, and what a sum's, a difference's, a multiple's parts are.
+-- ---- for `omega` itself: rules that read and prove the order and an equation of integers by their parts, and what the parts of a sum and of a difference are.
 -- `omega (arith, ints, add-parts x z)`: the rules find the hypotheses, and each sum is listed once
 pub read≼ : (x y : ℤ) → x ≤ℤ y → up x + dn y ≤ up y + dn x
 read≼ x y h = less⁻¹ (int x) (int y) h
@@ -279,8 +279,5 @@ add-parts x y = same⁻¹ (int (x +ℤ y)) (int x +ᵢ int y) refl
 
 pub sub-parts : (x y : ℤ) → up (x -ℤ y) + (dn x + up y) ≡ up x + dn y + dn (x -ℤ y)
 sub-parts x y = same⁻¹ (int (x -ℤ y)) (int x -ᵢ int y) refl
-
-pub mul-parts : (x y : ℤ) → up (x *ℤ y) + (up x * dn y + dn x * up y) ≡ up x * up y + dn x * dn y + dn (x *ℤ y)
-mul-parts x y = same⁻¹ (int (x *ℤ y)) (int x *ᵢ int y) refl
 
 pub ruleset ints = (read≼, prove≼, read≺, prove≺, read≡, prove≡)

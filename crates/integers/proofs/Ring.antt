@@ -7,7 +7,8 @@ use Prim.Native.Nat.{ℕ, zero, suc, _+_, _*_, _≤_, _<_}
 use lib.Dec.{T, eqb, eqb→eq}
 use lib.IntN.{ℤ, pos, negsuc, negℤ, _+ℤ_, _-ℤ_, _*ℤ_, +ℤ-assoc, +ℤ-comm, +ℤ-idl, +ℤ-idr, *ℤ-comm, zero-*ℤ, negℤ-+ℤ, -ℤ-+ℤ-cancel}
 use lib.Signed.{_≤ℤ_, _<ℤ_, nonNeg, ≤ℤ-refl}
-use Rattle.integers.proofs.Pairs.{*ℤ-assoc, *ℤ-+ℤ, +ℤ-*ℤ, negℤ-*ℤ, one-*ℤ, swapℤ, ≤ℤ-of-diff, diff-of-≤ℤ, nonneg, nonneg-+, nonneg-*, nonneg-sq, ≤ℤ-trans, divided, <ℤ-suc, suc-<ℤ}
+use Rattle.integers.proofs.Pairs.{*ℤ-assoc, *ℤ-+ℤ, +ℤ-*ℤ, negℤ-*ℤ, one-*ℤ, swapℤ, ≤ℤ-of-diff, diff-of-≤ℤ, nonneg, nonneg-+, nonneg-*, nonneg-sq}
+use Rattle.integers.proofs.Pairs.{≤ℤ-trans, divided, <ℤ-suc, suc-<ℤ}
 
 infixl 6 _⊕_ _⊖_
 infixl 7 _⊗_
@@ -195,7 +196,8 @@ pub ring : (ρ : List ℤ) (e f : E) → T (zer (norm (e ⊖ f))) → den ρ e �
 ring ρ e f t =
     sym (-ℤ-+ℤ-cancel (den ρ e) (den ρ f)) ∙ ap (λ z. z +ℤ den ρ f) (norm-sound (e ⊖ f) ρ ∙ ev-zer (norm (e ⊖ f)) ρ t) ∙ +ℤ-idl (den ρ f)
 
--- ---- CERTIFICATES. `NN ρ e`: e is not negative. The expression stands in the type, so that it is found from the proof; a certificate is a sum of products of such facts
+-- ---- CERTIFICATES. `NN ρ e`: e is not negative. The expression stands in the type, so that it is found from the proof; a certificate is a sum of
+-- products of such facts
 
 pub record NN (ρ : List ℤ) (e : E) : Type 0 where
   pub nn : pos 0 ≤ℤ den ρ e
@@ -205,10 +207,6 @@ hyp {ρ} a b h = record { nn = diff-of-≤ℤ (den ρ a) (den ρ b) h }
 
 pub hyp< : {ρ : List ℤ} (a b : E) → den ρ a <ℤ den ρ b → NN ρ (b ⊖ (a ⊕ # 1))
 hyp< {ρ} a b h = record { nn = diff-of-≤ℤ (den ρ a +ℤ pos 1) (den ρ b) (<ℤ-suc (den ρ a) (den ρ b) h) }
-
--- an equation counts both ways
-pub hyp≡ : {ρ : List ℤ} (a b : E) → den ρ a ≡ den ρ b → NN ρ (b ⊖ a)
-hyp≡ {ρ} a b h = hyp a b (subst (λ t. den ρ a ≤ℤ t) h (≤ℤ-refl (den ρ a)))
 
 infixl 6 _⊞_
 infixl 7 _⊛_ _·_
@@ -224,13 +222,11 @@ n · h = record { nn = nonneg-* (nonneg n) (h .nn) }
 pub sqr : {ρ : List ℤ} (a : E) → NN ρ (a ⊗ a)
 sqr {ρ} a = record { nn = nonneg-sq (den ρ a) }
 
-pub num : {ρ : List ℤ} (n : ℕ) → NN ρ (# n)
-num n = record { nn = nonneg n }
-
 -- (k + 1) · (R − L) + k is the certificate and a constant that is not negative: so L ≤ R
 pub cert : (ρ : List ℤ) (L R : E) (k : ℕ) {w : E} → NN ρ w → T (nonn (norm (# (suc k) ⊗ (R ⊖ L) ⊕ # k ⊖ w))) → den ρ L ≤ℤ den ρ R
 cert ρ L R k {w} h t =
-    let s : pos 0 ≤ℤ den ρ (# (suc k) ⊗ (R ⊖ L) ⊕ # k ⊖ w) = subst (λ z. pos 0 ≤ℤ z) (sym (norm-sound (# (suc k) ⊗ (R ⊖ L) ⊕ # k ⊖ w) ρ)) (ev-nonn (norm (# (suc k) ⊗ (R ⊖ L) ⊕ # k ⊖ w)) ρ t) in
+    let s : pos 0 ≤ℤ den ρ (# (suc k) ⊗ (R ⊖ L) ⊕ # k ⊖ w) =
+    subst (λ z. pos 0 ≤ℤ z) (sym (norm-sound (# (suc k) ⊗ (R ⊖ L) ⊕ # k ⊖ w) ρ)) (ev-nonn (norm (# (suc k) ⊗ (R ⊖ L) ⊕ # k ⊖ w)) ρ t) in
     divided k (den ρ L) (den ρ R) (≤ℤ-trans (h .nn) (≤ℤ-of-diff (den ρ w) (den ρ (# (suc k) ⊗ (R ⊖ L) ⊕ # k)) s))
 
 -- the same for <

@@ -20,7 +20,8 @@ root-spec (suc n) = go (root n) (root-spec n) (decLe ((root n + 1) * (root n + 1
     go r i (no f) = record { low = let k = i .low in omega arith; high = omega arith }
 
 below : (n a b : ℕ) → a * a ≤ n → n < (b + 1) * (b + 1) → a ≤ b
-below n a b h k = by-contra a b (λ (l : b < a). let g : b + 1 ≤ a = omega arith in let m : (b + 1) * (b + 1) ≤ a * a = le-trans (mul-le-mul-left (b + 1) g) (mul-le-mul-right a g) in omega arith)
+below n a b h k = by-contra a b (λ (l : b < a). let g : b + 1 ≤ a = omega arith in
+    let m : (b + 1) * (b + 1) ≤ a * a = le-trans (mul-le-mul-left (b + 1) g) (mul-le-mul-right a g) in omega arith)
 
 pub root-is : (n r : ℕ) → IsRoot n r → r ≡ root n
 root-is n r i =

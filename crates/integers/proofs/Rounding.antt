@@ -21,12 +21,15 @@ rounded-le m n k d h l = go (≼-or-≺ (rounded m d) (k +ℤ rounded n d))
     go (inl l) = l
     go (inr g) =
         let bad : pos 1 ≼ pos 0 =
-        cert! (m ∷ n ∷ k ∷ pos d ∷ rounded m d ∷ rounded n d ∷ []) 0 (gap (rounded-low m d h) ⊞ gap< (rounded-high n d h) ⊞ 2 · gap l ⊞ 2 · (nonneg d ⊛ gap< g)) (search polys depth 60 fits 100000) tt in
+        cert! (m ∷ n ∷ k ∷ pos d ∷ rounded m d ∷ rounded n d ∷ []) 0
+        (gap (rounded-low m d h) ⊞ gap< (rounded-high n d h) ⊞ 2 · gap l ⊞ 2 · (nonneg d ⊛ gap< g)) (search polys depth 60 fits 100000) tt in
         absurd (bad .le)
 
 pub rounded-mono : (m n : ℤ) (d : ℕ) → 0 < d → m ≼ n → rounded m d ≼ rounded n d
 rounded-mono m n d h l =
-    cert! (rounded m d ∷ rounded n d ∷ []) 0 (gap (rounded-le m n (pos 0) d h (cert! (m ∷ n ∷ pos d ∷ []) 0 (gap l) (search polys depth 60 fits 100000) tt))) (search polys depth 60 fits 100000) tt
+    cert! (rounded m d ∷ rounded n d ∷ []) 0
+    (gap (rounded-le m n (pos 0) d h (cert! (m ∷ n ∷ pos d ∷ []) 0 (gap l) (search polys depth 60 fits 100000) tt))) (search polys depth 60 fits 100000)
+    tt
 
 pub rounded-zero : (d : ℕ) → 0 < d → rounded (pos 0) d ≡ pos 0
 unfolding rounded
@@ -40,4 +43,5 @@ pub rounded-scale : (k : ℕ) (n : ℤ) (d : ℕ) → 0 < k → 0 < d → rounde
 rounded-scale k n d hk h = unfold rounded in
     floor-is (pos 2 *ℤ (pos k *ℤ n) +ℤ pos (k * d)) (rounded n d) (2 * (k * d)) (omega (arith, mul-pos hk h))
     (cert! (pos k ∷ n ∷ pos d ∷ rounded n d ∷ []) 0 (nonneg k ⊛ gap (rounded-low n d h)) (search polys depth 60 fits 100000) tt)
-    (cert<! (pos k ∷ n ∷ pos d ∷ rounded n d ∷ []) 0 ((gap (≼-nat 1 k hk) ⊞ nonneg 1) ⊛ gap< (rounded-high n d h) ⊞ gap (≼-nat 1 k hk)) (search polys depth 60 fits 100000) tt)
+    (cert<! (pos k ∷ n ∷ pos d ∷ rounded n d ∷ []) 0 ((gap (≼-nat 1 k hk) ⊞ nonneg 1) ⊛ gap< (rounded-high n d h) ⊞ gap (≼-nat 1 k hk))
+    (search polys depth 60 fits 100000) tt)

@@ -1,4 +1,4 @@
--- Floor quotient, rounded quotient and remainder of a whole number by a natural one: document 01, "Units and rounding".
+-- Floor quotient, rounded quotient and remainder of a whole number by a natural one: RULES, "Units and rounding".
 use Prim.Native.Nat.{ℕ, suc, _*_, _-_, _/_, _%_}
 use lib.IntN.{ℤ, pos, negsuc, _+ℤ_, _*ℤ_}
 
@@ -7,11 +7,11 @@ unfoldable pub floor : ℤ → ℕ → ℤ
 floor (pos a) d = pos (a / d)
 floor (negsuc a) d = negsuc (a / d)
 
--- "Rounded": the floor of (2n + d)/(2d). 1/2 gives 1, -1/2 gives 0, -3/2 gives -1.
+-- The whole number nearest to n/d, a tie going up.
 unfoldable pub rounded : ℤ → ℕ → ℤ
 rounded n d = floor (pos 2 *ℤ n +ℤ pos d) (2 * d)
 
--- "mod": the remainder that is never negative.
+-- The remainder that is never negative.
 unfoldable pub modulo : ℤ → ℕ → ℕ
 modulo (pos a) d = a % d
 modulo (negsuc a) d = d - suc (a % d)

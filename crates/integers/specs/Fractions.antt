@@ -1,4 +1,4 @@
--- Exact fractions, two whole numbers each, the lower one positive, compared by cross products; never reduced. Document 01, "Reference cosine".
+-- Exact fractions, two whole numbers each, the lower one positive, compared by cross products; never reduced. RULES, "Working cosine and sums".
 use mathlib.Core.Path.{_≡_}
 use Prim.Native.Nat.{ℕ, zero, suc}
 use lib.IntN.{ℤ, pos, negℤ, _+ℤ_, _*ℤ_}

@@ -1,6 +1,6 @@
--- A whole number as a sign (true: negative) and a magnitude, and the rounded quotient and the remainder worked on magnitudes.
+-- A whole number as a sign (true: negative) and a magnitude, and the rounded quotient worked on magnitudes.
 use mathlib.Core.Bool.{Bool, true, false, not}
-use Prim.Native.Nat.{ℕ, _+_, _*_, _-_, _/_, _%_}
+use Prim.Native.Nat.{ℕ, _+_, _*_, _-_, _/_}
 use lib.IntN.{ℤ, pos, negsuc, negℤ}
 
 unfoldable pub negative : ℤ → Bool
@@ -21,8 +21,3 @@ near true m d = (2 * m + (d - 1)) / (2 * d)
 unfoldable pub differ : Bool → Bool → Bool
 differ false t = t
 differ true t = not t
-
--- The remainder of ±m by d, from that of m.
-unfoldable pub turned : Bool → ℕ → ℕ → ℕ
-turned false x d = x
-turned true x d = (d - x) % d

@@ -1,34 +1,36 @@
 -- The sizes of a polynomial's values, and a factor of multiplier and divisor. Assumes nothing.
 use mathlib.Core.Path.{_≡_, refl, sym, ap, _∙_, subst}
 use mathlib.Core.List.{List, [], _∷_}
-use Prim.Native.Nat.{ℕ, _+_, _-_, _*_, _^_, _≤_, _<_}
+use Prim.Native.Nat.{ℕ, zero, suc, _+_, _-_, _*_, _^_, _≤_, _<_}
 use native.Mathlib.Omega.{arith}
 use native.Mathlib.Nat.{mul-le-mul-left}
 use lib.IntN.{ℤ, pos, natAbs, _+ℤ_, _*ℤ_}
+use lib.ListN.{getD, drop, length}
+use lib.Seq.{drop-cons, drop-length}
 use mir.Syntax.{w64}
 use mir.Val.{SFits}
 use Rattle.integers.specs.Division.{rounded}
 use Rattle.integers.proofs.Auto.{ring!, polys}
 use Rattle.integers.proofs.Order.{natAbs-*, natAbs-+, fits}
-use Rattle.integers.proofs.Rounding.{rounded-scale, rounded-zero}
+use Rattle.integers.proofs.Rounding.{rounded-scale}
 use Rattle.arith.proofs.Ranges.{rounded-within}
 use Rattle.nutation.specs.Nutation.{polynomial}
-use Rattle.nutation.specs.machine.Reduced.{By, reach}
+use Rattle.nutation.specs.machine.Reduced.{By, centuries, reach}
 
 -- ---- one step
-pub room : (v n d w : ℕ) → 0 < d → n ≤ d * 20 → 20 * v < w → v * n < d * w
+pub room : (v n d w : ℕ) → 0 < d → n ≤ d * centuries → centuries * v < w → v * n < d * w
 room v n d w h k l = omega (arith, mul-le-mul-left v k, mul-le-mul-left d l)
 
-pub step-bound : (c v n : ℤ) (d : ℕ) → By n d → natAbs (c +ℤ rounded (v *ℤ n) d) ≤ natAbs c + 20 * natAbs v
+pub step-bound : (c v n : ℤ) (d : ℕ) → By n d → natAbs (c +ℤ rounded (v *ℤ n) d) ≤ natAbs c + centuries * natAbs v
 step-bound c v n d b =
     let a = natAbs-+ c (rounded (v *ℤ n) d) in
-    let p = rounded-within (v *ℤ n) d (20 * natAbs v) (b .positive) product in
+    let p = rounded-within (v *ℤ n) d (centuries * natAbs v) (b .positive) product in
     omega arith
   where
-    product : natAbs (v *ℤ n) ≤ 20 * natAbs v * d
+    product : natAbs (v *ℤ n) ≤ centuries * natAbs v * d
     product = omega (arith, natAbs-* v n, mul-le-mul-left (natAbs v) (b .ratio))
 
-pub step-fits : (c v n : ℤ) (d : ℕ) → By n d → natAbs c + 20 * natAbs v < 2 ^ 63 - 1 → SFits w64 (c +ℤ rounded (v *ℤ n) d)
+pub step-fits : (c v n : ℤ) (d : ℕ) → By n d → natAbs c + centuries * natAbs v < 2 ^ 63 - 1 → SFits w64 (c +ℤ rounded (v *ℤ n) d)
 step-fits c v n d b h = fits (c +ℤ rounded (v *ℤ n) d) (omega (arith, step-bound c v n d b))
 
 -- ---- all steps
@@ -39,42 +41,52 @@ polynomial-bound n d b (c ∷ cs) =
     let h = polynomial-bound n d b cs in
     omega (arith, step-bound c (polynomial n d cs) n d b)
 
-pub next-room : (n : ℤ) (d : ℕ) → By n d → (c : ℤ) (cs : List ℤ) → natAbs c + 20 * natAbs (polynomial n d cs) ≤ reach (c ∷ cs)
-unfolding reach
-next-room n d b c cs = omega (arith, polynomial-bound n d b cs)
-
-pub reach-tail : (c : ℤ) (cs : List ℤ) → reach cs ≤ reach (c ∷ cs)
-unfolding reach
-reach-tail c cs = omega arith
-
--- a highest coefficient has no product
-pub highest : (n : ℤ) (d : ℕ) → 0 < d → (c : ℤ) → polynomial n d (c ∷ []) ≡ c
-unfolding polynomial
-highest n d h c =
-    ap (λ t. c +ℤ rounded t d) (ring! (n ∷ []) {y = pos 0} (search polys depth 60 fits 100000) tt)
-    ∙ ap (λ t. c +ℤ t) (rounded-zero d h) ∙ ring! (c ∷ []) (search polys depth 60 fits 100000) tt
-
--- a highest coefficient of 0 changes nothing
-pub highest-zero : (n : ℤ) (d : ℕ) → 0 < d → (c : ℤ) → polynomial n d (c ∷ pos 0 ∷ []) ≡ polynomial n d (c ∷ [])
-unfolding polynomial
-highest-zero n d h c = ap (λ t. c +ℤ rounded (t *ℤ n) d) (highest n d h (pos 0))
-
 -- by 10n/10d, as by n/d
 pub polynomial-scale : (k : ℕ) → 0 < k → (n : ℤ) (d : ℕ) → 0 < d → (cs : List ℤ) → polynomial (pos k *ℤ n) (k * d) cs ≡ polynomial n d cs
 unfolding polynomial
 polynomial-scale k hk n d h [] = refl
 polynomial-scale k hk n d h (c ∷ cs) =
     ap (λ t. c +ℤ rounded (t *ℤ (pos k *ℤ n)) (k * d)) (polynomial-scale k hk n d h cs)
-    ∙ ap (λ t. c +ℤ rounded t (k * d)) (ring! (pos k ∷ n ∷ polynomial n d cs ∷ []) {y = pos k *ℤ (polynomial n d cs *ℤ n)} (search polys depth 60 fits 100000) tt)
+    ∙ ap (λ t. c +ℤ rounded t (k * d))
+    (ring! (pos k ∷ n ∷ polynomial n d cs ∷ []) {y = pos k *ℤ (polynomial n d cs *ℤ n)} (search polys depth 60 fits 100000) tt)
     ∙ ap (λ t. c +ℤ t) (rounded-scale k (polynomial n d cs *ℤ n) d hk h)
 
--- ---- a value that was worked out, and one coefficient more
-pub chain : (n : ℤ) (d : ℕ) (c v r : ℤ) (cs : List ℤ) → r ≡ c +ℤ rounded (v *ℤ n) d → v ≡ polynomial n d cs → r ≡ polynomial n d (c ∷ cs)
+-- ---- from the highest coefficient down: v is worked out of those from i on
+pub record WorkedDown (n : ℤ) (d : ℕ) (cs : List ℤ) (v : ℤ) (i : ℕ) : Type 0 where
+  pub within : i ≤ length cs
+  pub value : v ≡ polynomial n d (drop i cs)
+
+pub worked-none : (n : ℤ) (d : ℕ) (cs : List ℤ) → WorkedDown n d cs (pos 0) (length cs)
 unfolding polynomial
-chain n d c v r cs e p = e ∙ ap (λ t. c +ℤ rounded (t *ℤ n) d) p
+worked-none n d cs = record { within = omega arith; value = ap (λ l. polynomial n d l) (sym (drop-length cs)) }
 
-pub asks : (n : ℤ) (d : ℕ) → By n d → (c v : ℤ) (cs : List ℤ) → reach (c ∷ cs) < 2 ^ 63 - 1 → v ≡ polynomial n d cs → natAbs c + 20 * natAbs v < 2 ^ 63 - 1
-asks n d b c v cs h e = subst (λ t. natAbs c + 20 * natAbs t < 2 ^ 63 - 1) (sym e) (omega (arith, next-room n d b c cs))
+-- the coefficients from one place less on
+from-one-less : (cs : List ℤ) (i : ℕ) → 0 < i → i ≤ length cs → drop (i - 1) cs ≡ getD cs (i - 1) (pos 0) ∷ drop i cs
+from-one-less cs i h l =
+    let back : suc (i - 1) ≡ i = omega arith in
+    drop-cons cs (i - 1) (pos 0) (omega arith) ∙ ap (λ (k : ℕ). getD cs (i - 1) (pos 0) ∷ drop k cs) back
 
-pub less-reach : (c : ℤ) (cs : List ℤ) → reach (c ∷ cs) < 2 ^ 63 - 1 → reach cs < 2 ^ 63 - 1
-less-reach c cs h = omega (arith, reach-tail c cs)
+pub worked-more : (n : ℤ) (d : ℕ) (cs : List ℤ) (v r : ℤ) (i : ℕ) → 0 < i → WorkedDown n d cs v i → r ≡ getD cs (i - 1) (pos 0) +ℤ rounded (v *ℤ n) d
+    → WorkedDown n d cs r (i - 1)
+unfolding polynomial
+worked-more n d cs v r i h w e = record {
+  within = omega (arith, w .within);
+  value = e ∙ ap (λ t. getD cs (i - 1) (pos 0) +ℤ rounded (t *ℤ n) d) (w .value) ∙ ap (λ l. polynomial n d l) (sym (from-one-less cs i h (w .within)));
+}
+
+pub worked-all : (n : ℤ) (d : ℕ) (cs : List ℤ) (v : ℤ) (i : ℕ) → i ≤ 0 → WorkedDown n d cs v i → v ≡ polynomial n d cs
+worked-all n d cs v i h w = let none : i ≡ 0 = omega arith in w .value ∙ ap (λ (k : ℕ). polynomial n d (drop k cs)) none
+
+-- what the next step asks for
+reach-drop : (cs : List ℤ) (i : ℕ) → reach (drop i cs) ≤ reach cs
+unfolding reach
+reach-drop cs zero = omega arith
+reach-drop [] (suc i) = omega arith
+reach-drop (c ∷ cs) (suc i) = omega (arith, reach-drop cs i)
+
+pub worked-asks : (n : ℤ) (d : ℕ) (cs : List ℤ) (v : ℤ) (i : ℕ) → By n d → reach cs < 2 ^ 63 - 1 → 0 < i → WorkedDown n d cs v i
+    → natAbs (getD cs (i - 1) (pos 0)) + centuries * natAbs v < 2 ^ 63 - 1
+unfolding reach
+worked-asks n d cs v i b h g w =
+    let k = polynomial-bound n d b (drop i cs) in
+    omega (arith, ap natAbs (w .value), reach-drop cs (i - 1), ap reach (from-one-less cs i g (w .within)))

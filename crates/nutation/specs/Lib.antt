@@ -1,3 +1,3 @@
--- Document 01, "Places": nutation and obliquity.
+-- RULES, "Places": nutation and obliquity.
 pub mod Nutation
 pub mod machine

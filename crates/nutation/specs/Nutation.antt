@@ -1,6 +1,6 @@
--- Document 01, "Places": nutation and obliquity, by document 000's five arguments and its table.
+-- RULES, "Places": nutation and obliquity, by five arguments and a table of terms.
 use mathlib.Core.List.{List, [], _∷_}
-use Prim.Native.Nat.{ℕ}
+use Prim.Native.Nat.{ℕ, _*_}
 use lib.IntN.{ℤ, pos, _+ℤ_, _*ℤ_}
 use Rattle.integers.specs.Division.{rounded}
 use Rattle.units.specs.Units.{U, millennium}
@@ -9,54 +9,75 @@ use Rattle.direction.specs.Angles.{units-angle}
 use Rattle.nutation_table.specs.declared.Row.{Row}
 use Rattle.nutation_table.specs.Table.{psi, psi-rate, eps, eps-rate, times-d, times-m, times-m1, times-f, times-node, neg, rows}
 
--- "Highest power first, each product by n/d rounded": the coefficients from the constant one up.
+-- A polynomial in n/d, worked from its highest power down, each product rounded; the coefficients from the constant one up.
 unfoldable pub polynomial : ℤ → ℕ → List ℤ → ℤ
 polynomial n d [] = pos 0
 polynomial n d (c ∷ cs) = c +ℤ rounded (polynomial n d cs *ℤ n) d
 
--- "Arguments in 10^-8 arcsecond, highest power first, each product by 10t/T rounded".
+-- An argument at t milliseconds, in 10^-8 arcsecond: its polynomial is in centuries, so by 10t/T.
 abbrev pub argument : ℤ → List ℤ → ℤ
 argument t cs = polynomial (pos 10 *ℤ t) millennium cs
 
+-- The coefficients of the arguments, in 10^-8 arcsecond, and of the mean obliquity, in 10^-5, each from the constant one up.
+abbrev pub elongation-coefficients : List ℤ
+elongation-coefficients = pos 107226073512000 ∷ pos 160296160146030000 ∷ neg 586810000 ∷ pos 659500 ∷ neg 3184 ∷ []
+
+abbrev pub sun-coefficients : List ℤ
+sun-coefficients = pos 128710479304800 ∷ pos 12959658104740000 ∷ neg 55290000 ∷ pos 14700 ∷ []
+
+abbrev pub moon-coefficients : List ℤ
+moon-coefficients = pos 48586828096800 ∷ pos 171791592347280000 ∷ pos 3238930000 ∷ pos 5165100 ∷ neg 24470 ∷ []
+
+abbrev pub latitude-coefficients : List ℤ
+latitude-coefficients = pos 33577955755200 ∷ pos 173952726309830000 ∷ neg 1225050000 ∷ neg 102100 ∷ pos 417 ∷ []
+
+abbrev pub node-coefficients : List ℤ
+node-coefficients = pos 45016039814400 ∷ neg 696289026560000 ∷ pos 747420000 ∷ pos 770200 ∷ neg 5939 ∷ []
+
+abbrev pub obliquity-coefficients : List ℤ
+obliquity-coefficients = pos 8438144800 ∷ neg 46815000 ∷ neg 5900 ∷ pos 181300 ∷ []
+
 -- D, the Moon's mean elongation.
 unfoldable pub mean-elongation : ℤ → ℤ
-mean-elongation t = argument t (pos 107226073512000 ∷ pos 160296160146030000 ∷ neg 586810000 ∷ pos 659500 ∷ neg 3184 ∷ [])
+mean-elongation t = argument t elongation-coefficients
 
 -- M, the Sun's mean anomaly.
 unfoldable pub sun-anomaly : ℤ → ℤ
-sun-anomaly t = argument t (pos 128710479304800 ∷ pos 12959658104740000 ∷ neg 55290000 ∷ pos 14700 ∷ [])
+sun-anomaly t = argument t sun-coefficients
 
 -- M', the Moon's mean anomaly.
 unfoldable pub moon-anomaly : ℤ → ℤ
-moon-anomaly t = argument t (pos 48586828096800 ∷ pos 171791592347280000 ∷ pos 3238930000 ∷ pos 5165100 ∷ neg 24470 ∷ [])
+moon-anomaly t = argument t moon-coefficients
 
 -- F, the Moon's argument of latitude.
 unfoldable pub latitude-argument : ℤ → ℤ
-latitude-argument t = argument t (pos 33577955755200 ∷ pos 173952726309830000 ∷ neg 1225050000 ∷ neg 102100 ∷ pos 417 ∷ [])
+latitude-argument t = argument t latitude-coefficients
 
 -- The longitude of the Moon's ascending node.
 unfoldable pub moon-node : ℤ → ℤ
-moon-node t = argument t (pos 45016039814400 ∷ neg 696289026560000 ∷ pos 747420000 ∷ pos 770200 ∷ neg 5939 ∷ [])
+moon-node t = argument t node-coefficients
 
--- "A row's s is the sum of its multipliers times the arguments."
+-- s of a row: the arguments, each times the row's multiplier, added.
 unfoldable pub row-sum : ℤ → Row → ℤ
-row-sum t r = times-d r *ℤ mean-elongation t +ℤ times-m r *ℤ sun-anomaly t +ℤ times-m1 r *ℤ moon-anomaly t +ℤ times-f r *ℤ latitude-argument t +ℤ times-node r *ℤ moon-node t
+row-sum t r =
+    times-d r *ℤ mean-elongation t +ℤ times-m r *ℤ sun-anomaly t +ℤ times-m1 r *ℤ moon-anomaly t +ℤ times-f r *ℤ latitude-argument t
+    +ℤ times-node r *ℤ moon-node t
 
--- "The units in a turn": 10^-8 arcsecond for the arguments, 10^-5 for the sums.
+-- The units in a turn: 10^-8 arcsecond for the arguments, 10^-5 for the sums.
 abbrev pub argument-turn : ℕ
-argument-turn = 129600000000000
+argument-turn = 360 * 3600 * 100000000
 
 abbrev pub sum-turn : ℕ
-sum-turn = 129600000000
+sum-turn = 360 * 3600 * 100000
 
 unfoldable pub row-angle : ℤ → Row → ℤ
 row-angle t r = units-angle argument-turn (row-sum t r)
 
--- "Its coefficient in 10^-5 arcsecond is ten times the first figure plus rounded rate part"
+-- A coefficient in 10^-5 arcsecond, from a figure in 10^-4 and its rate a century.
 unfoldable pub coefficient : ℤ → ℤ → ℤ → ℤ
 coefficient t first rate = pos 10 *ℤ first +ℤ rounded (rate *ℤ (pos 10 *ℤ t)) millennium
 
--- "times sine or cosine over U, rounded".
+-- The terms of a row.
 unfoldable pub longitude-term : ℤ → Row → ℤ
 longitude-term t r = rounded (coefficient t (psi r) (psi-rate r) *ℤ sine (row-angle t r)) U
 
@@ -75,9 +96,9 @@ longitude-nutation t = add-up (longitude-term t) (pos 0) rows
 unfoldable pub obliquity-nutation : ℤ → ℤ
 obliquity-nutation t = add-up (obliquity-term t) (pos 0) rows
 
--- "Mean obliquity likewise, in 10^-5 arcsecond, but its polynomial is in tau, so by t/T. True obliquity adds the nutation in obliquity."
+-- The obliquity in 10^-5 arcsecond, mean and true. Its polynomial is in millennia, so by t/T.
 unfoldable pub mean-obliquity : ℤ → ℤ
-mean-obliquity t = polynomial t millennium (pos 8438144800 ∷ neg 46815000 ∷ neg 5900 ∷ pos 181300 ∷ [])
+mean-obliquity t = polynomial t millennium obliquity-coefficients
 
 unfoldable pub true-obliquity : ℤ → ℤ
 true-obliquity t = mean-obliquity t +ℤ obliquity-nutation t

@@ -1,4 +1,4 @@
-// Nutation and obliquity at an instant: document 01, "Places".
+// Nutation and obliquity at an instant: RULES, "Places".
 mod moon;
 mod polynomial;
 mod rows;
@@ -12,6 +12,18 @@ use crate::polynomial::polynomial;
 use crate::rows::nutation_at;
 use arith::signed::add;
 use direction::units_angle;
+use units::MILLENNIUM;
+
+// A century in milliseconds: by t over it is by 10t/T.
+const CENTURY: u64 = MILLENNIUM / 10;
+
+// The units in a turn, 10^-8 arcsecond for the arguments and 10^-5 for the sums.
+const ARGUMENT_TURN: u64 = 360 * 3600 * 100000000;
+
+const SUM_TURN: u64 = 360 * 3600 * 100000;
+
+// The coefficients of the mean obliquity, from the constant one up.
+const OBLIQUITY: [i64; 4] = [8438144800, -46815000, -5900, 181300];
 
 // D, M, M', F and the longitude of the node, each less its whole turns, in 10^-8 arcsecond.
 pub struct Arguments {
@@ -39,7 +51,7 @@ fn mean_obliquity_at(t: i64) -> i64
     requires { ⌜ natAbs t ≤ t-limit ⌝ }
     ensures { λ r. ⌜ (r ≡ mean-obliquity t) × (natAbs r ≤ 2 ^ 34) ⌝ }
 {
-    polynomial(t, 31557600000000, 8438144800, -46815000, -5900, 181300, 0)
+    polynomial(t, MILLENNIUM, &OBLIQUITY)
 }
 
 // The nutation in longitude and the true obliquity at t milliseconds, as angles in 10^-13 radian.
@@ -51,7 +63,7 @@ pub fn angles_at(t: i64) -> Angles
     let mean = mean_obliquity_at(t);
     let obliquity = add(mean, n.obliquity);
     Angles {
-        nutation: units_angle(n.longitude, 129600000000),
-        obliquity: units_angle(obliquity, 129600000000),
+        nutation: units_angle(n.longitude, SUM_TURN),
+        obliquity: units_angle(obliquity, SUM_TURN),
     }
 }

@@ -1,14 +1,16 @@
-// A row's terms, and the sums over all rows. For this crate alone.
+// A row's terms, and the sums over all rows: RULES, "Places". For this crate alone.
 ghost use mathlib.Core.Path.{_≡_};
 ghost use Prim.Native.Nat.{_+_, _*_, _<_, _≤_, _^_};
 ghost use lib.IntN.{natAbs, _+ℤ_, _*ℤ_};
 ghost use Rattle.units.specs.Units.{t-limit};
 ghost use Rattle.cosine.specs.Cosine.{cosine, sine};
 ghost use Rattle.direction.specs.Angles.{units-angle};
-ghost use Rattle.nutation_table.specs.machine.Small.{Small};
-ghost use Rattle.nutation.specs.Nutation.{argument-turn, coefficient, longitude-term, obliquity-term, longitude-nutation, obliquity-nutation};
-ghost use Rattle.nutation.specs.machine.Reduced.{At, combined};
+ghost use Rattle.nutation_table.specs.machine.Small.{figure-limit, rate-limit, multiplier-limit, Small};
+ghost use Rattle.nutation.specs.Nutation.{argument-turn, coefficient, longitude-term, obliquity-term};
+ghost use Rattle.nutation.specs.machine.Reduced.{At, NutationAt, combined, coefficient-limit, sum-limit};
+use crate::ARGUMENT_TURN;
 use crate::Arguments;
+use crate::CENTURY;
 use crate::Nutation;
 use crate::moon::arguments_at;
 use crate::polynomial::next;
@@ -21,12 +23,13 @@ use arith::signed::wide;
 use cosine::working::Trig;
 use cosine::working::cosine_sine;
 use direction::units_angle;
+use nutation_table::ROWS;
 use nutation_table::Row;
 use nutation_table::row_at;
 
 // s and the product of m and a.
 fn plus_product(s: i64, m: i64, a: i64) -> i64
-    requires { ⌜ (natAbs s ≤ 2 ^ 60) × (natAbs m ≤ 4) × (natAbs a ≤ 2 ^ 47) ⌝ }
+    requires { ⌜ (natAbs s ≤ 2 ^ 60) × (natAbs m ≤ multiplier-limit) × (natAbs a ≤ 2 ^ 47) ⌝ }
     ensures { λ r. ⌜ (r ≡ s +ℤ m *ℤ a) × (natAbs r ≤ natAbs s + 2 ^ 49) ⌝ }
 {
     add(s, mul(m, a))
@@ -48,21 +51,21 @@ fn row_sum(t: i64, r: Row, a: Arguments) -> i64
 fn trig_of(s: i64) -> Trig
     ensures { λ r. ⌜ (r .cos ≡ cosine (units-angle argument-turn s)) × (r .sin ≡ sine (units-angle argument-turn s)) ⌝ }
 {
-    let x = wide(residue(s, 129600000000000));
-    cosine_sine(low(units_angle(x, 129600000000000)))
+    let x = wide(residue(s, ARGUMENT_TURN));
+    cosine_sine(low(units_angle(x, ARGUMENT_TURN)))
 }
 
 // Ten times the first figure and the rounded rate part.
 fn coefficient_at(t: i64, first: i64, rate: i64) -> i64
-    requires { ⌜ (natAbs t ≤ t-limit) × (natAbs first ≤ 171996) × (natAbs rate ≤ 1742) ⌝ }
-    ensures { λ r. ⌜ (r ≡ coefficient t first rate) × (natAbs r ≤ 1754800) ⌝ }
+    requires { ⌜ (natAbs t ≤ t-limit) × (natAbs first ≤ figure-limit) × (natAbs rate ≤ rate-limit) ⌝ }
+    ensures { λ r. ⌜ (r ≡ coefficient t first rate) × (natAbs r ≤ coefficient-limit) ⌝ }
 {
-    next(mul(10, first), rate, t, 3155760000000)
+    next(mul(10, first), rate, t, CENTURY)
 }
 
 // The sums with a row's terms added.
 fn add_row(sum: Nutation, t: i64, r: Row, a: Arguments) -> Nutation
-    requires { ⌜ (natAbs t ≤ t-limit) × Small r × At t a × (natAbs (sum .longitude) ≤ 2 ^ 40) × (natAbs (sum .obliquity) ≤ 2 ^ 40) ⌝ }
+    requires { ⌜ (natAbs t ≤ t-limit) × Small r × At t a × (natAbs (sum .longitude) ≤ sum-limit) × (natAbs (sum .obliquity) ≤ sum-limit) ⌝ }
     ensures { λ n. ⌜ (n .longitude ≡ sum .longitude +ℤ longitude-term t r) × (n .obliquity ≡ sum .obliquity +ℤ obliquity-term t r) ⌝ }
 {
     let w = trig_of(row_sum(t, r, a));
@@ -77,7 +80,7 @@ fn add_row(sum: Nutation, t: i64, r: Row, a: Arguments) -> Nutation
 // The nutation at t milliseconds: the terms of the rows in their order.
 pub fn nutation_at(t: i64) -> Nutation
     requires { ⌜ natAbs t ≤ t-limit ⌝ }
-    ensures { λ n. ⌜ (n .longitude ≡ longitude-nutation t) × (n .obliquity ≡ obliquity-nutation t) × (natAbs (n .longitude) ≤ 2 ^ 28) × (natAbs (n .obliquity) ≤ 2 ^ 28) ⌝ }
+    ensures { λ n. ⌜ NutationAt t n ⌝ }
 {
     let a = arguments_at(t);
     let mut sum = Nutation {
@@ -85,7 +88,7 @@ pub fn nutation_at(t: i64) -> Nutation
         obliquity: 0,
     };
     let mut i: usize = 0;
-    while i < 106 {
+    while i < ROWS {
         sum = add_row(sum, t, row_at(i), a);
         i += 1;
     }

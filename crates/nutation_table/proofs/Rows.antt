@@ -8,14 +8,15 @@ use lib.ListN.{getD, take, drop}
 use lib.Seq.{getD-take, getD-drop}
 use Rattle.nutation_table.specs.declared.Row.{Row}
 use Rattle.nutation_table.specs.Table.{psi, psi-rate, eps, eps-rate, times-d, times-m, times-m1, times-f, times-node, rows, no-row}
-use Rattle.nutation_table.specs.machine.Small.{Small}
+use Rattle.nutation_table.specs.machine.Small.{part-size, figure-limit, rate-limit, multiplier-limit, Small}
 
 -- by how much the numbers of a row pass their limits, all together
 figures-over : Row → ℕ
-figures-over r = (natAbs (psi r) - 171996) + (natAbs (psi-rate r) - 1742) + (natAbs (eps r) - 171996) + (natAbs (eps-rate r) - 1742)
+figures-over r = (natAbs (psi r) - figure-limit) + (natAbs (psi-rate r) - rate-limit) + (natAbs (eps r) - figure-limit) + (natAbs (eps-rate r) - rate-limit)
 
 multipliers-over : Row → ℕ
-multipliers-over r = (natAbs (times-d r) - 4) + (natAbs (times-m r) - 4) + (natAbs (times-m1 r) - 4) + (natAbs (times-f r) - 4) + (natAbs (times-node r) - 4)
+multipliers-over r = (natAbs (times-d r) - multiplier-limit) + (natAbs (times-m r) - multiplier-limit) + (natAbs (times-m1 r) - multiplier-limit)
+    + (natAbs (times-f r) - multiplier-limit) + (natAbs (times-node r) - multiplier-limit)
 
 is-small : (r : Row) → figures-over r ≡ 0 → multipliers-over r ≡ 0 → Small r
 unfolding figures-over multipliers-over
@@ -44,15 +45,15 @@ at [] e i = nothing
 at (r ∷ rs) e zero = is-small r (omega arith) (omega arith)
 at (r ∷ rs) e (suc i) = at rs (omega arith) i
 
-pub rows-small : (i : ℕ) → Small (getD rows i no-row)
+rows-small : (i : ℕ) → Small (getD rows i no-row)
 unfolding all-over figures-over multipliers-over rows
 rows-small i = at rows refl i
 
 -- a row found in one of the parts of the table is that row of the whole
-pub part-is : (rs : List Row) (k i : ℕ) (r : Row) → k ≤ i → i - k < 27 → r ≡ getD (take 27 (drop k rs)) (i - k) no-row → r ≡ getD rs i no-row
+pub part-is : (rs : List Row) (k i : ℕ) (r : Row) → k ≤ i → i - k < part-size → r ≡ getD (take part-size (drop k rs)) (i - k) no-row → r ≡ getD rs i no-row
 part-is rs k i r h l e =
     let same : k + (i - k) ≡ i = omega arith in
-    e ∙ getD-take 27 (drop k rs) (i - k) no-row l ∙ getD-drop k rs (i - k) no-row ∙ ap (λ (j : ℕ). getD rs j no-row) same
+    e ∙ getD-take part-size (drop k rs) (i - k) no-row l ∙ getD-drop k rs (i - k) no-row ∙ ap (λ (j : ℕ). getD rs j no-row) same
 
 pub found : (i : ℕ) (r : Row) → r ≡ getD rows i no-row → (r ≡ getD rows i no-row) × Small r
 found i r e = (e, subst Small (sym e) (rows-small i))

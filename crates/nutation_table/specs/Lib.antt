@@ -1,3 +1,3 @@
--- Document 000's table of nutation.
+-- The table of nutation: RULES, "Places".
 pub mod Table
 pub mod machine

@@ -1,4 +1,5 @@
--- Document 000's table: the terms of the nutation in longitude (sine) and in obliquity (cosine), with the multipliers of the five arguments.
+-- The table of nutation, with the figures of the IAU 1980 series: RULES, "Places". The terms of the nutation in longitude (sine) and in obliquity
+-- (cosine), with the multipliers of the five arguments.
 use mathlib.Core.List.{List, [], _∷_}
 use Prim.Native.Nat.{ℕ}
 use lib.IntN.{ℤ, pos, negℤ}

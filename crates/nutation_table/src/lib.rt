@@ -1,10 +1,10 @@
-// Document 000's table of 106 rows of nutation, whose figures are those of the IAU 1980 series. All of this is for the crate `nutation`.
-// The table stands in four parts of 27 rows each, the last of 25: one table of all rows takes far longer to prove.
+// The table of nutation, whose figures are those of the IAU 1980 series: RULES, "Places". All of this is for the crate `nutation`.
+// It stands in four parts: one table of all rows takes far longer to prove.
 ghost use mathlib.Core.Path.{_≡_};
-ghost use Prim.Native.Nat.{_<_};
+ghost use Prim.Native.Nat.{_-_, _*_, _<_};
 ghost use lib.ListN.{getD, take, drop};
 ghost use Rattle.nutation_table.specs.Table.{rows, no-row};
-ghost use Rattle.nutation_table.specs.machine.Small.{Small};
+ghost use Rattle.nutation_table.specs.machine.Small.{row-count, part-size, Small};
 
 // A row: the figure of the longitude in 10^-4 arcsecond and its rate in 10^-5 a century, the same of the obliquity,
 // and the multipliers of D, M, M', F and the node.
@@ -20,7 +20,18 @@ pub struct Row(
     pub i64,
 );
 
-const FIRST: [Row; 27] = [
+// The rows of the table, of its parts but the last, and of the last; and where the later parts begin.
+pub const ROWS: usize = 106;
+
+const PART: usize = 27;
+
+const TWO_PARTS: usize = 2 * PART;
+
+const THREE_PARTS: usize = 3 * PART;
+
+const LAST_PART: usize = ROWS - THREE_PARTS;
+
+const FIRST: [Row; PART] = [
     Row(-171996, -1742, 92025, 89, 0, 0, 0, 0, 1),
     Row(-13187, -16, 5736, -31, -2, 0, 0, 2, 2),
     Row(-2274, -2, 977, -5, 0, 0, 0, 2, 2),
@@ -50,7 +61,7 @@ const FIRST: [Row; 27] = [
     Row(21, 0, -10, 0, 0, 0, -1, 2, 1),
 ];
 
-const SECOND: [Row; 27] = [
+const SECOND: [Row; PART] = [
     Row(17, -1, 0, 0, 0, 2, 0, 0, 0),
     Row(-16, 1, 7, 0, -2, 2, 0, 2, 2),
     Row(16, 0, -8, 0, 2, 0, -1, 0, 1),
@@ -80,7 +91,7 @@ const SECOND: [Row; 27] = [
     Row(4, 0, -2, 0, -2, 0, 2, 0, 1),
 ];
 
-const THIRD: [Row; 27] = [
+const THIRD: [Row; PART] = [
     Row(4, 0, -2, 0, -2, 1, 0, 2, 1),
     Row(-3, 0, 0, 0, 0, 1, 1, 0, 0),
     Row(-3, 0, 0, 0, -1, -1, 1, 0, 0),
@@ -110,7 +121,7 @@ const THIRD: [Row; 27] = [
     Row(-1, 0, 0, 0, -2, 0, 1, 2, 0),
 ];
 
-const FOURTH: [Row; 25] = [
+const FOURTH: [Row; LAST_PART] = [
     Row(-1, 0, 0, 0, -4, 0, 1, 0, 0),
     Row(-1, 0, 0, 0, -4, 0, 2, 0, 0),
     Row(-1, 0, 0, 0, 4, 0, 0, 2, 2),
@@ -139,46 +150,46 @@ const FOURTH: [Row; 25] = [
 ];
 
 fn first_at(i: usize) -> Row
-    requires { ⌜ i < 27 ⌝ }
-    ensures { λ r. ⌜ r ≡ getD (take 27 (drop 0 rows)) i no-row ⌝ }
+    requires { ⌜ i < part-size ⌝ }
+    ensures { λ r. ⌜ r ≡ getD (take part-size (drop 0 rows)) i no-row ⌝ }
 {
     FIRST[i]
 }
 
 fn second_at(i: usize) -> Row
-    requires { ⌜ i < 27 ⌝ }
-    ensures { λ r. ⌜ r ≡ getD (take 27 (drop 27 rows)) i no-row ⌝ }
+    requires { ⌜ i < part-size ⌝ }
+    ensures { λ r. ⌜ r ≡ getD (take part-size (drop part-size rows)) i no-row ⌝ }
 {
     SECOND[i]
 }
 
 fn third_at(i: usize) -> Row
-    requires { ⌜ i < 27 ⌝ }
-    ensures { λ r. ⌜ r ≡ getD (take 27 (drop 54 rows)) i no-row ⌝ }
+    requires { ⌜ i < part-size ⌝ }
+    ensures { λ r. ⌜ r ≡ getD (take part-size (drop (2 * part-size) rows)) i no-row ⌝ }
 {
     THIRD[i]
 }
 
 fn fourth_at(i: usize) -> Row
-    requires { ⌜ i < 25 ⌝ }
-    ensures { λ r. ⌜ r ≡ getD (take 27 (drop 81 rows)) i no-row ⌝ }
+    requires { ⌜ i < row-count - 3 * part-size ⌝ }
+    ensures { λ r. ⌜ r ≡ getD (take part-size (drop (3 * part-size) rows)) i no-row ⌝ }
 {
     FOURTH[i]
 }
 
 // Row i, counted from 0.
 pub fn row_at(i: usize) -> Row
-    requires { ⌜ i < 106 ⌝ }
+    requires { ⌜ i < row-count ⌝ }
     ensures { λ r. ⌜ (r ≡ getD rows i no-row) × Small r ⌝ }
 {
-    if i < 27 {
+    if i < PART {
         return first_at(i);
     }
-    if i < 54 {
-        return second_at(i - 27);
+    if i < TWO_PARTS {
+        return second_at(i - PART);
     }
-    if i < 81 {
-        return third_at(i - 54);
+    if i < THREE_PARTS {
+        return third_at(i - TWO_PARTS);
     }
-    fourth_at(i - 81)
+    fourth_at(i - THREE_PARTS)
 }

@@ -12,10 +12,11 @@ use Rattle.arith.proofs.Signs.{back}
 use Rattle.arith.proofs.Cells.{Cell}
 use Rattle.arith.proofs.Ranges.{scaled-within}
 use Rattle.units.specs.Units.{U, a-limit}
-use Rattle.cosine.proofs.Natural.{unbiased}
+use Rattle.cosine.proofs.NaturalSteps.{unbiased}
 
 value-small : (a : ℤ) (c : ℕ) → natAbs a < a-limit → c ≤ 2 * U → natAbs (rounded (a *ℤ (pos c -ℤ pos U)) U) ≤ a-limit
-value-small a c h k = scaled-within a (pos c -ℤ pos U) U a-limit (omega arith) (omega arith) (natAbs-le (pos c -ℤ pos U) U (less (negᵢ (nat U)) (nat c -ᵢ nat U) (omega arith)) (less (nat c -ᵢ nat U) (nat U) (omega arith)))
+value-small a c h k = scaled-within a (pos c -ℤ pos U) U a-limit (omega arith) (omega arith)
+    (natAbs-le (pos c -ℤ pos U) U (less (negᵢ (nat U)) (nat c -ᵢ nat U) (omega arith)) (less (nat c -ᵢ nat U) (nat U) (omega arith)))
 
 pub two-fit : (a b : ℤ) (c d : ℕ) → natAbs a < a-limit → natAbs b < a-limit → c ≤ 2 * U → d ≤ 2 * U
     → SFits w64 (rounded (a *ℤ (pos c -ℤ pos U)) U +ℤ rounded (b *ℤ (pos d -ℤ pos U)) U)

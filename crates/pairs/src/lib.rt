@@ -44,7 +44,8 @@ fn square_pair(v: Pair) -> Pair
 
 fn first_pair(y: Pair, d: u64) -> Pair
     requires { ⌜ (y .one ≤ y-limit) × (y .two ≤ y-limit) × (0 < d) × (d ≤ divisor-limit) ⌝ }
-    ensures { λ r. ⌜ (pos (r .one) ≡ pos U -ℤ rounded (pos (y .one) *ℤ pos U) (U * d)) × (pos (r .two) ≡ pos U -ℤ rounded (pos (y .two) *ℤ pos U) (U * d)) × (r .one ≤ U) × (r .two ≤ U) ⌝ }
+    ensures { λ r. ⌜ (pos (r .one) ≡ pos U -ℤ rounded (pos (y .one) *ℤ pos U) (U * d)) × (pos (r .two) ≡ pos U -ℤ rounded (pos (y .two) *ℤ pos U) (U * d))
+        × (r .one ≤ U) × (r .two ≤ U) ⌝ }
 {
     Pair {
         one: first(y.one, d),
@@ -54,7 +55,8 @@ fn first_pair(y: Pair, d: u64) -> Pair
 
 fn step_pair(y: Pair, h: Pair, d: u64) -> Pair
     requires { ⌜ (y .one ≤ y-limit) × (y .two ≤ y-limit) × (h .one ≤ U) × (h .two ≤ U) × (0 < d) × (d ≤ divisor-limit) ⌝ }
-    ensures { λ r. ⌜ (pos (r .one) ≡ pos U -ℤ rounded (pos (y .one) *ℤ pos (h .one)) (U * d)) × (pos (r .two) ≡ pos U -ℤ rounded (pos (y .two) *ℤ pos (h .two)) (U * d)) × (r .one ≤ U) × (r .two ≤ U) ⌝ }
+    ensures { λ r. ⌜ (pos (r .one) ≡ pos U -ℤ rounded (pos (y .one) *ℤ pos (h .one)) (U * d))
+        × (pos (r .two) ≡ pos U -ℤ rounded (pos (y .two) *ℤ pos (h .two)) (U * d)) × (r .one ≤ U) × (r .two ≤ U) ⌝ }
 {
     Pair {
         one: step(y.one, h.one, d),
@@ -89,7 +91,8 @@ fn odd_series_pair(y: Pair) -> Pair
 // U more than the even parts, the cosines at quarter 0; the sign of quarter 2 is on the amplitude.
 fn even_pair(v: Pair) -> Pair
     requires { ⌜ InRange (v .one) × InRange (v .two) ⌝ }
-    ensures { λ r. ⌜ (pos (r .one) ≡ pos U +ℤ even-part (pos (v .one) -ℤ pos U)) × (pos (r .two) ≡ pos U +ℤ even-part (pos (v .two) -ℤ pos U)) × (r .one ≤ 2 * U) × (r .two ≤ 2 * U) ⌝ }
+    ensures { λ r. ⌜ (pos (r .one) ≡ pos U +ℤ even-part (pos (v .one) -ℤ pos U)) × (pos (r .two) ≡ pos U +ℤ even-part (pos (v .two) -ℤ pos U))
+        × (r .one ≤ 2 * U) × (r .two ≤ 2 * U) ⌝ }
 {
     let h = even_series_pair(square_pair(v));
     Pair {
@@ -109,7 +112,8 @@ fn odd_lifted(v: u64, h: u64) -> u64
 // U less the odd parts, U more than the cosines at quarter 1; the sign of quarter 3 is on the amplitude.
 fn odd_pair(v: Pair) -> Pair
     requires { ⌜ InRange (v .one) × InRange (v .two) ⌝ }
-    ensures { λ r. ⌜ (pos (r .one) ≡ pos U -ℤ odd-part (pos (v .one) -ℤ pos U)) × (pos (r .two) ≡ pos U -ℤ odd-part (pos (v .two) -ℤ pos U)) × (r .one ≤ 2 * U) × (r .two ≤ 2 * U) ⌝ }
+    ensures { λ r. ⌜ (pos (r .one) ≡ pos U -ℤ odd-part (pos (v .one) -ℤ pos U)) × (pos (r .two) ≡ pos U -ℤ odd-part (pos (v .two) -ℤ pos U))
+        × (r .one ≤ 2 * U) × (r .two ≤ 2 * U) ⌝ }
 {
     let h = odd_series_pair(square_pair(v));
     Pair {

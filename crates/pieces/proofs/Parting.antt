@@ -10,9 +10,9 @@ use mir.Val.{SFits}
 use Rattle.arith.proofs.Cells.{Cell}
 use Rattle.units.specs.Units.{U, a-limit}
 use Rattle.cosine.specs.Cosine.{even-part, odd-part}
-use Rattle.cosine.specs.machine.Parity.{even-value, odd-value, half-value}
+use Rattle.cosine.specs.machine.Parity.{even-value, odd-value, value-by-parity}
 use Rattle.cosine.specs.declared.term.Prepared.{Prepared}
-use Rattle.cosine.specs.declared.term.Worked.{Worked}
+use Rattle.cosine.specs.declared.term.ReducedTerm.{ReducedTerm}
 use Rattle.limits.specs.declared.Term.{Term}
 use Rattle.packed.specs.machine.Table.{term-at, terms-at}
 use Rattle.pieces.specs.declared.Counts.{Counts}
@@ -64,8 +64,8 @@ module _ {ea : List ℤ} {ev : List ℕ} {oa : List ℤ} {ov : List ℕ} {evens 
   }
 
   -- a term goes to the table of its parity
-  put : (odd : ℕ) → odd ≤ 1 → Small (half-value odd) a v → Holding (set ea evens a) (set ev evens v) (set oa odds a) (set ov odds v) (evens + (1 - odd)) (odds + odd) (x +ℤ half-value odd a v)
-  unfolding half-value
+  put : (odd : ℕ) → odd ≤ 1 → Small (value-by-parity odd) a v → Holding (set ea evens a) (set ev evens v) (set oa odds a) (set ov odds v) (evens + (1 - odd)) (odds + odd) (x +ℤ value-by-parity odd a v)
+  unfolding value-by-parity
   put zero h s = let e : odds + 0 ≡ odds = omega arith in rw e (even-put s)
   put (suc k) h s = let e : evens + (1 - suc k) ≡ evens = omega arith in let f : odds + suc k ≡ odds + 1 = omega arith in rw (e, f) (odd-put s)
 
@@ -111,8 +111,8 @@ module _ {t : ℤ} {rows : List (List ℕ)} {from to : ℕ} {ea : List ℤ} {ev 
     pub odds-free : n .odds < room
     odds-free = let m = p .many in let s = p .short in let w = p .summed .within in omega arith
 
-    module _ (h : i < to) (w : Worked) (k : WorkedFor t (term-at rows i) w) where
-      small : Small (half-value (w .odd)) (w .a) (w .v)
+    module _ (h : i < to) (w : ReducedTerm) (k : WorkedFor t (term-at rows i) w) where
+      small : Small (value-by-parity (w .odd)) (w .a) (w .v)
       small = record {
         a-below = let l = term-fits (p .summed) h .a-below in let e = k .size in omega arith;
         v-within = k .offset;
@@ -121,7 +121,7 @@ module _ {t : ℤ} {rows : List (List ℕ)} {from to : ℕ} {ea : List ℤ} {ev 
 
       moved : Partly t rows from to (set ea (n .evens) (w .a)) (set ev (n .evens) (w .v)) (set oa (n .odds) (w .a)) (set ov (n .odds) (w .v)) (record { evens = n .evens + (1 - w .odd); odds = n .odds + w .odd }) (i + 1)
       moved = record {
-        x = p .x +ℤ half-value (w .odd) (w .a) (w .v);
+        x = p .x +ℤ value-by-parity (w .odd) (w .a) (w .v);
         holding = put (p .holding) evens-free odds-free (w .a) (w .v) (w .odd) (k .parity) small;
         summed = subst (λ (z : ℤ). Summed t rows from to (p .x +ℤ z) (i + 1)) (sym (k .value)) (summed-term (p .summed) h);
         many = let m = p .many in omega arith;

@@ -8,8 +8,8 @@ use Rattle.arith.proofs.Cells.{Cell, cell}
 use Rattle.units.specs.Units.{a-limit, b-limit, c-limit}
 use Rattle.packed_numbers.specs.Numbers.{unfolded}
 use Rattle.cosine.specs.Terms.{term-value}
-use Rattle.cosine.specs.machine.Parity.{half-value, InRange}
-use Rattle.cosine.specs.declared.term.Worked.{Worked}
+use Rattle.cosine.specs.machine.Parity.{value-by-parity, InRange}
+use Rattle.cosine.specs.declared.term.ReducedTerm.{ReducedTerm}
 use Rattle.limits.specs.Allowed.{TermFits}
 use Rattle.packed.specs.machine.Table.{number-at, term-at}
 use Rattle.pieces.specs.machine.Parted.{WorkedFor}
@@ -32,7 +32,7 @@ module _ (rows : List (List ℕ)) (i : ℕ) (f : TermFits (term-at rows i)) (a c
   unfolding term-at
   row-asks = rw (a-is, c-is) (f .a-below, f .b-below, f .c-below)
 
-  pub row-worked : (t : ℤ) (w : Worked) → half-value (w .odd) (w .a) (w .v) ≡ term-value (Cell a) (number-at rows i 1) (Cell c) t
+  pub row-worked : (t : ℤ) (w : ReducedTerm) → value-by-parity (w .odd) (w .a) (w .v) ≡ term-value (Cell a) (number-at rows i 1) (Cell c) t
       → natAbs (w .a) ≡ natAbs (Cell a) → w .odd ≤ 1 → InRange (w .v) → WorkedFor t (term-at rows i) w
   unfolding term-at
   row-worked t w e h o v = record {

@@ -15,8 +15,8 @@ ghost use Rattle.pieces.specs.Sums.{block-sum};
 ghost use Rattle.pieces.specs.machine.Parted.{room, half-sum, WorkedFor, Piece, PutInBoth, Half, Closed, Parted};
 use arith::signed::add;
 use cosine::term::Prepared;
-use cosine::term::Worked;
-use cosine::term::worked_term;
+use cosine::term::ReducedTerm;
+use cosine::term::reduced_term;
 use packed::table::Table;
 use packed_numbers::unfold_number;
 use pairs::Pair;
@@ -37,7 +37,7 @@ pub struct Counts {
 
 // Puts a term at the next free place of both tables; only the count of the one that it belongs to moves on.
 fn put_term(
-    w: Worked,
+    w: ReducedTerm,
     n: Counts,
     ea: &mut [i64; ROOM],
     ev: &mut [u64; ROOM],
@@ -62,12 +62,12 @@ fn put_term(
 }
 
 // The term at place i of the table, with its angle worked out.
-fn worked_at(p: Prepared, table: &Table, i: usize) -> Worked
+fn worked_at(p: Prepared, table: &Table, i: usize) -> ReducedTerm
     requires { ⌜ Ready p × Sized (now table) × (i < series-limit) × TermFits (term-at (now table) i) ⌝ }
     ensures { λ r. ⌜ WorkedFor (p .t) (term-at (now (table .entry)) i) r ⌝ }
 {
     let row = table[i];
-    worked_term(p, unfold_number(row[0]), row[1], unfold_number(row[2]))
+    reduced_term(p, unfold_number(row[0]), row[1], unfold_number(row[2]))
 }
 
 // Parts the terms from place from up to place to.
@@ -90,7 +90,7 @@ fn part_terms(
         n = put_term(worked_at(p, table, i), n, ea, ev, oa, ov);
         i = i + 1;
     }
-    let none = Worked { a: 0, v: U, odd: 0 };
+    let none = ReducedTerm { a: 0, v: U, odd: 0 };
     put_term(none, n, ea, ev, oa, ov);
     n
 }

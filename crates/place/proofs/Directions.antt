@@ -12,7 +12,7 @@ use Rattle.integers.proofs.Order.{natAbs-+, natAbs-*, natAbs-sgn}
 use Rattle.rectangular.specs.declared.Vector.{Vector}
 use Rattle.rectangular.specs.machine.Components.{Components}
 use Rattle.arith.proofs.Cells.{Cell, cell}
-use Rattle.direction.specs.Direction.{quarter-steps, turn-steps, greatest, in-quarter, first-quarter, turned-in, direction, latitude}
+use Rattle.direction.specs.Direction.{quarter-steps, turn-steps, greatest, in-quarter, first-quarter, within-turns, direction, latitude}
 use Rattle.place.specs.declared.Equatorial.{Equatorial}
 use Rattle.place.specs.Apparent.{equatorial}
 use Rattle.place.specs.machine.Reach.{equator-reach}
@@ -32,21 +32,21 @@ in-quarter-le : (x y : ℤ) → in-quarter x y ≤ quarter-steps
 unfolding in-quarter
 in-quarter-le x y = greatest-le _ quarter-steps
 
-turned-in-le : (n : ℕ) (x y : ℤ) → turned-in n x y ≤ (n + 1) * quarter-steps
-unfolding turned-in
-turned-in-le zero x y = let h = in-quarter-le x y in omega arith
-turned-in-le (suc n) x y = either (first-quarter x y) (in-quarter-le x y) (turned-in-le n y (negℤ x))
+within-turns-le : (n : ℕ) (x y : ℤ) → within-turns n x y ≤ (n + 1) * quarter-steps
+unfolding within-turns
+within-turns-le zero x y = let h = in-quarter-le x y in omega arith
+within-turns-le (suc n) x y = either (first-quarter x y) (in-quarter-le x y) (within-turns-le n y (negℤ x))
   where
-    either : (b : Bool) → in-quarter x y ≤ quarter-steps → turned-in n y (negℤ x) ≤ (n + 1) * quarter-steps
-        → cond b (in-quarter x y) (quarter-steps + turned-in n y (negℤ x)) ≤ (suc n + 1) * quarter-steps
+    either : (b : Bool) → in-quarter x y ≤ quarter-steps → within-turns n y (negℤ x) ≤ (n + 1) * quarter-steps
+        → cond b (in-quarter x y) (quarter-steps + within-turns n y (negℤ x)) ≤ (suc n + 1) * quarter-steps
     either true h k = omega arith
     either false h k = omega arith
 
 pub direction-le : (x y : ℤ) → direction x y ≤ turn-steps
 unfolding direction
-direction-le x y = either (eqb (natAbs x + natAbs y) 0) (turned-in-le 3 x y)
+direction-le x y = either (eqb (natAbs x + natAbs y) 0) (within-turns-le 3 x y)
   where
-    either : (b : Bool) → turned-in 3 x y ≤ 4 * quarter-steps → cond b 0 (turned-in 3 x y) ≤ turn-steps
+    either : (b : Bool) → within-turns 3 x y ≤ 4 * quarter-steps → cond b 0 (within-turns 3 x y) ≤ turn-steps
     either true h = omega arith
     either false h = omega arith
 

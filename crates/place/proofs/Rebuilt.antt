@@ -12,7 +12,7 @@ use Rattle.integers.proofs.Root.{root-spec}
 use Rattle.arith.proofs.Ranges.{rounded-within}
 use Rattle.units.specs.Units.{turn, t-limit}
 use Rattle.units.specs.declared.Instant.{Instant}
-use Rattle.cosine.proofs.Turns.{cosine-mod, sine-mod}
+use Rattle.cosine.proofs.WholeTurns.{cosine-mod, sine-mod}
 use Rattle.rectangular.specs.declared.Vector.{Vector}
 use Rattle.rectangular.specs.Vectors.{length, squared}
 use Rattle.rectangular.specs.Rectangular.{rectangular}

@@ -18,7 +18,7 @@ use Rattle.units.specs.Units.{U, turn, angle-per-part}
 use Rattle.units.specs.declared.Coordinates.{Coordinates}
 use Rattle.cosine.specs.Cosine.{cosine, sine}
 use Rattle.cosine.proofs.Ranges.{cosine-size, sine-size}
-use Rattle.cosine.proofs.Turns.{cosine-mod, sine-mod}
+use Rattle.cosine.proofs.WholeTurns.{cosine-mod, sine-mod}
 use Rattle.rectangular.specs.declared.Vector.{Vector}
 use Rattle.rectangular.specs.Rectangular.{rectangular, place}
 use Rattle.rectangular.specs.Vectors.{squared, length}

@@ -14,9 +14,9 @@ use Rattle.integers.proofs.Bounds.{Bd}
 use Rattle.units.specs.Units.{U, parts, quarter, angle-step, angle-per-part}
 use Rattle.cosine.specs.Cosine.{q-of, w-of, even-part, odd-part, cosine-by, sine-by, working-cosine, working-sine, cosine, sine}
 use Rattle.cosine.specs.Reference.{Within}
-use Rattle.cosine.proofs.Part.{Angle}
-use Rattle.cosine.proofs.Any.{w-angle}
-use Rattle.cosine.proofs.Within.{the-turn}
+use Rattle.cosine.proofs.Lipschitz.{Angle}
+use Rattle.cosine.proofs.AnyAngle.{w-angle}
+use Rattle.cosine.proofs.WithinReference.{the-turn}
 use Rattle.cosine.proofs.Ranges.{Unit-fraction, In-U, cosine-unit, sine-unit, cosine-range, sine-range, even-large}
 use Rattle.cosine.proofs.Longitude.{Near-longitude, Q1-cosine, Q1-sine}
 use Rattle.separation.specs.Exact.{cosᶠ, sinᶠ}

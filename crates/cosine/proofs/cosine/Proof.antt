@@ -7,7 +7,7 @@ use Rattle.integers.proofs.Division.{modulo-lt}
 use Rattle.units.specs.Units.{turn}
 use Rattle.arith.proofs.Signs.{back, ok}
 use Rattle.cosine.specs.Cosine.{cosine}
-use Rattle.cosine.proofs.Turns.{cosine-mod}
+use Rattle.cosine.proofs.WholeTurns.{cosine-mod}
 use Rattle.cosine.proofs.cosine.Statement.{statement}
 use Rattle.cosine.proofs.cosine.Tie as tie
 

@@ -7,7 +7,7 @@ use Rattle.integers.proofs.Division.{modulo-lt}
 use Rattle.units.specs.Units.{turn}
 use Rattle.arith.proofs.Signs.{back, ok}
 use Rattle.cosine.specs.Cosine.{sine}
-use Rattle.cosine.proofs.Turns.{sine-mod}
+use Rattle.cosine.proofs.WholeTurns.{sine-mod}
 use Rattle.cosine.proofs.sine.Statement.{statement}
 use Rattle.cosine.proofs.sine.Tie as tie
 

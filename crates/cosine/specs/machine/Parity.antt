@@ -31,6 +31,6 @@ unfoldable pub odd-value : ℤ → ℕ → ℤ
 odd-value a v = rounded (a *ℤ negℤ (odd-part (pos v -ℤ pos U))) U
 
 -- By the parity of the quarter.
-unfoldable pub half-value : ℕ → ℤ → ℕ → ℤ
-half-value zero a v = even-value a v
-half-value (suc _) a v = odd-value a v
+unfoldable pub value-by-parity : ℕ → ℤ → ℕ → ℤ
+value-by-parity zero a v = even-value a v
+value-by-parity (suc _) a v = odd-value a v

@@ -23,7 +23,8 @@ wide-requires c κs = search needs
 returns : tie.Need-returns
 returns c =
     let q = c .before in
-    back (c .wide .result) (ok (c .wide .ok)) ∙ c .wide .ensures ∙ ap (λ (n : ℕ). pos (q .before .args .turns * quarter-steps + n)) (q .step-in-quarter .ensures .0)
+    back (c .wide .result) (ok (c .wide .ok)) ∙ c .wide .ensures
+    ∙ ap (λ (n : ℕ). pos (q .before .args .turns * quarter-steps + n)) (q .step-in-quarter .ensures .0)
 
 pub after-turns-spec : {M : Type 1} → statement M
 after-turns-spec =

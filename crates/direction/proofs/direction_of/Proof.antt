@@ -51,7 +51,8 @@ returns c =
     let n = d .before .before in
     let s = n .before .before .before .before in
     back (c .after-turns .result) (ok (c .after-turns .ok))
-    ∙ answer 2 _ _ _ _ _ _ (c .after-turns .ensures) (at-a n) (at-b n) (by-two (s .args .x) (s .args .y) (sym (at-x n) ∙ d .before .if1 .taken) (sym (at-y n) ∙ d .if2 .taken))
+    ∙ answer 2 _ _ _ _ _ _ (c .after-turns .ensures) (at-a n) (at-b n)
+    (by-two (s .args .x) (s .args .y) (sym (at-x n) ∙ d .before .if1 .taken) (sym (at-y n) ∙ d .if2 .taken))
 
 after-turns-requires-2 : tie.Need-after-turns-requires-2
 after-turns-requires-2 c κs = let n = c .before .before .before in (lit< tt, small-a n, small-b n)
@@ -62,7 +63,8 @@ returns-2 c =
     let n = d .before .before .before in
     let s = n .before .before .before .before in
     back (c .after-turns2 .result) (ok (c .after-turns2 .ok))
-    ∙ answer 2 _ _ _ _ _ _ (c .after-turns2 .ensures) (at-a n) (at-b n) (by-two-flat (s .args .x) (s .args .y) (sym (at-x n) ∙ d .before .before .if1 .taken) (sym (at-b n) ∙ d .if3 .taken))
+    ∙ answer 2 _ _ _ _ _ _ (c .after-turns2 .ensures) (at-a n) (at-b n)
+    (by-two-flat (s .args .x) (s .args .y) (sym (at-x n) ∙ d .before .before .if1 .taken) (sym (at-b n) ∙ d .if3 .taken))
 
 after-turns-requires-3 : tie.Need-after-turns-requires-3
 after-turns-requires-3 c κs = let n = c .before .before .before in (lit< tt, small-b n, small-a n)
@@ -74,7 +76,9 @@ returns-3 c =
     let s = n .before .before .before .before in
     let h : 0 < n .before .before .abs2 .result = omega arith in
     back (c .after-turns3 .result) (ok (c .after-turns3 .ok))
-    ∙ answer 1 _ _ _ _ _ _ (c .after-turns3 .ensures) (at-b n) (at-a n) (by-one (s .args .x) (s .args .y) (sym (at-x n) ∙ d .before .before .if1 .taken) (sym (at-y n) ∙ d .before .if2 .left) (subst (λ (m : ℕ). 0 < m) (at-b n) h))
+    ∙ answer 1 _ _ _ _ _ _ (c .after-turns3 .ensures) (at-b n) (at-a n)
+    (by-one (s .args .x) (s .args .y) (sym (at-x n) ∙ d .before .before .if1 .taken) (sym (at-y n) ∙ d .before .if2 .left)
+    (subst (λ (m : ℕ). 0 < m) (at-b n) h))
 
 after-turns-requires-4 : tie.Need-after-turns-requires-4
 after-turns-requires-4 c κs = let n = c .before .before in (lit< tt, small-b n, small-a n)
@@ -85,7 +89,8 @@ returns-4 c =
     let n = d .before .before in
     let s = n .before .before .before .before in
     back (c .after-turns4 .result) (ok (c .after-turns4 .ok))
-    ∙ answer 3 _ _ _ _ _ _ (c .after-turns4 .ensures) (at-b n) (at-a n) (by-three (s .args .x) (s .args .y) (sym (at-x n) ∙ d .before .if1 .left) (sym (at-y n) ∙ d .if4 .taken))
+    ∙ answer 3 _ _ _ _ _ _ (c .after-turns4 .ensures) (at-b n) (at-a n)
+    (by-three (s .args .x) (s .args .y) (sym (at-x n) ∙ d .before .if1 .left) (sym (at-y n) ∙ d .if4 .taken))
 
 returns-5 : tie.Need-returns-5
 returns-5 c =
@@ -103,7 +108,9 @@ returns-6 c =
     let s = n .before .before .before .before in
     let h : 0 < n .before .before .abs2 .result = omega arith in
     back (c .after-turns5 .result) (ok (c .after-turns5 .ok))
-    ∙ answer 1 _ _ _ _ _ _ (c .after-turns5 .ensures) (at-b n) (at-a n) (by-one-up (s .args .x) (s .args .y) (sym (at-a n) ∙ d .before .if5 .taken) (sym (at-y n) ∙ d .before .before .if4 .left) (subst (λ (m : ℕ). 0 < m) (at-b n) h))
+    ∙ answer 1 _ _ _ _ _ _ (c .after-turns5 .ensures) (at-b n) (at-a n)
+    (by-one-up (s .args .x) (s .args .y) (sym (at-a n) ∙ d .before .if5 .taken) (sym (at-y n) ∙ d .before .before .if4 .left)
+    (subst (λ (m : ℕ). 0 < m) (at-b n) h))
 
 after-turns-requires-6 : tie.Need-after-turns-requires-6
 after-turns-requires-6 c κs = let n = c .before .before .before in (lit< tt, small-a n, small-b n)
@@ -115,7 +122,9 @@ returns-7 c =
     let s = n .before .before .before .before in
     let h : 0 < n .before .before .before .abs .result = omega arith in
     back (c .after-turns6 .result) (ok (c .after-turns6 .ok))
-    ∙ answer 0 _ _ _ _ _ _ (c .after-turns6 .ensures) (at-a n) (at-b n) (by-none (s .args .x) (s .args .y) (sym (at-x n) ∙ d .before .before .if1 .left) (sym (at-y n) ∙ d .before .if4 .left) (subst (λ (m : ℕ). 0 < m) (at-a n) h))
+    ∙ answer 0 _ _ _ _ _ _ (c .after-turns6 .ensures) (at-a n) (at-b n)
+    (by-none (s .args .x) (s .args .y) (sym (at-x n) ∙ d .before .before .if1 .left) (sym (at-y n) ∙ d .before .if4 .left)
+    (subst (λ (m : ℕ). 0 < m) (at-a n) h))
 
 pub direction-of-spec : {M : Type 1} → statement M
 direction-of-spec =

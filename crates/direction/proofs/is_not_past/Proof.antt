@@ -20,14 +20,16 @@ low-requires c κs =
     let t = c .before in
     let a = t .before in
     let e : toZ w64 (ofZ w64 (t .cosine-sine .result .sin)) ≡ t .cosine-sine .result .sin = search needs in
-    rw e (step-sine (a .before .args .k) (a .step-angle .result) (t .cosine-sine .result .sin) (a .before .pre .2) (a .step-angle .ensures) (t .cosine-sine .ensures .1))
+    rw e (step-sine (a .before .args .k) (a .step-angle .result) (t .cosine-sine .result .sin) (a .before .pre .2) (a .step-angle .ensures)
+    (t .cosine-sine .ensures .1))
 
 low-requires-2 : tie.Need-low-requires-2
 low-requires-2 c κs =
     let t = c .before .before .before in
     let a = t .before in
     let e : toZ w64 (ofZ w64 (t .cosine-sine .result .cos)) ≡ t .cosine-sine .result .cos = search needs in
-    rw e (step-cosine (a .before .args .k) (a .step-angle .result) (t .cosine-sine .result .cos) (a .before .pre .2) (a .step-angle .ensures) (t .cosine-sine .ensures .0))
+    rw e (step-cosine (a .before .args .k) (a .step-angle .result) (t .cosine-sine .result .cos) (a .before .pre .2) (a .step-angle .ensures)
+    (t .cosine-sine .ensures .0))
 
 at-sin : (c : tie.After-low2) → pos (c .before .before .low .result) ≡ sine (pos (c .before .before .before .before .before .step-angle .result))
 at-sin c =
@@ -51,7 +53,8 @@ returns c =
     let a = l .before .before .before .before .before in
     let s = a .before in
     c .product-le .ensures
-    ∙ not-past-is (s .args .x) (s .args .y) (s .args .k) (a .step-angle .result) (l .before .before .low .result) (l .low2 .result) (a .step-angle .ensures) (at-sin l) (at-cos l)
+    ∙ not-past-is (s .args .x) (s .args .y) (s .args .k) (a .step-angle .result) (l .before .before .low .result) (l .low2 .result) (a .step-angle .ensures)
+    (at-sin l) (at-cos l)
 
 pub is-not-past-spec : {M : Type 1} → statement M
 is-not-past-spec =

@@ -47,11 +47,13 @@ direction-of-requires c κs =
     let k = small-abs a in
     rw (back (w .wide .result) (ok (w .wide .ok)), back (c .wide2 .result) (ok (c .wide2 .ok)), w .wide .ensures, c .wide2 .ensures) (omega arith, k)
 
-at-direction : (c : tie.After-direction-of) → c .direction-of .result ≡ pos (direction (pos (c .before .before .before .before .length .result)) (pos (c .before .before .abs .result)))
+at-direction : (c : tie.After-direction-of)
+    → c .direction-of .result ≡ pos (direction (pos (c .before .before .before .before .length .result)) (pos (c .before .before .abs .result)))
 at-direction c =
     let v = c .before in
     let w = v .before .before in
-    rw (back (w .wide .result) (ok (w .wide .ok)), back (v .wide2 .result) (ok (v .wide2 .ok)), w .wide .ensures, v .wide2 .ensures) at (c .direction-of .ensures)
+    rw (back (w .wide .result) (ok (w .wide .ok)), back (v .wide2 .result) (ok (v .wide2 .ok)), w .wide .ensures, v .wide2 .ensures) at
+    (c .direction-of .ensures)
 
 low-requires : tie.Need-low-requires
 low-requires c κs = rw (back (c .direction-of .result) (ok (c .direction-of .ok)), at-direction c) (nonneg _)

@@ -35,7 +35,8 @@ loop-again c =
     let t = c .before in
     let l = t .before .before in
     let s = l .before in
-    between-up (s .args .x) (s .args .y) (l .loop .least) (l .loop .most) _ (l .loop .inv) (omega arith) (omega arith) (sym (t .is-not-past .ensures) ∙ c .if1 .taken)
+    between-up (s .args .x) (s .args .y) (l .loop .least) (l .loop .most) _ (l .loop .inv) (omega arith) (omega arith)
+    (sym (t .is-not-past .ensures) ∙ c .if1 .taken)
 
 loop-less-2 : tie.Need-loop-less-2 Inv-loop μ-loop
 loop-less-2 c = omega arith
@@ -45,7 +46,8 @@ loop-again-2 c =
     let t = c .before in
     let l = t .before .before in
     let s = l .before in
-    between-down (s .args .x) (s .args .y) (l .loop .least) (l .loop .most) _ (l .loop .inv) (omega arith) (omega arith) (sym (t .is-not-past .ensures) ∙ c .if1 .left)
+    between-down (s .args .x) (s .args .y) (l .loop .least) (l .loop .most) _ (l .loop .inv) (omega arith) (omega arith)
+    (sym (t .is-not-past .ensures) ∙ c .if1 .left)
 
 returns : tie.Need-returns Inv-loop μ-loop
 returns c =

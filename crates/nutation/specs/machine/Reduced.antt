@@ -1,25 +1,37 @@
 -- What the functions of this crate ask of each other and tell each other: sizes, and the arguments less whole turns.
 use mathlib.Core.Path.{_≡_}
 use mathlib.Core.List.{List, [], _∷_}
-use Prim.Native.Nat.{ℕ, _+_, _*_, _≤_, _<_, _^_}
+use Prim.Native.Nat.{ℕ, _+_, _*_, _/_, _≤_, _<_, _^_}
 use lib.IntN.{ℤ, pos, natAbs, _+ℤ_, _*ℤ_}
 use Rattle.integers.specs.Division.{modulo}
+use Rattle.units.specs.Units.{millennium, tau-limit}
 use Rattle.nutation_table.specs.declared.Row.{Row}
 use Rattle.nutation_table.specs.Table.{times-d, times-m, times-m1, times-f, times-node}
+use Rattle.nutation_table.specs.machine.Small.{row-count, figure-limit, rate-limit}
 use Rattle.nutation.specs.declared.Arguments.{Arguments}
+use Rattle.nutation.specs.declared.Nutation.{Nutation}
 use Rattle.nutation.specs.Nutation.{mean-elongation, sun-anomaly, moon-anomaly, latitude-argument, moon-node, argument-turn}
+use Rattle.nutation.specs.Nutation.{longitude-nutation, obliquity-nutation}
 
--- No value of a polynomial by n/d with these coefficients is greater, where |n| is at most 20 d.
+-- The divisor by which t, in place of 10t by T, is taken for the arguments: they are the same.
+abbrev pub century : ℕ
+century = millennium / 10
+
+-- The greatest |t|, in centuries.
+abbrev pub centuries : ℕ
+centuries = 10 * tau-limit
+
+-- No value of a polynomial by n/d with these coefficients is greater, where |n| is at most so many times d.
 unfoldable pub reach : List ℤ → ℕ
 reach [] = 0
-reach (c ∷ cs) = natAbs c + 20 * reach cs
+reach (c ∷ cs) = natAbs c + centuries * reach cs
 
--- What a step by n/d takes.
+-- What a step by n/d takes: `mul_div_round` asks for 2^47.
 pub record By (n : ℤ) (d : ℕ) : Type 0 where
   pub positive : 0 < d
   pub divisor : d ≤ 2 ^ 47
   pub factor : natAbs n ≤ 2 ^ 47
-  pub ratio : natAbs n ≤ d * 20
+  pub ratio : natAbs n ≤ d * centuries
 
 -- An argument less its whole turns.
 unfoldable pub less-turns : ℤ → ℤ
@@ -32,6 +44,21 @@ pub record At (t : ℤ) (a : Arguments) : Type 0 where
   pub moon-at : a .moon ≡ less-turns (moon-anomaly t)
   pub latitude-at : a .latitude ≡ less-turns (latitude-argument t)
   pub node-at : a .node ≡ less-turns (moon-node t)
+
+-- No coefficient is greater, nor any term.
+abbrev pub coefficient-limit : ℕ
+coefficient-limit = 10 * figure-limit + centuries * rate-limit
+
+-- Nor any sum of them.
+abbrev pub sum-limit : ℕ
+sum-limit = row-count * coefficient-limit
+
+-- The nutation at t, and its size.
+pub record NutationAt (t : ℤ) (n : Nutation) : Type 0 where
+  pub longitude-is : n .longitude ≡ longitude-nutation t
+  pub obliquity-is : n .obliquity ≡ obliquity-nutation t
+  pub longitude-small : natAbs (n .longitude) ≤ sum-limit
+  pub obliquity-small : natAbs (n .obliquity) ≤ sum-limit
 
 -- A row's s, with arguments less their whole turns.
 unfoldable pub combined : Row → Arguments → ℤ

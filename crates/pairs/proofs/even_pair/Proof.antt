@@ -1,7 +1,7 @@
 -- `pairs::even_pair` meets its contract. Assumes nothing.
 use native.Mathlib.Omega.{arith}
 use borrow.Author.Needs.{needs}
-use Rattle.cosine.proofs.Natural.{even-biased}
+use Rattle.cosine.proofs.NaturalSteps.{even-biased}
 use Rattle.pairs.proofs.even_pair.Statement.{statement}
 use Rattle.pairs.proofs.even_pair.Tie as tie
 

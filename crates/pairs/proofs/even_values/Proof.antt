@@ -17,7 +17,8 @@ unfolding even-value
 returns c =
     let p = c .before .even-pair in
     let s = c .before .before in
-    two-back (c .scaled-pair .result) (s .args .a1) (s .args .a2) (p .result .one) (p .result .two) _ _ (ok (c .scaled-pair .ok)) (s .fits .a1) (s .fits .a2) (p .ensures .0) (p .ensures .1) (c .scaled-pair .ensures)
+    two-back (c .scaled-pair .result) (s .args .a1) (s .args .a2) (p .result .one) (p .result .two) _ _ (ok (c .scaled-pair .ok)) (s .fits .a1)
+    (s .fits .a2) (p .ensures .0) (p .ensures .1) (c .scaled-pair .ensures)
 
 pub even-values-spec : {M : Type 1} → statement M
 even-values-spec = tie.close (tie.spec even-pair-requires scaled-pair-requires returns)

@@ -1,7 +1,7 @@
 -- `pairs::odd_lifted` meets its contract. Assumes nothing.
 use native.Mathlib.Omega.{arith}
 use borrow.Author.Needs.{needs}
-use Rattle.cosine.proofs.Natural.{odd-small, odd-biased}
+use Rattle.cosine.proofs.NaturalSteps.{odd-small, odd-biased}
 use Rattle.pairs.proofs.odd_lifted.Statement.{statement}
 use Rattle.pairs.proofs.odd_lifted.Tie as tie
 

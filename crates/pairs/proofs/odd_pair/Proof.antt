@@ -1,7 +1,7 @@
 -- `pairs::odd_pair` meets its contract. Assumes nothing.
 use borrow.Author.Needs.{needs}
 use Rattle.cosine.specs.Cosine.{odds}
-use Rattle.cosine.proofs.Natural.{series-at}
+use Rattle.cosine.proofs.NaturalSteps.{series-at}
 use Rattle.pairs.proofs.odd_pair.Statement.{statement}
 use Rattle.pairs.proofs.odd_pair.Tie as tie
 

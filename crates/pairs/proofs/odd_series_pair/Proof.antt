@@ -1,6 +1,6 @@
 -- `pairs::odd_series_pair` meets its contract. Assumes nothing.
 use borrow.Author.Needs.{needs}
-use Rattle.cosine.proofs.Natural.{six}
+use Rattle.cosine.proofs.NaturalSteps.{six}
 use Rattle.pairs.proofs.odd_series_pair.Statement.{statement}
 use Rattle.pairs.proofs.odd_series_pair.Tie as tie
 
@@ -29,8 +29,10 @@ returns c =
     let c₃ = c₄ .before in
     let c₂ = c₃ .before in
     let c₁ = c₂ .before in (
-      six _ 6 20 42 72 110 156 _ _ _ _ _ _ (c₁ .first-pair .ensures .0) (c₂ .step-pair .ensures .0) (c₃ .step-pair2 .ensures .0) (c₄ .step-pair3 .ensures .0) (c₅ .step-pair4 .ensures .0) (c .step-pair5 .ensures .0),
-      six _ 6 20 42 72 110 156 _ _ _ _ _ _ (c₁ .first-pair .ensures .1) (c₂ .step-pair .ensures .1) (c₃ .step-pair2 .ensures .1) (c₄ .step-pair3 .ensures .1) (c₅ .step-pair4 .ensures .1) (c .step-pair5 .ensures .1),
+      six _ 6 20 42 72 110 156 _ _ _ _ _ _ (c₁ .first-pair .ensures .0) (c₂ .step-pair .ensures .0) (c₃ .step-pair2 .ensures .0)
+          (c₄ .step-pair3 .ensures .0) (c₅ .step-pair4 .ensures .0) (c .step-pair5 .ensures .0),
+      six _ 6 20 42 72 110 156 _ _ _ _ _ _ (c₁ .first-pair .ensures .1) (c₂ .step-pair .ensures .1) (c₃ .step-pair2 .ensures .1)
+          (c₄ .step-pair3 .ensures .1) (c₅ .step-pair4 .ensures .1) (c .step-pair5 .ensures .1),
       c .step-pair5 .ensures .2,
       c .step-pair5 .ensures .3,
     )

@@ -20,17 +20,20 @@ times-cosine-requires-2 c κs = search needs
 
 -- what `add` is given
 given : (c : tie.After-times-cosine2) → (let s = c .before .before .args in
-    Cell (c .before .times-cosine .result) +ℤ Cell (c .times-cosine2 .result) ≡ rounded (s .a1 *ℤ (pos (s .c .one) -ℤ pos U)) U +ℤ rounded (s .a2 *ℤ (pos (s .c .two) -ℤ pos U)) U)
+    Cell (c .before .times-cosine .result) +ℤ Cell (c .times-cosine2 .result)
+    ≡ rounded (s .a1 *ℤ (pos (s .c .one) -ℤ pos U)) U +ℤ rounded (s .a2 *ℤ (pos (s .c .two) -ℤ pos U)) U)
 given c =
     let x = c .before .times-cosine in
     let y = c .times-cosine2 in
     let s = c .before .before in
-    ap₂ _+ℤ_ (value-back (x .result) (s .args .a1) (s .args .c .one) (ok (x .ok)) (s .fits .a1) (x .ensures)) (value-back (y .result) (s .args .a2) (s .args .c .two) (ok (y .ok)) (s .fits .a2) (y .ensures))
+    ap₂ _+ℤ_ (value-back (x .result) (s .args .a1) (s .args .c .one) (ok (x .ok)) (s .fits .a1) (x .ensures))
+    (value-back (y .result) (s .args .a2) (s .args .c .two) (ok (y .ok)) (s .fits .a2) (y .ensures))
 
 add-requires : tie.Need-add-requires
 add-requires c κs =
     let s = c .before .before in
-    subst (λ z. SFits w64 z) (sym (given c)) (two-fit (s .args .a1) (s .args .a2) (s .args .c .one) (s .args .c .two) (s .pre .0) (s .pre .1) (s .pre .2) (s .pre .3))
+    subst (λ z. SFits w64 z) (sym (given c))
+    (two-fit (s .args .a1) (s .args .a2) (s .args .c .one) (s .args .c .two) (s .pre .0) (s .pre .1) (s .pre .2) (s .pre .3))
 
 returns : tie.Need-returns
 returns c = back (c .add .result) (ok (c .add .ok)) ∙ c .add .ensures ∙ given (c .before)

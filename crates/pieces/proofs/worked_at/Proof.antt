@@ -16,8 +16,8 @@ array-read-unfold-number c = search needs
 unfold-number-requires : tie.Need-unfold-number-requires
 unfold-number-requires c κs = search needs
 
-array-read-worked-term : tie.Need-array-read-worked-term
-array-read-worked-term c = search needs
+array-read-reduced-term : tie.Need-array-read-reduced-term
+array-read-reduced-term c = search needs
 
 array-read-unfold-number-2 : tie.Need-array-read-unfold-number-2
 array-read-unfold-number-2 c = search needs
@@ -25,8 +25,8 @@ array-read-unfold-number-2 c = search needs
 unfold-number-requires-2 : tie.Need-unfold-number-requires-2
 unfold-number-requires-2 c κs = search needs
 
-worked-term-requires : tie.Need-worked-term-requires
-worked-term-requires c κs =
+reduced-term-requires : tie.Need-reduced-term-requires
+reduced-term-requires c κs =
     let s = c .before .before .before in
     let q = row-asks (s .args .table .now) (s .args .i) (s .pre .3) (c .before .unfold-number .result) (c .unfold-number2 .result)
     (c .before .unfold-number .ensures) (c .unfold-number2 .ensures) in
@@ -36,9 +36,9 @@ returns : tie.Need-returns
 returns c =
     let v = c .before in
     let s = v .before .before .before in
-    let e = c .worked-term .ensures in
+    let e = c .reduced-term .ensures in
     row-worked (s .args .table .now) (s .args .i) (s .pre .3) (v .before .unfold-number .result) (v .unfold-number2 .result)
-    (v .before .unfold-number .ensures) (v .unfold-number2 .ensures) (s .args .p .t) (c .worked-term .result) (e .0) (e .1) (e .2) (e .3)
+    (v .before .unfold-number .ensures) (v .unfold-number2 .ensures) (s .args .p .t) (c .reduced-term .result) (e .0) (e .1) (e .2) (e .3)
 
 pub worked-at-spec : {M : Type 1} → statement M
 worked-at-spec =
@@ -48,8 +48,8 @@ worked-at-spec =
     element-copy-out-row
     array-read-unfold-number
     unfold-number-requires
-    array-read-worked-term
+    array-read-reduced-term
     array-read-unfold-number-2
     unfold-number-requires-2
-    worked-term-requires
+    reduced-term-requires
     returns)

@@ -6,10 +6,10 @@ use lib.IntN.{ℤ, pos, natAbs, _+ℤ_}
 use lib.ListN.{length, getD, set}
 use Rattle.units.specs.Units.{a-limit, series-limit}
 use Rattle.cosine.specs.Terms.{term-value}
-use Rattle.cosine.specs.machine.Parity.{even-value, odd-value, half-value, InRange}
+use Rattle.cosine.specs.machine.Parity.{even-value, odd-value, value-by-parity, InRange}
 use Rattle.cosine.specs.machine.Prepared.{Ready}
 use Rattle.cosine.specs.declared.term.Prepared.{Prepared}
-use Rattle.cosine.specs.declared.term.Worked.{Worked}
+use Rattle.cosine.specs.declared.term.ReducedTerm.{ReducedTerm}
 use Rattle.limits.specs.declared.Term.{Term}
 use Rattle.limits.specs.Allowed.{BlockFits}
 use Rattle.packed.specs.machine.Table.{Sized, terms-at}
@@ -33,8 +33,8 @@ pub record Piece (p : Prepared) (rows : List (List ℕ)) (from to : ℕ) : Type 
   pub limits : BlockFits (terms-at rows from (to - from))
 
 -- A term at the instant t with its angle worked out.
-pub record WorkedFor (t : ℤ) (x : Term) (w : Worked) : Type 0 where
-  pub value : half-value (w .odd) (w .a) (w .v) ≡ term-value (x .a) (x .b) (x .c) t
+pub record WorkedFor (t : ℤ) (x : Term) (w : ReducedTerm) : Type 0 where
+  pub value : value-by-parity (w .odd) (w .a) (w .v) ≡ term-value (x .a) (x .b) (x .c) t
   pub size : natAbs (w .a) ≡ natAbs (x .a)
   pub parity : w .odd ≤ 1
   pub offset : InRange (w .v)
@@ -45,7 +45,7 @@ half-sum f la lv zero = pos 0
 half-sum f la lv (suc n) = half-sum f la lv n +ℤ f (getD la n (pos 0)) (getD lv n 0)
 
 -- A term is put at the next free place of both tables; only the count of the one that it belongs to moves on.
-pub record PutInBoth (w : Worked) (n : Counts)
+pub record PutInBoth (w : ReducedTerm) (n : Counts)
     (ea₀ : List ℤ) (ev₀ : List ℕ) (oa₀ : List ℤ) (ov₀ : List ℕ)
     (ea : List ℤ) (ev : List ℕ) (oa : List ℤ) (ov : List ℕ) (r : Counts) : Type 0 where
   pub evens-a : ea ≡ set ea₀ (n .evens) (w .a)

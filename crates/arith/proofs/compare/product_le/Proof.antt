@@ -5,23 +5,26 @@ use native.Mathlib.Omega.{arith}
 use borrow.Author.Needs.{needs}
 use borrow.Author.Tests.{le-leb, lt-leb}
 use lib.Dec.{lit<}
+use Rattle.units.specs.Units.{U}
 use Rattle.arith.proofs.Long.{Divided, divided}
 use Rattle.arith.proofs.Split.{words-less, words-leb}
 use Rattle.arith.proofs.compare.product_le.Statement.{statement}
 use Rattle.arith.proofs.compare.product_le.Tie as tie
 
-scaled-requires : tie.Need-scaled-requires
-scaled-requires c κs = search needs
+product-by-unit-requires : tie.Need-product-by-unit-requires
+product-by-unit-requires c κs = search needs
 
-scaled-requires-2 : tie.Need-scaled-requires-2
-scaled-requires-2 c κs = search needs
+product-by-unit-requires-2 : tie.Need-product-by-unit-requires-2
+product-by-unit-requires-2 c κs = search needs
 
 -- the two words of each product
-left : (c : tie.After-scaled2) → Divided (c .before .before .args .x * c .before .before .args .s) 1000000000 (c .before .scaled .result .q) (c .before .scaled .result .r)
-left c = divided _ _ _ _ (lit< tt) (c .before .scaled .ensures)
+left : (c : tie.After-product-by-unit2)
+    → Divided (c .before .before .args .x * c .before .before .args .s) U (c .before .product-by-unit .result .q) (c .before .product-by-unit .result .r)
+left c = divided _ _ _ _ (lit< tt) (c .before .product-by-unit .ensures)
 
-right : (c : tie.After-scaled2) → Divided (c .before .before .args .y * c .before .before .args .c) 1000000000 (c .scaled2 .result .q) (c .scaled2 .result .r)
-right c = divided _ _ _ _ (lit< tt) (c .scaled2 .ensures)
+right : (c : tie.After-product-by-unit2)
+    → Divided (c .before .before .args .y * c .before .before .args .c) U (c .product-by-unit2 .result .q) (c .product-by-unit2 .result .r)
+right c = divided _ _ _ _ (lit< tt) (c .product-by-unit2 .ensures)
 
 returns : tie.Need-returns
 returns c =
@@ -42,4 +45,4 @@ returns-3 c =
     words-leb _ _ _ _ _ _ _ (left w) (right w) (omega arith)
 
 pub product-le-spec : {M : Type 1} → statement M
-product-le-spec = tie.close (tie.spec scaled-requires scaled-requires-2 returns returns-2 returns-3)
+product-le-spec = tie.close (tie.spec product-by-unit-requires product-by-unit-requires-2 returns returns-2 returns-3)

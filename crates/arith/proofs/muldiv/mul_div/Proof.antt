@@ -2,17 +2,20 @@
 use mathlib.Core.Path.{_≡_, _∙_}
 use Prim.Native.Nat.{_+_, _*_, _/_}
 use native.Mathlib.Omega.{arith}
+use Rattle.arith.specs.machine.Digits.{base}
 use Rattle.arith.proofs.Long.{divided, quotient, next-is, next-fits, first-fits, top-digit}
 use Rattle.arith.proofs.muldiv.mul_div.Statement.{statement}
 use Rattle.arith.proofs.muldiv.mul_div.Tie as tie
 
-one : (c : tie.After-step) → c .step .result .q * c .before .args .d + c .step .result .r ≡ c .before .args .a / 281474976710656 * c .before .args .b
+one : (c : tie.After-step) → c .step .result .q * c .before .args .d + c .step .result .r ≡ c .before .args .a / (base * base * base) * c .before .args .b
 one c = divided _ _ _ _ (c .before .pre .0) (c .step .ensures) .whole ∙ omega arith
 
-two : (c : tie.After-step2) → c .step2 .result .q * c .before .before .args .d + c .step2 .result .r ≡ c .before .before .args .a / 4294967296 * c .before .before .args .b
+two : (c : tie.After-step2) → c .step2 .result .q * c .before .before .args .d + c .step2 .result .r
+    ≡ c .before .before .args .a / (base * base) * c .before .before .args .b
 two c = next-is _ _ _ _ _ _ (one (c .before)) (divided _ _ _ _ (c .before .before .pre .0) (c .step2 .ensures) .whole) (omega arith)
 
-three : (c : tie.After-step3) → c .step3 .result .q * c .before .before .before .args .d + c .step3 .result .r ≡ c .before .before .before .args .a / 65536 * c .before .before .before .args .b
+three : (c : tie.After-step3) → c .step3 .result .q * c .before .before .before .args .d + c .step3 .result .r
+    ≡ c .before .before .before .args .a / base * c .before .before .before .args .b
 three c = next-is _ _ _ _ _ _ (two (c .before)) (divided _ _ _ _ (c .before .before .before .pre .0) (c .step3 .ensures) .whole) (omega arith)
 
 step-requires : tie.Need-step-requires
@@ -25,13 +28,23 @@ step-requires-2 c κs =
 
 step-requires-3 : tie.Need-step-requires-3
 step-requires-3 c κs =
-    let s = c .before .before in
-    (divided _ _ _ _ (c .before .before .pre .0) (c .step2 .ensures) .rest, s .pre .1, s .pre .2, omega arith, next-fits _ _ _ _ _ _ (two c) (omega arith) (s .pre .3))
+    let s = c .before .before in (
+      divided _ _ _ _ (c .before .before .pre .0) (c .step2 .ensures) .rest,
+      s .pre .1,
+      s .pre .2,
+      omega arith,
+      next-fits _ _ _ _ _ _ (two c) (omega arith) (s .pre .3),
+    )
 
 step-requires-4 : tie.Need-step-requires-4
 step-requires-4 c κs =
-    let s = c .before .before .before in
-    (divided _ _ _ _ (c .before .before .before .pre .0) (c .step3 .ensures) .rest, s .pre .1, s .pre .2, omega arith, next-fits _ _ _ _ _ _ (three c) (omega arith) (s .pre .3))
+    let s = c .before .before .before in (
+      divided _ _ _ _ (c .before .before .before .pre .0) (c .step3 .ensures) .rest,
+      s .pre .1,
+      s .pre .2,
+      omega arith,
+      next-fits _ _ _ _ _ _ (three c) (omega arith) (s .pre .3),
+    )
 
 returns : tie.Need-returns
 returns c =

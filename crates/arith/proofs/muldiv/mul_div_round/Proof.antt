@@ -33,7 +33,9 @@ mul-div-requires c κs =
     let s = c .before .before .before in
     (s .pre .0, s .pre .1, subst (λ (n : ℕ). n ≤ 2 ^ 47) (sym (at-b c)) (s .pre .2), more-room _ _ (small c))
 
-product : (c : tie.After-mul-div) → Divided (c .before .before .abs .result * c .before .abs2 .result) (c .before .before .before .before .args .d) (c .mul-div .result .q) (c .mul-div .result .r)
+product : (c : tie.After-mul-div)
+    → Divided (c .before .before .abs .result * c .before .abs2 .result) (c .before .before .before .before .args .d) (c .mul-div .result .q)
+    (c .mul-div .result .r)
 product c = divided _ _ _ _ (c .before .before .before .before .pre .0) (c .mul-div .ensures)
 
 quot-small : (c : tie.After-mul-div) → c .mul-div .result .q < 2 ^ 63 - 1
@@ -46,7 +48,8 @@ of-parts-requires : tie.Need-of-parts-requires
 of-parts-requires c κs =
     let m = c .before in
     half-word (quot-small m)
-    (subst (λ (n : ℕ). n ≤ m .mul-div .result .q + 1) (sym (c .nearest .ensures)) (near-next _ (m .mul-div .result .q) (m .mul-div .result .r) _ (product m .rest)))
+    (subst (λ (n : ℕ). n ≤ m .mul-div .result .q + 1) (sym (c .nearest .ensures))
+    (near-next _ (m .mul-div .result .q) (m .mul-div .result .r) _ (product m .rest)))
 
 returns : tie.Need-returns
 returns c =
@@ -55,7 +58,8 @@ returns c =
     let b = m .before in
     let s = b .before .before .before in
     back (c .of-parts .result) (ok (c .of-parts .ok)) ∙ c .of-parts .ensures
-    ∙ rounded-mul (s .args .a) (s .args .b) (s .args .d) (m .mul-div .result .q) (m .mul-div .result .r) (n .nearest .result) (b .before .before .signs-differ .result) (s .pre .0)
+    ∙ rounded-mul (s .args .a) (s .args .b) (s .args .d) (m .mul-div .result .q) (m .mul-div .result .r) (n .nearest .result)
+    (b .before .before .signs-differ .result) (s .pre .0)
     (rw (back (s .args .a) (s .fits .a), back (s .args .b) (s .fits .b)) at (b .before .before .signs-differ .ensures))
     (product m .whole ∙ ap₂ _*_ (at-a b) (at-b b))
     (n .nearest .ensures)

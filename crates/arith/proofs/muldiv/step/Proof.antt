@@ -1,5 +1,6 @@
 -- `arith::muldiv::step` meets its contract. Assumes nothing.
 use Prim.Native.Nat.{_+_, _*_, _<_, _^_}
+use Rattle.arith.specs.machine.Digits.{base}
 use Rattle.arith.proofs.Long.{quotient, digit, digit-fits, sum-fits, above-zero, times-base, le-left, le-right}
 use Rattle.arith.proofs.muldiv.step.Statement.{statement}
 use Rattle.arith.proofs.muldiv.step.Tie as tie
@@ -7,7 +8,7 @@ use Rattle.arith.proofs.muldiv.step.Tie as tie
 positive : (c : tie.Start) → 0 < c .args .d
 positive c = above-zero (c .pre .0)
 
-sum : (c : tie.Start) → c .args .r * 65536 + c .args .g * c .args .b < 2 ^ 64
+sum : (c : tie.Start) → c .args .r * base + c .args .g * c .args .b < 2 ^ 64
 sum c = sum-fits (c .args .r) (c .args .g) (c .args .b) (c .args .d) (c .pre .0) (c .pre .1) (c .pre .2) (c .pre .3)
 
 mul-x : tie.Need-mul-x

@@ -18,7 +18,10 @@ residue-requires c κs = search needs
 mul-result : tie.Need-mul-result
 mul-result c =
     let s = c .before in
-    record { fits = times-fits (s .args .k) (c .residue .result) (s .args .d) _ (subst (λ (t : ℕ). t < s .args .d) (sym (at c)) (modulo-lt (s .args .n) (s .args .d) (s .pre .0))) (s .pre .1) }
+    record {
+      fits = times-fits (s .args .k) (c .residue .result) (s .args .d) _
+          (subst (λ (t : ℕ). t < s .args .d) (sym (at c)) (modulo-lt (s .args .n) (s .args .d) (s .pre .0))) (s .pre .1);
+    }
 
 rem-result : tie.Need-rem-result
 rem-result c = search needs

@@ -80,7 +80,8 @@ mul-result c = search needs
 abbrev P : tie.After-rest → ℕ
 P c =
     c .rest .result % 1099511627776 * 8388608
-    + c .before .before .before .before .args .lo * 2 ^ (2 * (leadingZeros 64 (c .before .before .before .before .args .hi * 262144 + 1) % 64 / 2)) % 18446744073709551616 % 70368744177664 / 8388608
+    + c .before .before .before .before .args .lo * 2 ^ (2 * (leadingZeros 64 (c .before .before .before .before .args .hi * 262144 + 1) % 64 / 2)) %
+    18446744073709551616 % 70368744177664 / 8388608
 
 add-result : tie.Need-add-result
 add-result c = omega (arith, div-le-self (P c) (2 * c .before .not-above .result))

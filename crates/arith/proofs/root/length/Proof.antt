@@ -24,10 +24,16 @@ abs-requires-3 c κs = search needs
 abbrev N : tie.After-abs3 → ℕ
 N c = c .before .before .abs .result * c .before .before .abs .result + c .before .abs2 .result * c .before .abs2 .result + c .abs3 .result * c .abs3 .result
 
-value : (c : tie.After-abs3) → N c ≡ natAbs (c .before .before .before .args .x *ℤ c .before .before .before .args .x +ℤ c .before .before .before .args .y *ℤ c .before .before .before .args .y +ℤ c .before .before .before .args .z *ℤ c .before .before .before .args .z)
+value : (c : tie.After-abs3) → N c
+    ≡ natAbs (c .before .before .before .args .x *ℤ c .before .before .before .args .x
+    +ℤ c .before .before .before .args .y *ℤ c .before .before .before .args .y +ℤ c .before .before .before .args .z *ℤ c .before .before .before .args .z)
 value c =
     let s = c .before .before .before in
-    rw (rw (back (s .args .x) (s .fits .x)) at (c .before .before .abs .ensures), rw (back (s .args .y) (s .fits .y)) at (c .before .abs2 .ensures), rw (back (s .args .z) (s .fits .z)) at (c .abs3 .ensures))
+    rw (
+      rw (back (s .args .x) (s .fits .x)) at (c .before .before .abs .ensures),
+      rw (back (s .args .y) (s .fits .y)) at (c .before .abs2 .ensures),
+      rw (back (s .args .z) (s .fits .z)) at (c .abs3 .ensures),
+    )
     (sym (squares-value (s .args .x) (s .args .y) (s .args .z)))
 
 room : (c : tie.After-abs3) → N c < 2 ^ 92

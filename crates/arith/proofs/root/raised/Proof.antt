@@ -25,7 +25,9 @@ above-requires : tie.Need-above-requires Inv-loop μ-loop
 above-requires c κs = (omega (arith, small c), c .before .pre .1, c .before .pre .2)
 
 -- and so does g + 1, where its square is not above the number
-next : (c : tie.Then1 Inv-loop μ-loop) → (c .before .before .loop .g + 1) * (c .before .before .loop .g + 1) ≤ c .before .before .before .args .hi * 2 ^ 46 + c .before .before .before .args .lo
+next : (c : tie.Then1 Inv-loop μ-loop)
+    → (c .before .before .loop .g + 1) * (c .before .before .loop .g + 1)
+    ≤ c .before .before .before .args .hi * 2 ^ 46 + c .before .before .before .args .lo
 next c = not-above _ _ _ (c .before .above .ensures) (not-true _ (c .if1 .taken))
 
 add-g : tie.Need-add-g Inv-loop μ-loop

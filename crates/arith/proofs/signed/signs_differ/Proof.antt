@@ -25,13 +25,15 @@ returns : tie.Need-returns
 returns c =
     let n = c .before in
     let s = n .before .before in
-    yes-case _ _ _ _ (rw (back (s .args .a) (s .fits .a)) at (n .before .is-neg .ensures)) (rw (back (s .args .b) (s .fits .b)) at (n .is-neg2 .ensures)) (c .if1 .taken)
+    yes-case _ _ _ _ (rw (back (s .args .a) (s .fits .a)) at (n .before .is-neg .ensures)) (rw (back (s .args .b) (s .fits .b)) at (n .is-neg2 .ensures))
+    (c .if1 .taken)
 
 returns-2 : tie.Need-returns-2
 returns-2 c =
     let n = c .before in
     let s = n .before .before in
-    no-case _ _ _ _ (rw (back (s .args .a) (s .fits .a)) at (n .before .is-neg .ensures)) (rw (back (s .args .b) (s .fits .b)) at (n .is-neg2 .ensures)) (c .if1 .left)
+    no-case _ _ _ _ (rw (back (s .args .a) (s .fits .a)) at (n .before .is-neg .ensures)) (rw (back (s .args .b) (s .fits .b)) at (n .is-neg2 .ensures))
+    (c .if1 .left)
 
 pub signs-differ-spec : {M : Type 1} → statement M
 signs-differ-spec = tie.close (tie.spec is-neg-requires is-neg-requires-2 returns returns-2)

@@ -6,7 +6,7 @@ use lib.IntN.{pos, _+ℤ_}
 use borrow.Author.Needs.{needs}
 use Rattle.arith.proofs.Signs.{back}
 use Rattle.cosine.specs.machine.Prepared.{c-bias}
-use Rattle.cosine.proofs.Places.{biased-most, angle-is}
+use Rattle.cosine.proofs.TermAngle.{biased-most, angle-is}
 use Rattle.cosine.proofs.term.angle.Statement.{statement}
 use Rattle.cosine.proofs.term.angle.Tie as tie
 
@@ -62,7 +62,8 @@ returns : tie.Need-returns
 returns c =
     let d = c .before .before in
     let s = d .before in (
-      angle-is (s .args .p) (s .pre .0) (s .args .b) (s .args .c) (d .biased .result) (c .before .combined .result) (c .combined2 .result) (raised d) (c .before .combined .ensures .0) (c .combined2 .ensures .0),
+      angle-is (s .args .p) (s .pre .0) (s .args .b) (s .args .c) (d .biased .result) (c .before .combined .result) (c .combined2 .result) (raised d)
+          (c .before .combined .ensures .0) (c .combined2 .ensures .0),
       omega (arith, c .before .combined .ensures .1, c .combined2 .ensures .1, s .pre .1),
     )
 

@@ -6,7 +6,7 @@ use mir.Syntax.{w64}
 use mir.Val.{SFits, toZ, ofZ}
 use borrow.Author.Needs.{needs}
 use Rattle.arith.proofs.Signs.{back, ok}
-use Rattle.cosine.proofs.Places.{biased-fits, biased-low}
+use Rattle.cosine.proofs.TermAngle.{biased-fits, biased-low}
 use Rattle.cosine.proofs.term.biased.Statement.{statement}
 use Rattle.cosine.proofs.term.biased.Tie as tie
 

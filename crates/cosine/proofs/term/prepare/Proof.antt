@@ -5,7 +5,7 @@ use mir.Syntax.{w64}
 use mir.Val.{toZ, ofZ}
 use borrow.Author.Needs.{needs}
 use Rattle.units.specs.Units.{t-limit}
-use Rattle.cosine.proofs.Places.{biased-most, ready}
+use Rattle.cosine.proofs.TermAngle.{biased-most, ready}
 use Rattle.cosine.proofs.term.prepare.Statement.{statement}
 use Rattle.cosine.proofs.term.prepare.Tie as tie
 
@@ -43,8 +43,11 @@ returns : tie.Need-returns
 returns c =
     let e = c .before .before in
     let d = e .before in
-    let b = d .before .before .before in
-    (search needs, ready _ (b .biased .result) _ _ _ _ _ _ _ _ (b .biased .ensures) (d .before .before .times .ensures) (d .before .times2 .ensures) (d .times3 .ensures) (e .times4 .ensures))
+    let b = d .before .before .before in (
+      search needs,
+      ready _ (b .biased .result) _ _ _ _ _ _ _ _ (b .biased .ensures) (d .before .before .times .ensures) (d .before .times2 .ensures)
+          (d .times3 .ensures) (e .times4 .ensures),
+    )
 
 pub prepare-spec : {M : Type 1} → statement M
 prepare-spec =

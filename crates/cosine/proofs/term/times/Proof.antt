@@ -3,7 +3,7 @@ use native.Mathlib.Omega.{arith}
 use borrow.Author.Needs.{needs}
 use Prim.Native.Nat.{_<_}
 use Rattle.units.specs.Units.{turn}
-use Rattle.cosine.proofs.Places.{times-product}
+use Rattle.cosine.proofs.TermAngle.{times-product}
 use Rattle.cosine.proofs.term.times.Statement.{statement}
 use Rattle.cosine.proofs.term.times.Tie as tie
 

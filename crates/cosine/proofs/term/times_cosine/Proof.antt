@@ -6,7 +6,7 @@ use lib.IntN.{pos, _+ℤ_}
 use borrow.Author.Needs.{needs}
 use Rattle.units.specs.Units.{a-limit}
 use Rattle.arith.proofs.Signs.{back, ok}
-use Rattle.cosine.proofs.Places.{biased-most, times-cosine-high, times-cosine-low, times-cosine-is}
+use Rattle.cosine.proofs.TermAngle.{biased-most, times-cosine-high, times-cosine-low, times-cosine-is}
 use Rattle.cosine.proofs.term.times_cosine.Statement.{statement}
 use Rattle.cosine.proofs.term.times_cosine.Tie as tie
 
@@ -30,10 +30,18 @@ add-x : tie.Need-add-x
 add-x c = omega (arith, times-cosine-low (c .biased .result) (c .before .args .c) (c .before .pre .1))
 
 add-x-2 : tie.Need-add-x-2
-add-x-2 c = omega (arith, times-cosine-high (c .biased .result) (c .before .args .c) (top c) (c .before .pre .1), times-cosine-low (c .biased .result) (c .before .args .c) (c .before .pre .1))
+add-x-2 c = omega (
+  arith,
+  times-cosine-high (c .biased .result) (c .before .args .c) (top c) (c .before .pre .1),
+  times-cosine-low (c .biased .result) (c .before .args .c) (c .before .pre .1),
+)
 
 add-difference : tie.Need-add-difference
-add-difference c = omega (arith, times-cosine-high (c .biased .result) (c .before .args .c) (top c) (c .before .pre .1), times-cosine-low (c .biased .result) (c .before .args .c) (c .before .pre .1))
+add-difference c = omega (
+  arith,
+  times-cosine-high (c .biased .result) (c .before .args .c) (top c) (c .before .pre .1),
+  times-cosine-low (c .biased .result) (c .before .args .c) (c .before .pre .1),
+)
 
 mul-difference : tie.Need-mul-difference
 mul-difference c = search needs
@@ -42,10 +50,18 @@ add-difference-2 : tie.Need-add-difference-2
 add-difference-2 c = omega (arith, top c)
 
 difference-requires : tie.Need-difference-requires
-difference-requires c κs = (omega (arith, times-cosine-high (c .biased .result) (c .before .args .c) (top c) (c .before .pre .1), times-cosine-low (c .biased .result) (c .before .args .c) (c .before .pre .1)), omega (arith, top c))
+difference-requires c κs = (
+  omega (
+    arith,
+    times-cosine-high (c .biased .result) (c .before .args .c) (top c) (c .before .pre .1),
+    times-cosine-low (c .biased .result) (c .before .args .c) (c .before .pre .1),
+  ),
+  omega (arith, top c),
+)
 
 returns : tie.Need-returns
-returns c = back (c .difference .result) (ok (c .difference .ok)) ∙ c .difference .ensures ∙ times-cosine-is (c .before .before .args .a) (c .before .before .args .c) (c .before .biased .result) (whole (c .before))
+returns c = back (c .difference .result) (ok (c .difference .ok)) ∙ c .difference .ensures
+    ∙ times-cosine-is (c .before .before .args .a) (c .before .before .args .c) (c .before .biased .result) (whole (c .before))
 
 pub times-cosine-spec : {M : Type 1} → statement M
 times-cosine-spec =

@@ -1,7 +1,7 @@
 -- `cosine::working::biased_angle` meets its contract. Assumes nothing.
 use native.Mathlib.Omega.{arith}
 use borrow.Author.Needs.{needs}
-use Rattle.cosine.proofs.Natural.{quarters-value, biased-angle-is, biased-angle-range}
+use Rattle.cosine.proofs.NaturalSteps.{quarters-value, biased-angle-is, biased-angle-range}
 use Rattle.cosine.proofs.working.biased_angle.Statement.{statement}
 use Rattle.cosine.proofs.working.biased_angle.Tie as tie
 

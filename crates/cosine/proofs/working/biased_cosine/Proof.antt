@@ -1,7 +1,7 @@
 -- `cosine::working::biased_cosine` meets its contract. Assumes nothing.
 use native.Mathlib.Omega.{arith}
 use borrow.Author.Needs.{needs}
-use Rattle.cosine.proofs.Natural.{in-0, in-1, in-2, in-3, odd-small}
+use Rattle.cosine.proofs.NaturalSteps.{in-0, in-1, in-2, in-3, odd-small}
 use Rattle.cosine.proofs.working.biased_cosine.Statement.{statement}
 use Rattle.cosine.proofs.working.biased_cosine.Tie as tie
 
@@ -21,8 +21,10 @@ sub-result c = search needs
 
 returns-2 : tie.Need-returns-2
 returns-2 c =
-    let s = c .before .before .before in
-    (in-2 (s .args .k) (s .args .v) (s .args .y) _ (omega arith) (s .pre .2) (c .before .even-series .ensures .0) (c .before .even-series .ensures .1), omega arith)
+    let s = c .before .before .before in (
+      in-2 (s .args .k) (s .args .v) (s .args .y) _ (omega arith) (s .pre .2) (c .before .even-series .ensures .0) (c .before .even-series .ensures .1),
+      omega arith,
+    )
 
 odd-series-requires : tie.Need-odd-series-requires
 odd-series-requires c κs = search needs
@@ -52,8 +54,10 @@ sub-result-3 c = search needs
 
 returns-4 : tie.Need-returns-4
 returns-4 c =
-    let s = c .before .before .before in
-    (in-3 (s .args .k) (s .args .v) (s .args .y) _ (omega arith) (s .pre .2) (c .before .odd-series .ensures .0) (c .before .odd-series .ensures .1), omega (arith, odd-small _ (c .before .odd-series .result) (c .before .before .before .pre .1)))
+    let s = c .before .before .before in (
+      in-3 (s .args .k) (s .args .v) (s .args .y) _ (omega arith) (s .pre .2) (c .before .odd-series .ensures .0) (c .before .odd-series .ensures .1),
+      omega (arith, odd-small _ (c .before .odd-series .result) (c .before .before .before .pre .1)),
+    )
 
 pub biased-cosine-spec : {M : Type 1} → statement M
 biased-cosine-spec =

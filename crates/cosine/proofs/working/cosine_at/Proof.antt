@@ -2,7 +2,7 @@
 use mathlib.Core.Path.{_∙_}
 use borrow.Author.Needs.{needs}
 use Rattle.arith.proofs.Signs.{back, ok}
-use Rattle.cosine.proofs.Natural.{unbiased, cosine-from}
+use Rattle.cosine.proofs.NaturalSteps.{unbiased, cosine-from}
 use Rattle.cosine.proofs.working.cosine_at.Statement.{statement}
 use Rattle.cosine.proofs.working.cosine_at.Tie as tie
 
@@ -26,7 +26,8 @@ returns c =
     let l = c .before in
     let v = l .before .before in
     back (c .difference .result) (ok (c .difference .ok)) ∙ c .difference .ensures ∙ unbiased (l .biased-cosine .result) _ (l .biased-cosine .ensures .0)
-    ∙ cosine-from (v .before .before .args .x) (v .before .quarters .result) (v .biased-angle .result) (v .before .quarters .ensures) (v .biased-angle .ensures .0)
+    ∙ cosine-from (v .before .before .args .x) (v .before .quarters .result) (v .biased-angle .result) (v .before .quarters .ensures)
+    (v .biased-angle .ensures .0)
 
 pub cosine-at-spec : {M : Type 1} → statement M
 cosine-at-spec =

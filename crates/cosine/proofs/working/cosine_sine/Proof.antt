@@ -2,7 +2,7 @@
 use mathlib.Core.Path.{_∙_}
 use borrow.Author.Needs.{needs}
 use Rattle.arith.proofs.Signs.{back, ok}
-use Rattle.cosine.proofs.Natural.{unbiased, cosine-from, sine-from}
+use Rattle.cosine.proofs.NaturalSteps.{unbiased, cosine-from, sine-from}
 use Rattle.cosine.proofs.working.cosine_sine.Statement.{statement}
 use Rattle.cosine.proofs.working.cosine_sine.Tie as tie
 
@@ -38,8 +38,11 @@ returns c =
     let v = l .before .before in
     let x = v .before .before .args .x in
     let q = v .before .quarters in (
-      back (d .difference .result) (ok (d .difference .ok)) ∙ d .difference .ensures ∙ unbiased (l .biased-cosine .result) _ (l .biased-cosine .ensures .0) ∙ cosine-from x (q .result) (v .biased-angle .result) (q .ensures) (v .biased-angle .ensures .0),
-      back (c .difference2 .result) (ok (c .difference2 .ok)) ∙ c .difference2 .ensures ∙ unbiased (m .biased-cosine2 .result) _ (m .biased-cosine2 .ensures .0) ∙ sine-from x (q .result) (v .biased-angle .result) (q .ensures) (v .biased-angle .ensures .0),
+      back (d .difference .result) (ok (d .difference .ok)) ∙ d .difference .ensures ∙ unbiased (l .biased-cosine .result) _ (l .biased-cosine .ensures .0)
+          ∙ cosine-from x (q .result) (v .biased-angle .result) (q .ensures) (v .biased-angle .ensures .0),
+      back (c .difference2 .result) (ok (c .difference2 .ok)) ∙ c .difference2 .ensures
+          ∙ unbiased (m .biased-cosine2 .result) _ (m .biased-cosine2 .ensures .0)
+          ∙ sine-from x (q .result) (v .biased-angle .result) (q .ensures) (v .biased-angle .ensures .0),
     )
 
 pub cosine-sine-spec : {M : Type 1} → statement M

@@ -16,8 +16,10 @@ wide-requires-2 : tie.Need-wide-requires-2
 wide-requires-2 c κs = search needs
 
 -- what `sub` is given
-given : (c : tie.After-wide2) → toZ w64 (ofZ w64 (c .before .wide .result)) -ℤ toZ w64 (ofZ w64 (c .wide2 .result)) ≡ pos (c .before .before .args .a) -ℤ pos (c .before .before .args .b)
-given c = ap₂ _-ℤ_ (back (c .before .wide .result) (ok (c .before .wide .ok)) ∙ c .before .wide .ensures) (back (c .wide2 .result) (ok (c .wide2 .ok)) ∙ c .wide2 .ensures)
+given : (c : tie.After-wide2) → toZ w64 (ofZ w64 (c .before .wide .result)) -ℤ toZ w64 (ofZ w64 (c .wide2 .result))
+    ≡ pos (c .before .before .args .a) -ℤ pos (c .before .before .args .b)
+given c = ap₂ _-ℤ_ (back (c .before .wide .result) (ok (c .before .wide .ok)) ∙ c .before .wide .ensures) (back (c .wide2 .result) (ok (c .wide2 .ok))
+    ∙ c .wide2 .ensures)
 
 sub-requires : tie.Need-sub-requires
 sub-requires c κs = subst (λ t. SFits w64 t) (sym (given c)) (nat-difference-fits _ _ (c .before .before .pre .0) (c .before .before .pre .1))

@@ -1,7 +1,7 @@
 -- `cosine::working::first` meets its contract. Assumes nothing.
 use native.Mathlib.Omega.{arith}
 use borrow.Author.Needs.{needs}
-use Rattle.cosine.proofs.Natural.{first-small, first-is}
+use Rattle.cosine.proofs.NaturalSteps.{first-small, first-is}
 use Rattle.cosine.proofs.working.first.Statement.{statement}
 use Rattle.cosine.proofs.working.first.Tie as tie
 

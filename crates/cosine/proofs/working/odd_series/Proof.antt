@@ -1,7 +1,7 @@
 -- `cosine::working::odd_series` meets its contract. Assumes nothing.
 use Prim.Native.Nat.{_*_}
 use borrow.Author.Needs.{needs}
-use Rattle.cosine.proofs.Natural.{six}
+use Rattle.cosine.proofs.NaturalSteps.{six}
 use Rattle.cosine.proofs.working.odd_series.Statement.{statement}
 use Rattle.cosine.proofs.working.odd_series.Tie as tie
 

@@ -1,6 +1,6 @@
 -- `cosine::working::quarters` meets its contract. Assumes nothing.
 use borrow.Author.Needs.{needs}
-use Rattle.cosine.proofs.Natural.{quarters-is}
+use Rattle.cosine.proofs.NaturalSteps.{quarters-is}
 use Rattle.cosine.proofs.working.quarters.Statement.{statement}
 use Rattle.cosine.proofs.working.quarters.Tie as tie
 

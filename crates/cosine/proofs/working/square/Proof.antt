@@ -1,7 +1,7 @@
 -- `cosine::working::square` meets its contract. Assumes nothing.
 use native.Mathlib.Omega.{arith}
 use borrow.Author.Needs.{needs}
-use Rattle.cosine.proofs.Natural.{square-low, square-high, square-is}
+use Rattle.cosine.proofs.NaturalSteps.{square-low, square-high, square-is}
 use Rattle.cosine.proofs.working.square.Statement.{statement}
 use Rattle.cosine.proofs.working.square.Tie as tie
 

@@ -2,7 +2,7 @@
 use native.Mathlib.Omega.{arith}
 use native.Mathlib.Nat.{mul-le-mul}
 use borrow.Author.Needs.{needs}
-use Rattle.cosine.proofs.Natural.{step-small, step-is}
+use Rattle.cosine.proofs.NaturalSteps.{step-small, step-is}
 use Rattle.cosine.proofs.working.step.Statement.{statement}
 use Rattle.cosine.proofs.working.step.Tie as tie
 

@@ -1,81 +1,90 @@
 -- `nutation::moon::arguments_at` meets its contract. Assumes nothing.
 use mathlib.Core.Path.{_≡_, _∙_, sym, ap, subst}
-use Prim.Native.Nat.{_+_, _*_, _≤_, _<_}
+use mathlib.Core.List.{List}
+use Prim.Native.Nat.{_≤_}
 use lib.Dec.{lit<}
-use lib.IntN.{ℤ, pos, negsuc, natAbs, _+ℤ_, _*ℤ_}
+use lib.IntN.{ℤ, natAbs}
 use mir.Syntax.{w64}
-use mir.Val.{toZ, ofZ}
+use mir.Val.{SFits}
+use borrow.Author.Needs.{needs}
+use Rattle.arith.proofs.Cells.{Cell}
 use Rattle.arith.proofs.Signs.{back, ok}
-use mathlib.Core.List.{[], _∷_}
-use Rattle.integers.specs.Division.{rounded}
-use Rattle.units.specs.Units.{millennium}
-use Rattle.nutation.specs.Nutation.{polynomial, mean-elongation, sun-anomaly, moon-anomaly, latitude-argument, moon-node}
+use Rattle.units.specs.Units.{t-limit}
+use Rattle.nutation.specs.Nutation.{argument, mean-elongation, sun-anomaly, moon-anomaly, latitude-argument, moon-node}
 use Rattle.nutation.specs.machine.Reduced.{reach, less-turns}
-use Rattle.nutation.proofs.Polynomials.{highest}
 use Rattle.nutation.proofs.moon.arguments_at.Statement.{statement}
 use Rattle.nutation.proofs.moon.arguments_at.Tie as tie
 
+-- the time that each call is given, and the argument that it gives
+time : (s : tie.Start) → natAbs (Cell (s .args .t)) ≤ t-limit
+time s = subst (λ z. natAbs z ≤ t-limit) (sym (back (s .args .t) (s .fits .t))) (s .pre)
+
+found : (s : tie.Start) (cs : List ℤ) {r : ℤ} → SFits w64 r → r ≡ less-turns (argument (Cell (s .args .t)) cs) → Cell r ≡ less-turns (argument (s .args .t) cs)
+found s cs {r} f e = back r f ∙ e ∙ ap (λ z. less-turns (argument z cs)) (back (s .args .t) (s .fits .t))
+
+slice-aggregate-argument-at : tie.Need-slice-aggregate-argument-at
+slice-aggregate-argument-at c = search needs
+
 argument-at-requires : tie.Need-argument-at-requires
 unfolding reach
-argument-at-requires c κs = let s = c in (subst (λ z. natAbs z ≤ 63115200000000) (sym (back (s .args .t) (s .fits .t))) (s .pre), lit< tt)
+argument-at-requires c κs = (time (c .before), lit< tt)
+
+slice-aggregate-argument-at-2 : tie.Need-slice-aggregate-argument-at-2
+slice-aggregate-argument-at-2 c = search needs
 
 argument-at-requires-2 : tie.Need-argument-at-requires-2
 unfolding reach
-argument-at-requires-2 c κs = let s = c .before in (subst (λ z. natAbs z ≤ 63115200000000) (sym (back (s .args .t) (s .fits .t))) (s .pre), lit< tt)
+argument-at-requires-2 c κs = (time (c .before .before .before), lit< tt)
+
+slice-aggregate-argument-at-3 : tie.Need-slice-aggregate-argument-at-3
+slice-aggregate-argument-at-3 c = search needs
 
 argument-at-requires-3 : tie.Need-argument-at-requires-3
 unfolding reach
-argument-at-requires-3 c κs = let s = c .before .before in (subst (λ z. natAbs z ≤ 63115200000000) (sym (back (s .args .t) (s .fits .t))) (s .pre), lit< tt)
+argument-at-requires-3 c κs = (time (c .before .before .before .before .before), lit< tt)
+
+slice-aggregate-argument-at-4 : tie.Need-slice-aggregate-argument-at-4
+slice-aggregate-argument-at-4 c = search needs
 
 argument-at-requires-4 : tie.Need-argument-at-requires-4
 unfolding reach
-argument-at-requires-4 c κs = let s = c .before .before .before in (subst (λ z. natAbs z ≤ 63115200000000) (sym (back (s .args .t) (s .fits .t))) (s .pre), lit< tt)
+argument-at-requires-4 c κs = (time (c .before .before .before .before .before .before .before), lit< tt)
+
+slice-aggregate-argument-at-5 : tie.Need-slice-aggregate-argument-at-5
+slice-aggregate-argument-at-5 c = search needs
 
 argument-at-requires-5 : tie.Need-argument-at-requires-5
 unfolding reach
-argument-at-requires-5 c κs = let s = c .before .before .before .before in (subst (λ z. natAbs z ≤ 63115200000000) (sym (back (s .args .t) (s .fits .t))) (s .pre), lit< tt)
-
--- M has no fourth power
-no-fourth : (t : ℤ) → polynomial (pos 10 *ℤ t) millennium (pos 14700 ∷ pos 0 ∷ []) ≡ polynomial (pos 10 *ℤ t) millennium (pos 14700 ∷ [])
-unfolding polynomial
-no-fourth t = ap (λ z. pos 14700 +ℤ rounded (z *ℤ (pos 10 *ℤ t)) millennium) (highest (pos 10 *ℤ t) millennium (lit< tt) (pos 0))
-
-at-1 : (c : tie.After-argument-at) → toZ w64 (ofZ w64 (c .argument-at .result)) ≡ less-turns (mean-elongation (c .before .args .t))
-unfolding mean-elongation polynomial
-at-1 c = let s = c .before in back (c .argument-at .result) (ok (c .argument-at .ok)) ∙ rw (back (s .args .t) (s .fits .t)) at (c .argument-at .ensures)
-
-at-2 : (c : tie.After-argument-at2) → toZ w64 (ofZ w64 (c .argument-at2 .result)) ≡ less-turns (sun-anomaly (c .before .before .args .t))
-unfolding sun-anomaly polynomial
-at-2 c = let s = c .before .before in back (c .argument-at2 .result) (ok (c .argument-at2 .ok)) ∙ rw (back (s .args .t) (s .fits .t)) at (c .argument-at2 .ensures) ∙ ap (λ z. less-turns (pos 128710479304800 +ℤ rounded ((pos 12959658104740000 +ℤ rounded ((negsuc 55289999 +ℤ rounded (z *ℤ (pos 10 *ℤ s .args .t)) millennium) *ℤ (pos 10 *ℤ s .args .t)) millennium) *ℤ (pos 10 *ℤ s .args .t)) millennium)) (no-fourth (s .args .t))
-
-at-3 : (c : tie.After-argument-at3) → toZ w64 (ofZ w64 (c .argument-at3 .result)) ≡ less-turns (moon-anomaly (c .before .before .before .args .t))
-unfolding moon-anomaly polynomial
-at-3 c = let s = c .before .before .before in back (c .argument-at3 .result) (ok (c .argument-at3 .ok)) ∙ rw (back (s .args .t) (s .fits .t)) at (c .argument-at3 .ensures)
-
-at-4 : (c : tie.After-argument-at4) → toZ w64 (ofZ w64 (c .argument-at4 .result)) ≡ less-turns (latitude-argument (c .before .before .before .before .args .t))
-unfolding latitude-argument polynomial
-at-4 c = let s = c .before .before .before .before in back (c .argument-at4 .result) (ok (c .argument-at4 .ok)) ∙ rw (back (s .args .t) (s .fits .t)) at (c .argument-at4 .ensures)
-
-at-5 : (c : tie.After-argument-at5) → toZ w64 (ofZ w64 (c .argument-at5 .result)) ≡ less-turns (moon-node (c .before .before .before .before .before .args .t))
-unfolding moon-node polynomial
-at-5 c = let s = c .before .before .before .before .before in back (c .argument-at5 .result) (ok (c .argument-at5 .ok)) ∙ rw (back (s .args .t) (s .fits .t)) at (c .argument-at5 .ensures)
+argument-at-requires-5 c κs = (time (c .before .before .before .before .before .before .before .before .before), lit< tt)
 
 returns : tie.Need-returns
-returns c = record {
-  elongation-at = at-1 (c .before .before .before .before);
-  sun-at = at-2 (c .before .before .before);
-  moon-at = at-3 (c .before .before);
-  latitude-at = at-4 (c .before);
-  node-at = at-5 c;
-}
+unfolding mean-elongation sun-anomaly moon-anomaly latitude-argument moon-node
+returns c =
+    let f = c .before .before in
+    let m = f .before .before in
+    let d = m .before .before in
+    let e = d .before .before in
+    let s = e .before .before in
+    record {
+      elongation-at = found s _ (ok (e .argument-at .ok)) (e .argument-at .ensures);
+      sun-at = found s _ (ok (d .argument-at2 .ok)) (d .argument-at2 .ensures);
+      moon-at = found s _ (ok (m .argument-at3 .ok)) (m .argument-at3 .ensures);
+      latitude-at = found s _ (ok (f .argument-at4 .ok)) (f .argument-at4 .ensures);
+      node-at = found s _ (ok (c .argument-at5 .ok)) (c .argument-at5 .ensures);
+    }
 
 pub arguments-at-spec : {M : Type 1} → statement M
 arguments-at-spec =
     tie.close
     (tie.spec
+    slice-aggregate-argument-at
     argument-at-requires
+    slice-aggregate-argument-at-2
     argument-at-requires-2
+    slice-aggregate-argument-at-3
     argument-at-requires-3
+    slice-aggregate-argument-at-4
     argument-at-requires-4
+    slice-aggregate-argument-at-5
     argument-at-requires-5
     returns)

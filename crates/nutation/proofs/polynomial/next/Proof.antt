@@ -5,6 +5,7 @@ use native.Mathlib.Omega.{arith}
 use lib.IntN.{natAbs, _+ℤ_, _*ℤ_}
 use Rattle.integers.specs.Division.{rounded}
 use Rattle.arith.proofs.Signs.{back, ok}
+use Rattle.nutation.specs.machine.Reduced.{centuries}
 use Rattle.nutation.proofs.Polynomials.{room, step-fits}
 use Rattle.nutation.proofs.polynomial.next.Statement.{statement}
 use Rattle.nutation.proofs.polynomial.next.Tie as tie
@@ -12,10 +13,14 @@ use Rattle.nutation.proofs.polynomial.next.Tie as tie
 mul-div-round-requires : tie.Need-mul-div-round-requires
 mul-div-round-requires c κs =
     let b = c .pre .0 in
-    rw (back (c .args .n) (c .fits .n), back (c .args .v) (c .fits .v))
-    (b .positive, b .divisor, b .factor, room (natAbs (c .args .v)) (natAbs (c .args .n)) (c .args .d) (2 ^ 63 - 1) (b .positive) (b .ratio) (more _ _ (c .pre .1)))
+    rw (back (c .args .n) (c .fits .n), back (c .args .v) (c .fits .v)) (
+      b .positive,
+      b .divisor,
+      b .factor,
+      room (natAbs (c .args .v)) (natAbs (c .args .n)) (c .args .d) (2 ^ 63 - 1) (b .positive) (b .ratio) (more _ _ (c .pre .1)),
+    )
   where
-    more : (a v : ℕ) → a + 20 * v < 2 ^ 63 - 1 → 20 * v < 2 ^ 63 - 1
+    more : (a v : ℕ) → a + centuries * v < 2 ^ 63 - 1 → centuries * v < 2 ^ 63 - 1
     more a v h = omega arith
 
 product : (c : tie.After-mul-div-round) → c .mul-div-round .result ≡ rounded (c .before .args .v *ℤ c .before .args .n) (c .before .args .d)

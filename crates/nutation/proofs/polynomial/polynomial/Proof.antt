@@ -1,81 +1,86 @@
 -- `nutation::polynomial::polynomial` meets its contract. Assumes nothing.
-use mathlib.Core.Path.{_≡_, _∙_, sym}
-use mathlib.Core.List.{[], _∷_}
-use Prim.Native.Nat.{_-_, _^_, _<_}
+use mathlib.Core.Path.{_≡_, _∙_, sym, ap, subst}
+use Prim.Native.Nat.{_+_, _-_, _*_, _^_, _<_}
+use native.Mathlib.Omega.{arith}
+use lib.IntN.{pos, natAbs, _+ℤ_, _*ℤ_}
+use lib.ListN.{getD}
+use mir.Syntax.{w64}
+use mir.Val.{toZ}
+use borrow.Author.Needs.{needs}
+use Rattle.integers.specs.Division.{rounded}
+use Rattle.arith.proofs.Cells.{Cell, cell}
 use Rattle.arith.proofs.Signs.{back, ok}
 use Rattle.nutation.specs.Nutation.{polynomial}
-use Rattle.nutation.specs.machine.Reduced.{reach}
-use Rattle.nutation.proofs.Polynomials.{chain, asks, less-reach, highest}
+use Rattle.nutation.specs.machine.Reduced.{By, centuries}
+use Rattle.nutation.proofs.Polynomials.{WorkedDown, worked-none, worked-more, worked-all, worked-asks}
 use Rattle.nutation.proofs.polynomial.polynomial.Statement.{statement}
 use Rattle.nutation.proofs.polynomial.polynomial.Tie as tie
 
--- the reach of what is left, after each coefficient
-reach-1 : (s : tie.Start) → reach (s .args .c1 ∷ s .args .c2 ∷ s .args .c3 ∷ s .args .c4 ∷ []) < 2 ^ 63 - 1
-reach-1 s = less-reach (s .args .c0) _ (s .pre .1)
+abbrev Inv-loop : tie.InvT-loop
+Inv-loop n d c v₀ i₀ v i = WorkedDown (toZ w64 n) d c (toZ w64 v) i
 
-reach-2 : (s : tie.Start) → reach (s .args .c2 ∷ s .args .c3 ∷ s .args .c4 ∷ []) < 2 ^ 63 - 1
-reach-2 s = less-reach (s .args .c1) _ (reach-1 s)
+abbrev μ-loop : tie.MeasureT-loop
+μ-loop n d c v₀ i₀ v i = i
 
-reach-3 : (s : tie.Start) → reach (s .args .c3 ∷ s .args .c4 ∷ []) < 2 ^ 63 - 1
-reach-3 s = less-reach (s .args .c2) _ (reach-2 s)
+loop-holds : tie.Need-loop-holds Inv-loop μ-loop
+loop-holds c = worked-none _ _ _
 
--- the value after each call
-value-4 : (s : tie.Start) → s .args .c4 ≡ polynomial (s .args .n) (s .args .d) (s .args .c4 ∷ [])
-value-4 s = sym (highest (s .args .n) (s .args .d) (s .pre .0 .positive) (s .args .c4))
+sub-i : tie.Need-sub-i Inv-loop μ-loop
+sub-i c = omega arith
 
-next-requires : tie.Need-next-requires
+mul-next : tie.Need-mul-next Inv-loop μ-loop
+mul-next c = search needs
+
+shared-slice-copy-out-next : tie.Need-shared-slice-copy-out-next Inv-loop μ-loop
+shared-slice-copy-out-next c = omega arith
+
+-- the coefficient that is read, and what the step asks for
+asked : (c : tie.After-next-arg Inv-loop μ-loop) → (let l = c .before .before in let s = l .before in
+    natAbs (getD (s .args .c .now) (l .loop .i - 1) (pos 0)) + centuries * natAbs (toZ w64 (l .loop .v)) < 2 ^ 63 - 1)
+asked c =
+    let l = c .before .before in
+    let s = l .before in
+    worked-asks (Cell (s .args .n)) (s .args .d) (s .args .c .now) (toZ w64 (l .loop .v)) (l .loop .i)
+    (subst (λ z. By z (s .args .d)) (sym (back (s .args .n) (s .fits .n))) (s .pre .0)) (s .pre .1) (omega arith) (l .loop .inv)
+
+read : (c : tie.After-next-arg Inv-loop μ-loop) → (let l = c .before .before in let s = l .before in
+    Cell (getD (s .args .c .now) (l .loop .i - 1) (pos 0)) ≡ getD (s .args .c .now) (l .loop .i - 1) (pos 0))
+read c = cell _ (omega (arith, asked c))
+
+next-requires : tie.Need-next-requires Inv-loop μ-loop
 next-requires c κs =
-    rw (back (c .args .n) (c .fits .n), back (c .args .c3) (c .fits .c3), back (c .args .c4) (c .fits .c4))
-    (c .pre .0, asks (c .args .n) (c .args .d) (c .pre .0) (c .args .c3) (c .args .c4) _ (reach-3 c) (value-4 c))
-
-value-3 : (c : tie.After-next) → c .next .result ≡ polynomial (c .before .args .n) (c .before .args .d) (c .before .args .c3 ∷ c .before .args .c4 ∷ [])
-value-3 c =
-    let s = c .before in
-    chain (s .args .n) (s .args .d) (s .args .c3) (s .args .c4) (c .next .result) _
-    (rw (back (s .args .n) (s .fits .n), back (s .args .c3) (s .fits .c3), back (s .args .c4) (s .fits .c4)) at (c .next .ensures))
-    (value-4 s)
-
-next-requires-2 : tie.Need-next-requires-2
-next-requires-2 c κs =
-    let s = c .before in
-    rw (back (s .args .n) (s .fits .n), back (s .args .c2) (s .fits .c2), back (c .next .result) (ok (c .next .ok)))
-    (s .pre .0, asks (s .args .n) (s .args .d) (s .pre .0) (s .args .c2) (c .next .result) _ (reach-2 s) (value-3 c))
-
-value-2 : (c : tie.After-next2) → c .next2 .result ≡ polynomial (c .before .before .args .n) (c .before .before .args .d) (c .before .before .args .c2 ∷ c .before .before .args .c3 ∷ c .before .before .args .c4 ∷ [])
-value-2 c =
-    let s = c .before .before in
-    chain (s .args .n) (s .args .d) (s .args .c2) (c .before .next .result) (c .next2 .result) _
-    (rw (back (s .args .n) (s .fits .n), back (s .args .c2) (s .fits .c2), back (c .before .next .result) (ok (c .before .next .ok))) at (c .next2 .ensures))
-    (value-3 (c .before))
-
-next-requires-3 : tie.Need-next-requires-3
-next-requires-3 c κs =
-    let s = c .before .before in
-    rw (back (s .args .n) (s .fits .n), back (s .args .c1) (s .fits .c1), back (c .next2 .result) (ok (c .next2 .ok)))
-    (s .pre .0, asks (s .args .n) (s .args .d) (s .pre .0) (s .args .c1) (c .next2 .result) _ (reach-1 s) (value-2 c))
-
-value-1 : (c : tie.After-next3)
-    → c .next3 .result ≡ polynomial (c .before .before .before .args .n) (c .before .before .before .args .d) (c .before .before .before .args .c1 ∷ c .before .before .before .args .c2 ∷ c .before .before .before .args .c3 ∷ c .before .before .before .args .c4 ∷ [])
-value-1 c =
     let s = c .before .before .before in
-    chain (s .args .n) (s .args .d) (s .args .c1) (c .before .next2 .result) (c .next3 .result) _
-    (rw (back (s .args .n) (s .fits .n), back (s .args .c1) (s .fits .c1), back (c .before .next2 .result) (ok (c .before .next2 .ok))) at (c .next3 .ensures))
-    (value-2 (c .before))
+    (subst (λ z. By z (s .args .d)) (sym (back (s .args .n) (s .fits .n))) (s .pre .0), rw (read c) (asked c))
 
-next-requires-4 : tie.Need-next-requires-4
-next-requires-4 c κs =
-    let s = c .before .before .before in
-    rw (back (s .args .n) (s .fits .n), back (s .args .c0) (s .fits .c0), back (c .next3 .result) (ok (c .next3 .ok)))
-    (s .pre .0, asks (s .args .n) (s .args .d) (s .pre .0) (s .args .c0) (c .next3 .result) _ (s .pre .1) (value-1 c))
+loop-less : tie.Need-loop-less Inv-loop μ-loop
+loop-less c = omega arith
 
-returns : tie.Need-returns
+loop-again : tie.Need-loop-again Inv-loop μ-loop
+loop-again c =
+    let a = c .before in
+    let l = a .before .before in
+    let s = l .before in
+    worked-more (Cell (s .args .n)) (s .args .d) (s .args .c .now) (toZ w64 (l .loop .v)) _ (l .loop .i) (omega arith) (l .loop .inv)
+    (back (c .next .result) (ok (c .next .ok)) ∙ c .next .ensures ∙ ap (λ z. z +ℤ rounded (toZ w64 (l .loop .v) *ℤ Cell (s .args .n)) (s .args .d)) (read a))
+
+returns : tie.Need-returns Inv-loop μ-loop
 returns c =
-    let s = c .before .before .before .before in
-    back (c .next4 .result) (ok (c .next4 .ok))
-    ∙ chain (s .args .n) (s .args .d) (s .args .c0) (c .before .next3 .result) (c .next4 .result) _
-    (rw (back (s .args .n) (s .fits .n), back (s .args .c0) (s .fits .c0), back (c .before .next3 .result) (ok (c .before .next3 .ok))) at (c .next4 .ensures))
-    (value-1 (c .before))
+    let l = c .before in
+    let s = l .before in
+    worked-all (Cell (s .args .n)) (s .args .d) (s .args .c .now) (toZ w64 (l .loop .v)) (l .loop .i) (omega arith) (l .loop .inv)
+    ∙ ap (λ z. polynomial z (s .args .d) (s .args .c .now)) (back (s .args .n) (s .fits .n))
 
 pub polynomial-spec : {M : Type 1} → statement M
 polynomial-spec =
-    tie.close (tie.spec next-requires next-requires-2 next-requires-3 next-requires-4 returns)
+    tie.close
+    (tie.spec
+    Inv-loop
+    μ-loop
+    loop-holds
+    sub-i
+    mul-next
+    shared-slice-copy-out-next
+    next-requires
+    loop-less
+    loop-again
+    returns)

@@ -36,7 +36,8 @@ at-add c =
 returns : tie.Need-returns
 returns c =
     let s = c .before .before in
-    rw (back (c .add .result) (ok (c .add .ok))) (at-add c, sum-small (s .args .s) (s .args .m) (s .args .a) (c .add .result) (s .pre .1) (s .pre .2) (at-add c))
+    rw (back (c .add .result) (ok (c .add .ok)))
+    (at-add c, sum-small (s .args .s) (s .args .m) (s .args .a) (c .add .result) (s .pre .1) (s .pre .2) (at-add c))
 
 pub plus-product-spec : {M : Type 1} → statement M
 plus-product-spec = tie.close (tie.spec mul-requires add-requires returns)

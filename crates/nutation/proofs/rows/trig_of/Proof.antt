@@ -47,15 +47,20 @@ cosine-sine-requires : tie.Need-cosine-sine-requires
 cosine-sine-requires c κs = subst (λ z. mag z < 2 ^ 63) (sym (at-low c)) (c .before .units-angle .ok)
 
 split : (c : tie.After-residue) → pos argument-turn *ℤ floor (c .before .args .s) argument-turn +ℤ pos (c .residue .result) ≡ c .before .args .s
-split c = ap (λ (n : ℕ). pos argument-turn *ℤ floor (c .before .args .s) argument-turn +ℤ pos n) (at-residue c) ∙ floor-modulo (c .before .args .s) argument-turn (lit< tt)
+split c = ap (λ (n : ℕ). pos argument-turn *ℤ floor (c .before .args .s) argument-turn +ℤ pos n) (at-residue c)
+    ∙ floor-modulo (c .before .args .s) argument-turn (lit< tt)
 
 returns : tie.Need-returns
 returns c =
     let l = c .before in
     let u = l .before in
     let m = u .before .before in
-    let e = at-low l ∙ at-angle u in
-    (c .cosine-sine .ensures .0 ∙ ap cosine e ∙ cosine-left (floor (m .before .args .s) argument-turn) (pos (m .residue .result)) (m .before .args .s) (split m), c .cosine-sine .ensures .1 ∙ ap sine e ∙ sine-left (floor (m .before .args .s) argument-turn) (pos (m .residue .result)) (m .before .args .s) (split m))
+    let e = at-low l ∙ at-angle u in (
+      c .cosine-sine .ensures .0 ∙ ap cosine e
+          ∙ cosine-left (floor (m .before .args .s) argument-turn) (pos (m .residue .result)) (m .before .args .s) (split m),
+      c .cosine-sine .ensures .1
+          ∙ ap sine e ∙ sine-left (floor (m .before .args .s) argument-turn) (pos (m .residue .result)) (m .before .args .s) (split m),
+    )
 
 pub trig-of-spec : {M : Type 1} → statement M
 trig-of-spec =

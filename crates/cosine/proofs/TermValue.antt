@@ -12,9 +12,9 @@ use Rattle.integers.proofs.Order.{natAbs-sub, fits}
 use Rattle.units.specs.Units.{U, turn, quarter, angle-step, a-limit}
 use Rattle.cosine.specs.Cosine.{q-of, w-of, even-part, odd-part, cosine-by}
 use Rattle.cosine.specs.Terms.{term-angle, term-value}
-use Rattle.cosine.specs.machine.Parity.{even-value, odd-value, half-value}
-use Rattle.cosine.proofs.Natural.{cosine-from}
-use Rattle.cosine.proofs.Places.{value-is}
+use Rattle.cosine.specs.machine.Parity.{even-value, odd-value, value-by-parity}
+use Rattle.cosine.proofs.NaturalSteps.{cosine-from}
+use Rattle.cosine.proofs.TermAngle.{value-is}
 
 -- the amplitude turned about
 pub minus-fits : (a : ℤ) → natAbs a < a-limit → SFits w64 (pos 0 -ℤ a)
@@ -25,8 +25,8 @@ minus-is a = +ℤ-idl (negℤ a)
 
 -- by the quarter k: the amplitude takes the sign, and the parity says which part
 signed-value : (k : ℕ) (a s : ℤ) (v : ℕ) → k < 4 → (k < 2 → s ≡ a) → (2 ≤ k → s ≡ negℤ a)
-    → half-value (k % 2) s v ≡ rounded (a *ℤ cosine-by negℤ k (even-part (pos v -ℤ pos U)) (odd-part (pos v -ℤ pos U))) U
-unfolding half-value even-value odd-value cosine-by
+    → value-by-parity (k % 2) s v ≡ rounded (a *ℤ cosine-by negℤ k (even-part (pos v -ℤ pos U)) (odd-part (pos v -ℤ pos U))) U
+unfolding value-by-parity even-value odd-value cosine-by
 signed-value zero a s v h f g = ap (λ z. rounded (z *ℤ even-part (pos v -ℤ pos U)) U) (f (omega arith))
 signed-value (suc zero) a s v h f g = ap (λ z. rounded (z *ℤ negℤ (odd-part (pos v -ℤ pos U))) U) (f (omega arith))
 signed-value (suc (suc zero)) a s v h f g =
@@ -41,10 +41,11 @@ signed-value (suc (suc (suc zero))) a s v h f g =
     both a o = ring! (a ∷ o ∷ []) (search polys depth 60 fits 100000) tt
 signed-value (suc (suc (suc (suc k)))) a s v h f g = absurd (omega arith)
 
-pub worked-is : (a : ℤ) (b : ℕ) (c t s : ℤ) (x q v : ℕ) → modulo (pos x) turn ≡ term-angle b c t → pos q ≡ q-of quarter (pos x) → pos v ≡ pos U +ℤ w-of quarter angle-step (pos x)
-    → (q % 4 < 2 → s ≡ a) → (2 ≤ q % 4 → s ≡ negℤ a) → half-value (q % 2) s v ≡ term-value a b c t
-worked-is a b c t s x q v m e f g h =
-    ap (λ k. half-value k s v) (parity q)
+pub reduced-is : (a : ℤ) (b : ℕ) (c t s : ℤ) (x q v : ℕ) → modulo (pos x) turn ≡ term-angle b c t → pos q ≡ q-of quarter (pos x)
+    → pos v ≡ pos U +ℤ w-of quarter angle-step (pos x)
+    → (q % 4 < 2 → s ≡ a) → (2 ≤ q % 4 → s ≡ negℤ a) → value-by-parity (q % 2) s v ≡ term-value a b c t
+reduced-is a b c t s x q v m e f g h =
+    ap (λ k. value-by-parity k s v) (parity q)
     ∙ signed-value (q % 4) a s v (omega arith) g h
     ∙ ap (λ z. rounded (a *ℤ z) U) (cosine-from x q v e f)
     ∙ value-is a b c t x m

@@ -15,15 +15,16 @@ use Rattle.integers.proofs.Rounding.{rounded-scale}
 use Rattle.units.specs.Units.{U, quarter, angle-step}
 use Rattle.integers.specs.Division.{modulo}
 use Rattle.cosine.specs.machine.Parity.{eighth, y-limit, InRange}
-use Rattle.cosine.proofs.Nested.{sine-shift}
-use Rattle.cosine.specs.Cosine.{q-of, r-of, w-of, y-of, horner, even-part, odd-part, evens, odds, cosine-by, sine-by, working-cosine, working-sine, cosine, sine}
+use Rattle.cosine.proofs.QuarterShift.{sine-shift}
+use Rattle.cosine.specs.Cosine.{q-of, r-of, w-of, y-of, horner, even-part, odd-part, evens, odds, cosine-by, sine-by, working-cosine, working-sine}
+use Rattle.cosine.specs.Cosine.{cosine, sine}
 
 -- a natural number rounded
 pub rounded-nat : (n d : ℕ) → rounded (pos n) d ≡ pos ((n + d / 2) / d)
 unfolding rounded floor
 rounded-nat n d = ap pos (sym (div-div-eq-div-mul (2 * n + d) 2 d) ∙ ap (λ t. t / d) (omega arith))
 
-pub minus-nat : (a b : ℕ) → b ≤ a → pos (a - b) ≡ pos a -ℤ pos b
+minus-nat : (a b : ℕ) → b ≤ a → pos (a - b) ≡ pos a -ℤ pos b
 minus-nat a b h = same (nat (a - b)) (nat a -ᵢ nat b) (omega arith)
 
 -- ---- the quarter and the working angle
@@ -38,13 +39,15 @@ quarters-value x q e = pos-inj (e ∙ sym (quarters-is x))
     pos-inj : {a b : ℕ} → pos a ≡ pos b → a ≡ b
     pos-inj e = cc
 
-pub biased-angle-is : (x q : ℕ) → pos q ≡ q-of quarter (pos x) → pos ((x + (angle-step * U + angle-step / 2) - q * quarter) / angle-step) ≡ pos U +ℤ w-of quarter angle-step (pos x)
+pub biased-angle-is : (x q : ℕ) → pos q ≡ q-of quarter (pos x) → pos ((x + (angle-step * U + angle-step / 2) - q * quarter) / angle-step)
+    ≡ pos U +ℤ w-of quarter angle-step (pos x)
 unfolding w-of r-of
 biased-angle-is x q e =
     let v = quarters-value x q e in
     let m = x + angle-step * U - q * quarter in
     let a : (x + (angle-step * U + angle-step / 2) - q * quarter) / angle-step ≡ (m + angle-step / 2) / angle-step = omega arith in
-    let b : pos m ≡ pos angle-step *ℤ pos U +ℤ (pos x -ℤ pos q *ℤ pos quarter) = same (nat m) (nat angle-step *ᵢ nat U +ᵢ (nat x -ᵢ nat q *ᵢ nat quarter)) (omega arith) in
+    let b : pos m ≡ pos angle-step *ℤ pos U +ℤ (pos x -ℤ pos q *ℤ pos quarter) =
+    same (nat m) (nat angle-step *ᵢ nat U +ᵢ (nat x -ᵢ nat q *ᵢ nat quarter)) (omega arith) in
     ap pos a ∙ sym (rounded-nat m angle-step) ∙ ap (λ t. rounded t angle-step) b
     ∙ rounded-add (pos U) (pos x -ℤ pos q *ℤ pos quarter) angle-step (omega arith)
     ∙ ap (λ t. pos U +ℤ rounded (pos x -ℤ t *ℤ pos quarter) angle-step) e
@@ -114,7 +117,7 @@ first-is y d hy hd =
 
 -- ---- the odd part, from the series h at v
 
-pub odd-is : (v h : ℕ) → pos h ≡ horner (y-of (pos v -ℤ pos U)) odds → pos ((v * h + U / 2) / U) -ℤ pos h ≡ odd-part (pos v -ℤ pos U)
+odd-is : (v h : ℕ) → pos h ≡ horner (y-of (pos v -ℤ pos U)) odds → pos ((v * h + U / 2) / U) -ℤ pos h ≡ odd-part (pos v -ℤ pos U)
 unfolding odd-part
 odd-is v h e =
     ap (λ t. t -ℤ pos h) (sym (rounded-nat (v * h) U))
@@ -211,7 +214,8 @@ quarter-back : (x q : ℕ) → pos q ≡ q-of quarter (pos x) → q % 4 ≡ modu
 unfolding modulo
 quarter-back x q e = ap (λ t. modulo t 4) e
 
-pub cosine-from : (x q v : ℕ) → pos q ≡ q-of quarter (pos x) → pos v ≡ pos U +ℤ w-of quarter angle-step (pos x) → cosine-by negℤ (q % 4) (even-part (pos v -ℤ pos U)) (odd-part (pos v -ℤ pos U)) ≡ cosine (pos x)
+pub cosine-from : (x q v : ℕ) → pos q ≡ q-of quarter (pos x) → pos v ≡ pos U +ℤ w-of quarter angle-step (pos x)
+    → cosine-by negℤ (q % 4) (even-part (pos v -ℤ pos U)) (odd-part (pos v -ℤ pos U)) ≡ cosine (pos x)
 unfolding cosine working-cosine
 cosine-from x q v e f = ap₂ (λ k w. cosine-by negℤ k (even-part w) (odd-part w)) (quarter-back x q e) (unbiased v (w-of quarter angle-step (pos x)) f)
 

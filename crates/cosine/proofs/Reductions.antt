@@ -13,18 +13,19 @@ use Rattle.integers.specs.Division.{modulo}
 use Rattle.integers.proofs.Division.{modulo-lt, modulo-add}
 use Rattle.cosine.specs.Cosine.{cosine-by}
 use Rattle.cosine.specs.Reference.{two-pi as A, four as F}
-use Rattle.cosine.proofs.Lists.{low-by-quarter}
-use Rattle.cosine.proofs.Horner.{low, up}
+use Rattle.cosine.proofs.Divisors.{low-by-quarter}
+use Rattle.cosine.proofs.NestedSeries.{low, up}
 use Rattle.integers.proofs.Near.{Near, near-sym, near-trans, near-weaken, near-times, near-as}
 use Rattle.integers.proofs.Order.{product-pos}
-use Rattle.cosine.proofs.Part.{Angle, C-up, C-low, S-up, S-low, f-up, f-low, f-low-pos, near-f}
+use Rattle.cosine.proofs.Lipschitz.{Angle, C-up, C-low, S-up, S-low, f-up, f-low, f-low-pos, near-f}
 
 -- the boundary between two quarters is A / Y
 abbrev pub Y : ℕ
 Y = 8000000000000000000000000000000
 
 -- ---- at the boundary the two quarters differ by at most 10^-23
-pub boundary : (k : ℕ) → k < 4 → Near (pos (10 ^ 23)) (pos 1) (f-up k (pos A) (pos Y)) (f-low k (pos Y)) (f-up ((k + 1) % 4) (negℤ (pos A)) (pos Y)) (f-low ((k + 1) % 4) (pos Y))
+boundary : (k : ℕ) → k < 4 → Near (pos (10 ^ 23)) (pos 1) (f-up k (pos A) (pos Y)) (f-low k (pos Y)) (f-up ((k + 1) % 4) (negℤ (pos A)) (pos Y))
+    (f-low ((k + 1) % 4) (pos Y))
 unfolding f-up f-low cosine-by low-by-quarter C-up C-low S-up S-low low up
 boundary zero h = record { hi = record { le = tt }; lo = record { le = tt } }
 boundary (suc zero) h = record { hi = record { le = tt }; lo = record { le = tt } }
@@ -39,7 +40,8 @@ boundary-angle⁻ : Angle (negℤ (pos A)) (pos Y)
 boundary-angle⁻ = record { positive = record { lt = tt }; most = record { le = tt }; least = record { le = tt } }
 
 -- ---- the distance of each angle from the boundary, over g = Y·s·N
-here-near : (s N R R′ f : ℤ) → pos 0 ≼ s → pos 0 ≼ N → R *ℤ (pos Y *ℤ N) -ℤ pos 2 *ℤ s *ℤ R′ ≼ f → pos 2 *ℤ s *ℤ R′ -ℤ R *ℤ (pos Y *ℤ N) ≼ f → Near (pos Y *ℤ s *ℤ N) f R s R′ (pos F *ℤ N)
+here-near : (s N R R′ f : ℤ) → pos 0 ≼ s → pos 0 ≼ N → R *ℤ (pos Y *ℤ N) -ℤ pos 2 *ℤ s *ℤ R′ ≼ f → pos 2 *ℤ s *ℤ R′ -ℤ R *ℤ (pos Y *ℤ N) ≼ f
+    → Near (pos Y *ℤ s *ℤ N) f R s R′ (pos F *ℤ N)
 here-near s N R R′ f hs hN h k =
     let ρ = s ∷ N ∷ R ∷ R′ ∷ f ∷ [] in
     record {
@@ -48,7 +50,8 @@ here-near s N R R′ f hs hN h k =
     }
 
 -- r = R/s lies at most gap/2 above the boundary H = A/Y
-up-near : (s N R Q G : ℤ) → pos 0 ≼ s → pos 0 ≼ N → pos 0 ≼ G → pos 2 *ℤ R ≼ Q → Q *ℤ pos Y ≼ pos 2 *ℤ pos A *ℤ s +ℤ G → Near (pos Y *ℤ s *ℤ N) (N *ℤ (pos A *ℤ s -ℤ pos Y *ℤ R) +ℤ G *ℤ N) R s (pos A) (pos Y)
+up-near : (s N R Q G : ℤ) → pos 0 ≼ s → pos 0 ≼ N → pos 0 ≼ G → pos 2 *ℤ R ≼ Q → Q *ℤ pos Y ≼ pos 2 *ℤ pos A *ℤ s +ℤ G
+    → Near (pos Y *ℤ s *ℤ N) (N *ℤ (pos A *ℤ s -ℤ pos Y *ℤ R) +ℤ G *ℤ N) R s (pos A) (pos Y)
 up-near s N R Q G hs hN hG h k =
     let ρ = s ∷ N ∷ R ∷ Q ∷ G ∷ [] in
     record {
@@ -60,7 +63,8 @@ up-bound : (s N R Q G : ℤ) → pos 0 ≼ N → pos 0 ≼ G → pos 2 *ℤ R �
 up-bound s N R Q G hN hG h k =
     cert! (s ∷ N ∷ R ∷ Q ∷ G ∷ []) 1 (hN ⊛ (gap k ⊞ 8000000000000000000000000000000 · gap h) ⊞ hG ⊛ hN) (search polys depth 60 fits 100000) tt
 
-up-far : (s N R′ : ℤ) → pos 0 ≼ s → pos 0 ≼ N → negℤ (pos A *ℤ N) ≼ pos 2 *ℤ R′ → Near (pos Y *ℤ s *ℤ N) (s *ℤ (pos 2 *ℤ R′ +ℤ pos A *ℤ N)) (negℤ (pos A)) (pos Y) R′ (pos F *ℤ N)
+up-far : (s N R′ : ℤ) → pos 0 ≼ s → pos 0 ≼ N → negℤ (pos A *ℤ N) ≼ pos 2 *ℤ R′
+    → Near (pos Y *ℤ s *ℤ N) (s *ℤ (pos 2 *ℤ R′ +ℤ pos A *ℤ N)) (negℤ (pos A)) (pos Y) R′ (pos F *ℤ N)
 up-far s N R′ hs hN h =
     let ρ = s ∷ N ∷ R′ ∷ [] in
     record {
@@ -68,7 +72,8 @@ up-far s N R′ hs hN h =
       lo = cert! ρ 0 (nonneg 0) (search polys depth 60 fits 100000) tt;
     }
 
-down-near : (s N R Q G : ℤ) → pos 0 ≼ s → pos 0 ≼ N → pos 0 ≼ G → negℤ Q ≼ pos 2 *ℤ R → Q *ℤ pos Y ≼ pos 2 *ℤ pos A *ℤ s +ℤ G → Near (pos Y *ℤ s *ℤ N) (N *ℤ (pos A *ℤ s +ℤ pos Y *ℤ R) +ℤ G *ℤ N) R s (negℤ (pos A)) (pos Y)
+down-near : (s N R Q G : ℤ) → pos 0 ≼ s → pos 0 ≼ N → pos 0 ≼ G → negℤ Q ≼ pos 2 *ℤ R → Q *ℤ pos Y ≼ pos 2 *ℤ pos A *ℤ s +ℤ G
+    → Near (pos Y *ℤ s *ℤ N) (N *ℤ (pos A *ℤ s +ℤ pos Y *ℤ R) +ℤ G *ℤ N) R s (negℤ (pos A)) (pos Y)
 down-near s N R Q G hs hN hG h k =
     let ρ = s ∷ N ∷ R ∷ Q ∷ G ∷ [] in
     record {
@@ -76,11 +81,13 @@ down-near s N R Q G hs hN hG h k =
       lo = cert! ρ 0 (8000000000000000000000000000000 · (hs ⊛ hN ⊛ (gap k ⊞ 8000000000000000000000000000000 · gap h))) (search polys depth 60 fits 100000) tt;
     }
 
-down-bound : (s N R Q G : ℤ) → pos 0 ≼ N → pos 0 ≼ G → negℤ Q ≼ pos 2 *ℤ R → Q *ℤ pos Y ≼ pos 2 *ℤ pos A *ℤ s +ℤ G → pos 0 ≼ N *ℤ (pos A *ℤ s +ℤ pos Y *ℤ R) +ℤ G *ℤ N
+down-bound : (s N R Q G : ℤ) → pos 0 ≼ N → pos 0 ≼ G → negℤ Q ≼ pos 2 *ℤ R → Q *ℤ pos Y ≼ pos 2 *ℤ pos A *ℤ s +ℤ G
+    → pos 0 ≼ N *ℤ (pos A *ℤ s +ℤ pos Y *ℤ R) +ℤ G *ℤ N
 down-bound s N R Q G hN hG h k =
     cert! (s ∷ N ∷ R ∷ Q ∷ G ∷ []) 1 (hN ⊛ (gap k ⊞ 8000000000000000000000000000000 · gap h) ⊞ hG ⊛ hN) (search polys depth 60 fits 100000) tt
 
-down-far : (s N R′ : ℤ) → pos 0 ≼ s → pos 0 ≼ N → pos 2 *ℤ R′ ≼ pos A *ℤ N → Near (pos Y *ℤ s *ℤ N) (s *ℤ (pos A *ℤ N -ℤ pos 2 *ℤ R′)) (pos A) (pos Y) R′ (pos F *ℤ N)
+down-far : (s N R′ : ℤ) → pos 0 ≼ s → pos 0 ≼ N → pos 2 *ℤ R′ ≼ pos A *ℤ N
+    → Near (pos Y *ℤ s *ℤ N) (s *ℤ (pos A *ℤ N -ℤ pos 2 *ℤ R′)) (pos A) (pos Y) R′ (pos F *ℤ N)
 down-far s N R′ hs hN h =
     let ρ = s ∷ N ∷ R′ ∷ [] in
     record {
@@ -105,12 +112,15 @@ same-quarter : (k : ℕ) (s N R R′ G f : ℤ) → pos 0 ≺ s → pos 0 ≺ N 
 same-quarter k s N R R′ G f hs hN hG hf a a′ h h′ =
     near-as (over s N) (bound s N G f) (f-low-pos k s hs) (f-low-pos k (pos F *ℤ N) (a′ .positive))
     (ring! (s ∷ N ∷ []) (search polys depth 60 fits 100000) tt)
-    (cert! (s ∷ N ∷ G ∷ f ∷ []) 0 (6100000000000000000000000 · (hG ⊛ ≺-≼ hN) ⊞ 400000000000000000000000000000000 · (≺-≼ hs ⊛ ≺-≼ hN)) (search polys depth 60 fits 100000) tt)
+    (cert! (s ∷ N ∷ G ∷ f ∷ []) 0 (6100000000000000000000000 · (hG ⊛ ≺-≼ hN) ⊞ 400000000000000000000000000000000 · (≺-≼ hs ⊛ ≺-≼ hN))
+    (search polys depth 60 fits 100000) tt)
     (near-times (pos B) (nonneg B) (near-f k R s R′ (pos F *ℤ N) f (pos Y *ℤ s *ℤ N) a a′ hf (here-near s N R R′ f (≺-≼ hs) (≺-≼ hN) h h′)))
 
 -- through the boundary x/Y, from the quarter k to the quarter k′
-across : (k k′ : ℕ) (s N R R′ x x′ f f₁ f₂ G : ℤ) → pos 0 ≺ s → pos 0 ≺ N → pos 0 ≼ f₁ → pos 0 ≼ f₂ → Angle R s → Angle R′ (pos F *ℤ N) → Angle x (pos Y) → Angle x′ (pos Y)
-    → Near (pos Y *ℤ s *ℤ N) f₁ R s x (pos Y) → Near (pos B) (pos 1) (f-up k x (pos Y)) (f-low k (pos Y)) (f-up k′ x′ (pos Y)) (f-low k′ (pos Y)) → Near (pos Y *ℤ s *ℤ N) f₂ x′ (pos Y) R′ (pos F *ℤ N)
+across : (k k′ : ℕ) (s N R R′ x x′ f f₁ f₂ G : ℤ) → pos 0 ≺ s → pos 0 ≺ N → pos 0 ≼ f₁ → pos 0 ≼ f₂ → Angle R s → Angle R′ (pos F *ℤ N) → Angle x (pos Y)
+    → Angle x′ (pos Y)
+    → Near (pos Y *ℤ s *ℤ N) f₁ R s x (pos Y) → Near (pos B) (pos 1) (f-up k x (pos Y)) (f-low k (pos Y)) (f-up k′ x′ (pos Y)) (f-low k′ (pos Y))
+    → Near (pos Y *ℤ s *ℤ N) f₂ x′ (pos Y) R′ (pos F *ℤ N)
     → f₁ +ℤ f₂ ≼ f +ℤ G *ℤ N
     → Near (over s N) (bound s N G f) (f-up k R s) (f-low k s) (f-up k′ R′ (pos F *ℤ N)) (f-low k′ (pos F *ℤ N))
 across k k′ s N R R′ x x′ f f₁ f₂ G hs hN h₁ h₂ a a′ b b′ n₁ m n₂ l =
@@ -120,13 +130,18 @@ across k k′ s N R R′ x x′ f f₁ f₂ G hs hN h₁ h₂ a a′ b b′ n₁
     let p₁ = f-low-pos k (pos Y) hY in
     let p₂ = f-low-pos k′ (pos Y) hY in
     let p′ = f-low-pos k′ (pos F *ℤ N) (a′ .positive) in
-    let one : Near (pos B *ℤ (pos 50 *ℤ g)) (pos B *ℤ (pos 61 *ℤ f₁)) (f-up k R s) (f-low k s) (f-up k x (pos Y)) (f-low k (pos Y)) = near-times (pos B) (nonneg B) (near-f k R s x (pos Y) f₁ g a b h₁ n₁) in
-    let two : Near (pos 50 *ℤ g *ℤ pos B) (pos 50 *ℤ g *ℤ pos 1) (f-up k x (pos Y)) (f-low k (pos Y)) (f-up k′ x′ (pos Y)) (f-low k′ (pos Y)) = near-times (pos 50 *ℤ g) (nonneg 50 ⊛ (nonneg Y ⊛ ≺-≼ hs ⊛ ≺-≼ hN)) m in
-    let three : Near (pos B *ℤ (pos 50 *ℤ g)) (pos B *ℤ (pos 61 *ℤ f₂)) (f-up k′ x′ (pos Y)) (f-low k′ (pos Y)) (f-up k′ R′ (pos F *ℤ N)) (f-low k′ (pos F *ℤ N)) = near-times (pos B) (nonneg B) (near-f k′ x′ (pos Y) R′ (pos F *ℤ N) f₂ g b′ a′ h₂ n₂) in
+    let one : Near (pos B *ℤ (pos 50 *ℤ g)) (pos B *ℤ (pos 61 *ℤ f₁)) (f-up k R s) (f-low k s) (f-up k x (pos Y)) (f-low k (pos Y)) =
+    near-times (pos B) (nonneg B) (near-f k R s x (pos Y) f₁ g a b h₁ n₁) in
+    let two : Near (pos 50 *ℤ g *ℤ pos B) (pos 50 *ℤ g *ℤ pos 1) (f-up k x (pos Y)) (f-low k (pos Y)) (f-up k′ x′ (pos Y)) (f-low k′ (pos Y)) =
+    near-times (pos 50 *ℤ g) (nonneg 50 ⊛ (nonneg Y ⊛ ≺-≼ hs ⊛ ≺-≼ hN)) m in
+    let three : Near (pos B *ℤ (pos 50 *ℤ g)) (pos B *ℤ (pos 61 *ℤ f₂)) (f-up k′ x′ (pos Y)) (f-low k′ (pos Y)) (f-up k′ R′ (pos F *ℤ N))
+    (f-low k′ (pos F *ℤ N)) = near-times (pos B) (nonneg B) (near-f k′ x′ (pos Y) R′ (pos F *ℤ N) f₂ g b′ a′ h₂ n₂) in
     near-weaken (bound s N G f) p p′
     (cert! (s ∷ N ∷ f ∷ f₁ ∷ f₂ ∷ G ∷ []) 0 (6100000000000000000000000 · gap l) (search polys depth 60 fits 100000) tt)
-    (near-trans p p₂ p′ (near-trans p p₁ p₂ (subst (λ t. Near t (pos B *ℤ (pos 61 *ℤ f₁)) (f-up k R s) (f-low k s) (f-up k x (pos Y)) (f-low k (pos Y))) (same-over s N) one) two)
-    (subst (λ t. Near t (pos B *ℤ (pos 61 *ℤ f₂)) (f-up k′ x′ (pos Y)) (f-low k′ (pos Y)) (f-up k′ R′ (pos F *ℤ N)) (f-low k′ (pos F *ℤ N))) (same-over s N) three))
+    (near-trans p p₂ p′ (near-trans p p₁ p₂
+    (subst (λ t. Near t (pos B *ℤ (pos 61 *ℤ f₁)) (f-up k R s) (f-low k s) (f-up k x (pos Y)) (f-low k (pos Y))) (same-over s N) one) two)
+    (subst (λ t. Near t (pos B *ℤ (pos 61 *ℤ f₂)) (f-up k′ x′ (pos Y)) (f-low k′ (pos Y)) (f-up k′ R′ (pos F *ℤ N)) (f-low k′ (pos F *ℤ N))) (same-over s N)
+    three))
   where
     same-over : (s N : ℤ) → pos B *ℤ (pos 50 *ℤ (pos Y *ℤ s *ℤ N)) ≡ over s N
     same-over s N = ring! (s ∷ N ∷ []) (search polys depth 60 fits 100000) tt
@@ -153,7 +168,8 @@ next-quarter : (q j : ℤ) → modulo (q +ℤ pos 1 +ℤ j) 4 ≡ (modulo (q +�
 unfolding modulo
 next-quarter q j = ap (λ t. modulo t 4) (order q j) ∙ modulo-add (q +ℤ j) (pos 1) 4 (omega arith)
 
--- What is known of two reductions: R/s of quarter q, by the quarter Q/s, and R′/(F·N) of quarter q′, by the reference's, of nearly one angle; G/(Y·s) bounds Q/s less the reference's quarter.
+-- What is known of two reductions: R/s of quarter q, by the quarter Q/s, and R′/(F·N) of quarter q′, by the reference's, of nearly one angle; G/(Y·s)
+-- bounds Q/s less the reference's quarter.
 -- f/(Y·s·N) bounds the difference of the angles before the second is reduced
 pub record Two (Q s N G R R′ q q′ f : ℤ) : Type 0 where
   pub s-pos : pos 0 ≺ s
@@ -186,7 +202,8 @@ not-far Q s N G R R′ q q′ f t = go (≼-or-≺ q′ (q +ℤ pos 1))
         let hs = ≺-≼ (t .s-pos) in
         let hN = ≺-≼ (t .N-pos) in
         let bad : pos 1 ≼ pos 0 = cert! (Q ∷ s ∷ N ∷ G ∷ R ∷ R′ ∷ q ∷ q′ ∷ f ∷ []) 0
-        (2 · gap (t .below) ⊞ hN ⊛ gap (t .quarter) ⊞ 8000000000000000000000000000000 · (hN ⊛ gap (t .R-most)) ⊞ 2 · (hs ⊛ gap (t .R′-least)) ⊞ 25132741228718345907701147066236 · (hs ⊛ hN ⊛ gap< h) ⊞ 2 · gap< (t .near-enough) ⊞ t .G-pos ⊛ hN)
+        (2 · gap (t .below) ⊞ hN ⊛ gap (t .quarter) ⊞ 8000000000000000000000000000000 · (hN ⊛ gap (t .R-most)) ⊞ 2 · (hs ⊛ gap (t .R′-least))
+        ⊞ 25132741228718345907701147066236 · (hs ⊛ hN ⊛ gap< h) ⊞ 2 · gap< (t .near-enough) ⊞ t .G-pos ⊛ hN)
         (search polys depth 60 fits 100000) tt in
         absurd (bad .le)
 
@@ -199,7 +216,8 @@ not-far⁻ Q s N G R R′ q q′ f t = go (≼-or-≺ q (q′ +ℤ pos 1))
         let hs = ≺-≼ (t .s-pos) in
         let hN = ≺-≼ (t .N-pos) in
         let bad : pos 1 ≼ pos 0 = cert! (Q ∷ s ∷ N ∷ G ∷ R ∷ R′ ∷ q ∷ q′ ∷ f ∷ []) 0
-        (2 · gap (t .above) ⊞ hN ⊛ gap (t .quarter) ⊞ 8000000000000000000000000000000 · (hN ⊛ gap (t .R-least)) ⊞ 2 · (hs ⊛ gap (t .R′-most)) ⊞ 25132741228718345907701147066236 · (hs ⊛ hN ⊛ gap< h) ⊞ 2 · gap< (t .near-enough) ⊞ t .G-pos ⊛ hN)
+        (2 · gap (t .above) ⊞ hN ⊛ gap (t .quarter) ⊞ 8000000000000000000000000000000 · (hN ⊛ gap (t .R-least)) ⊞ 2 · (hs ⊛ gap (t .R′-most))
+        ⊞ 25132741228718345907701147066236 · (hs ⊛ hN ⊛ gap< h) ⊞ 2 · gap< (t .near-enough) ⊞ t .G-pos ⊛ hN)
         (search polys depth 60 fits 100000) tt in
         absurd (bad .le)
 

@@ -14,10 +14,10 @@ use Rattle.integers.proofs.Division.{rounded-low, rounded-high}
 use Rattle.integers.specs.Fractions.{Fraction, _≈ᶠ_}
 use Rattle.cosine.specs.Reference.{two-pi as A, four as F, ref-q, ref-r, reference-cosine, reference-sine}
 use Rattle.integers.proofs.Near.{Near}
-use Rattle.cosine.proofs.Part.{f-up, f-low, near-f}
-use Rattle.cosine.proofs.Reduce.{R′-angle}
-use Rattle.cosine.proofs.Any.{ref-most, ref-least}
-use Rattle.cosine.proofs.Nested.{nested, reference-is, reference-sine-is}
+use Rattle.cosine.proofs.Lipschitz.{f-up, f-low, near-f}
+use Rattle.cosine.proofs.Reductions.{R′-angle}
+use Rattle.cosine.proofs.AnyAngle.{ref-most, ref-least}
+use Rattle.cosine.proofs.QuarterShift.{nested, reference-is, reference-sine-is}
 
 rounded-below : (n n′ : ℤ) (d d′ : ℕ) → 0 < d → 0 < d′ → n *ℤ pos d′ ≡ n′ *ℤ pos d → rounded n d ≼ rounded n′ d′
 rounded-below n n′ d d′ h h′ e = go (≼-or-≺ (rounded n d) (rounded n′ d′))
@@ -31,7 +31,7 @@ rounded-below n n′ d d′ h h′ e = go (≼-or-≺ (rounded n d) (rounded n�
         absurd (bad .le)
 
 -- rounding depends on the fraction alone
-pub rounded-same : (n n′ : ℤ) (d d′ : ℕ) → 0 < d → 0 < d′ → n *ℤ pos d′ ≡ n′ *ℤ pos d → rounded n d ≡ rounded n′ d′
+rounded-same : (n n′ : ℤ) (d d′ : ℕ) → 0 < d → 0 < d′ → n *ℤ pos d′ ≡ n′ *ℤ pos d → rounded n d ≡ rounded n′ d′
 rounded-same n n′ d d′ h h′ e = ≼-antisym (rounded n d) (rounded n′ d′) (rounded-below n n′ d d′ h h′ e) (rounded-below n′ n d′ d h′ h (sym e))
 
 scaled : (n n′ N N′ : ℤ) → n *ℤ N′ ≡ n′ *ℤ N → n *ℤ pos F *ℤ (pos A *ℤ N′) ≡ n′ *ℤ pos F *ℤ (pos A *ℤ N)
@@ -44,7 +44,8 @@ same-q : (n n′ : ℤ) (N N′ : ℕ) → 0 < N → 0 < N′ → n *ℤ pos N�
 unfolding ref-q
 same-q n n′ N N′ h h′ e = rounded-same (n *ℤ pos F) (n′ *ℤ pos F) (A * N) (A * N′) (omega arith) (omega arith) (scaled n n′ (pos N) (pos N′) e)
 
-no-gap : (n n′ N N′ q : ℤ) → n *ℤ N′ ≡ n′ *ℤ N → Near (pos 1) (pos 0) (n *ℤ pos F -ℤ q *ℤ (pos A *ℤ N)) (pos F *ℤ N) (n′ *ℤ pos F -ℤ q *ℤ (pos A *ℤ N′)) (pos F *ℤ N′)
+no-gap : (n n′ N N′ q : ℤ) → n *ℤ N′ ≡ n′ *ℤ N
+    → Near (pos 1) (pos 0) (n *ℤ pos F -ℤ q *ℤ (pos A *ℤ N)) (pos F *ℤ N) (n′ *ℤ pos F -ℤ q *ℤ (pos A *ℤ N′)) (pos F *ℤ N′)
 no-gap n n′ N N′ q e =
     let ρ = n ∷ n′ ∷ N ∷ N′ ∷ q ∷ [] in
     record {
@@ -55,7 +56,8 @@ no-gap n n′ N N′ q e =
 none : (a A b B : ℤ) → Near (pos 50 *ℤ pos 1) (pos 61 *ℤ pos 0) a A b B → a *ℤ B ≡ b *ℤ A
 none a A b B h =
     let ρ = a ∷ A ∷ b ∷ B ∷ [] in
-    ≼-antisym (a *ℤ B) (b *ℤ A) (cert! ρ 49 (gap (h .hi)) (search polys depth 60 fits 100000) tt) (cert! ρ 49 (gap (h .lo)) (search polys depth 60 fits 100000) tt)
+    ≼-antisym (a *ℤ B) (b *ℤ A) (cert! ρ 49 (gap (h .hi)) (search polys depth 60 fits 100000) tt)
+    (cert! ρ 49 (gap (h .lo)) (search polys depth 60 fits 100000) tt)
 
 at-shift : (j n n′ : ℤ) (N N′ : ℕ) → 0 < N → 0 < N′ → n *ℤ pos N′ ≡ n′ *ℤ pos N
     → nested (modulo (ref-q n N +ℤ j) 4) (ref-r n N) (pos F *ℤ pos N) ≈ᶠ nested (modulo (ref-q n′ N′ +ℤ j) 4) (ref-r n′ N′) (pos F *ℤ pos N′)
@@ -65,9 +67,11 @@ at-shift j n n′ N N′ h h′ e =
     let b = R′-angle (pos N′) (ref-r n′ N′) (≺-nat N′ h′) (ref-most n′ N′ h′) (ref-least n′ N′ h′) in
     let k = modulo (ref-q n N +ℤ j) 4 in
     let c : Near (pos 1) (pos 0) (ref-r n N) (pos F *ℤ pos N) (ref-r n′ N′) (pos F *ℤ pos N′) =
-    subst (λ q. Near (pos 1) (pos 0) (ref-r n N) (pos F *ℤ pos N) (n′ *ℤ pos F -ℤ q *ℤ pos (A * N′)) (pos F *ℤ pos N′)) (same-q n n′ N N′ h h′ e) (no-gap n n′ (pos N) (pos N′) (ref-q n N) e) in
+    subst (λ q. Near (pos 1) (pos 0) (ref-r n N) (pos F *ℤ pos N) (n′ *ℤ pos F -ℤ q *ℤ pos (A * N′)) (pos F *ℤ pos N′)) (same-q n n′ N N′ h h′ e)
+    (no-gap n n′ (pos N) (pos N′) (ref-q n N) e) in
     let same : nested k (ref-r n N) (pos F *ℤ pos N) ≈ᶠ nested k (ref-r n′ N′) (pos F *ℤ pos N′) =
-    none (f-up k (ref-r n N) (pos F *ℤ pos N)) (f-low k (pos F *ℤ pos N)) (f-up k (ref-r n′ N′) (pos F *ℤ pos N′)) (f-low k (pos F *ℤ pos N′)) (near-f k (ref-r n N) (pos F *ℤ pos N) (ref-r n′ N′) (pos F *ℤ pos N′) (pos 0) (pos 1) a b (nonneg 0) c) in
+    none (f-up k (ref-r n N) (pos F *ℤ pos N)) (f-low k (pos F *ℤ pos N)) (f-up k (ref-r n′ N′) (pos F *ℤ pos N′)) (f-low k (pos F *ℤ pos N′))
+    (near-f k (ref-r n N) (pos F *ℤ pos N) (ref-r n′ N′) (pos F *ℤ pos N′) (pos 0) (pos 1) a b (nonneg 0) c) in
     subst (λ q. nested k (ref-r n N) (pos F *ℤ pos N) ≈ᶠ nested (modulo (q +ℤ j) 4) (ref-r n′ N′) (pos F *ℤ pos N′)) (same-q n n′ N N′ h h′ e) same
 
 pub cosine-of-value : (n n′ : ℤ) (N N′ : ℕ) → 0 < N → 0 < N′ → n *ℤ pos N′ ≡ n′ *ℤ pos N → reference-cosine n N ≈ᶠ reference-cosine n′ N′

@@ -4,7 +4,7 @@ use Prim.Native.Nat.{ℕ, zero, suc, _*_}
 use lib.IntN.{ℤ}
 use Rattle.cosine.specs.Cosine.{evens, odds}
 
-abbrev pub more-evens : List ℕ
+abbrev more-evens : List ℕ
 more-evens = 13 * 14 ∷ 15 * 16 ∷ 17 * 18 ∷ 19 * 20 ∷ []
 
 abbrev pub more-odds : List ℕ
@@ -21,9 +21,3 @@ low-by-quarter zero e o = e
 low-by-quarter (suc zero) e o = o
 low-by-quarter (suc (suc zero)) e o = e
 low-by-quarter (suc (suc (suc k))) e o = o
-
-unfoldable pub low-sine-by-quarter : ℕ → ℤ → ℤ → ℤ
-low-sine-by-quarter zero e o = o
-low-sine-by-quarter (suc zero) e o = e
-low-sine-by-quarter (suc (suc zero)) e o = o
-low-sine-by-quarter (suc (suc (suc k))) e o = e

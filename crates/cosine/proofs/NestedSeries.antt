@@ -34,7 +34,8 @@ pub record Range (D Z : ℤ) (ds : List ℕ) : Type 0 where
 
 above-step : (d D l : ℤ) → pos 1 ≼ d → pos 0 ≺ D → pos 0 ≺ l → pos 0 ≺ d *ℤ D *ℤ l
 above-step d D l hd hD hl =
-    cert<! (d ∷ D ∷ l ∷ []) 0 ((gap hd ⊞ nonneg 1) ⊛ (gap< hD ⊞ nonneg 1) ⊛ gap< hl ⊞ (gap hd ⊞ nonneg 1) ⊛ gap< hD ⊞ gap hd) (search polys depth 60 fits 100000) tt
+    cert<! (d ∷ D ∷ l ∷ []) 0 ((gap hd ⊞ nonneg 1) ⊛ (gap< hD ⊞ nonneg 1) ⊛ gap< hl ⊞ (gap hd ⊞ nonneg 1) ⊛ gap< hD ⊞ gap hd)
+    (search polys depth 60 fits 100000) tt
 
 least-step : (d D Z l u : ℤ) → pos 1 ≼ d → pos 0 ≼ D → pos 0 ≼ l → Z ≼ D → pos 0 ≼ u → u ≼ l → pos 0 ≼ d *ℤ D *ℤ l -ℤ Z *ℤ u
 least-step d D Z l u hd hD hl hZ hu hul =
@@ -49,7 +50,12 @@ range D Z [] g hD h k = record { above = record { lt = tt }; least = record { le
 range D Z (d ∷ ds) g hD h k =
     let r = range D Z ds (g .1) hD h k in
     let hd : pos 1 ≼ pos d = ≼-nat 1 d (g .0) in
-    record { above = above-step (pos d) D (low D ds) hd hD (r .above); least = least-step (pos d) D Z (low D ds) (up D Z ds) hd (≺-≼ hD) (≺-≼ (r .above)) k (r .least) (r .most); most = most-step (pos d *ℤ D *ℤ low D ds) Z (up D Z ds) h (r .least) }
+    record {
+      above = above-step (pos d) D (low D ds) hd hD (r .above);
+      least = least-step (pos d) D Z (low D ds) (up D Z ds) hd (≺-≼ hD) (≺-≼ (r .above)) k (r .least) (r .most);
+      most =
+          most-step (pos d *ℤ D *ℤ low D ds) Z (up D Z ds) h (r .least);
+    }
 
 -- ---- the Lipschitz bound. In millionths: lam [] = 0, lam (d ∷ ds) is above (1 + 0.617·lam ds) / d
 unfoldable pub lam : List ℕ → ℕ
@@ -78,13 +84,16 @@ factor-le D Z′ D′ hD h = cert! (D ∷ Z′ ∷ D′ ∷ []) 0 (hD ⊛ gap h)
 factor-le′ : (u l l′ : ℤ) → pos 0 ≼ l′ → u ≼ l → u *ℤ l′ ≼ l *ℤ l′
 factor-le′ u l l′ h k = cert! (u ∷ l ∷ l′ ∷ []) 0 (gap k ⊛ h) (search polys depth 60 fits 100000) tt
 
-lip-step : (d D D′ Z Z′ l l′ u u′ f g k k′ : ℤ) → pos 0 ≼ d → pos 0 ≼ D → pos 0 ≼ D′ → pos 0 ≼ l → pos 0 ≼ l′ → pos 0 ≼ u → u ≼ l → pos 0 ≼ Z′ → pos 1000 *ℤ Z′ ≼ pos 617 *ℤ D′
+lip-step : (d D D′ Z Z′ l l′ u u′ f g k k′ : ℤ) → pos 0 ≼ d → pos 0 ≼ D → pos 0 ≼ D′ → pos 0 ≼ l → pos 0 ≼ l′ → pos 0 ≼ u → u ≼ l → pos 0 ≼ Z′
+    → pos 1000 *ℤ Z′ ≼ pos 617 *ℤ D′
     → pos 0 ≼ f → pos 0 ≼ k → g *ℤ (Z′ *ℤ D -ℤ Z *ℤ D′) ≼ f *ℤ (D *ℤ D′)
     → pos 1000000 *ℤ g *ℤ (u′ *ℤ l -ℤ u *ℤ l′) ≼ k *ℤ f *ℤ (l *ℤ l′)
     → pos 1000000000 +ℤ pos 617 *ℤ k ≼ pos 1000 *ℤ d *ℤ k′
-    → pos 1000000 *ℤ g *ℤ ((d *ℤ D *ℤ l -ℤ Z *ℤ u) *ℤ (d *ℤ D′ *ℤ l′) -ℤ (d *ℤ D′ *ℤ l′ -ℤ Z′ *ℤ u′) *ℤ (d *ℤ D *ℤ l)) ≼ k′ *ℤ f *ℤ (d *ℤ D *ℤ l *ℤ (d *ℤ D′ *ℤ l′))
+    → pos 1000000 *ℤ g *ℤ ((d *ℤ D *ℤ l -ℤ Z *ℤ u) *ℤ (d *ℤ D′ *ℤ l′) -ℤ (d *ℤ D′ *ℤ l′ -ℤ Z′ *ℤ u′) *ℤ (d *ℤ D *ℤ l))
+    ≼ k′ *ℤ f *ℤ (d *ℤ D *ℤ l *ℤ (d *ℤ D′ *ℤ l′))
 lip-step d D D′ Z Z′ l l′ u u′ f g k k′ hd hD hD′ hl hl′ hu hul hZ′ hm hf hk hZ ih hc =
-    let core = lip-core d (Z′ *ℤ D) (Z *ℤ D′) (u′ *ℤ l) (u *ℤ l′) (D *ℤ D′) (l *ℤ l′) f g k k′ (hZ′ ⊛ hD) (factor-le D Z′ D′ hD hm) (hu ⊛ hl′) (factor-le′ u l l′ hl′ hul) (hD ⊛ hD′) (hl ⊛ hl′) hf hk hZ ih hc in
+    let core = lip-core d (Z′ *ℤ D) (Z *ℤ D′) (u′ *ℤ l) (u *ℤ l′) (D *ℤ D′) (l *ℤ l′) f g k k′ (hZ′ ⊛ hD) (factor-le D Z′ D′ hD hm) (hu ⊛ hl′)
+    (factor-le′ u l l′ hl′ hul) (hD ⊛ hD′) (hl ⊛ hl′) hf hk hZ ih hc in
     let moved : pos 1000000 *ℤ g *ℤ (Z′ *ℤ u′ *ℤ (D *ℤ l) -ℤ Z *ℤ u *ℤ (D′ *ℤ l′)) ≼ d *ℤ k′ *ℤ f *ℤ (D *ℤ l *ℤ (D′ *ℤ l′)) =
     subst₃ (λ x y z. pos 1000000 *ℤ g *ℤ (x -ℤ y) ≼ d *ℤ k′ *ℤ f *ℤ z) (cross Z′ D u′ l) (cross Z D′ u l′) (cross D D′ l l′) core in
     subst₂ (λ m m′. pos 1000000 *ℤ g *ℤ ((m -ℤ Z *ℤ u) *ℤ m′ -ℤ (m′ -ℤ Z′ *ℤ u′) *ℤ m) ≼ k′ *ℤ f *ℤ (m *ℤ m′)) (sym (*ℤ-assoc d D l)) (sym (*ℤ-assoc d D′ l′))
@@ -96,7 +105,7 @@ pub record Small (D Z : ℤ) : Type 0 where
   pub not-neg : pos 0 ≼ Z
   pub small : pos 1000 *ℤ Z ≼ pos 617 *ℤ D
 
-pub small-le : {D Z : ℤ} → Small D Z → Z ≼ D
+small-le : {D Z : ℤ} → Small D Z → Z ≼ D
 small-le {D} {Z} s = cert! (D ∷ Z ∷ []) 999 (gap (s .small) ⊞ 383 · gap< (s .positive)) (search polys depth 60 fits 100000) tt
 
 pub range′ : {D Z : ℤ} (ds : List ℕ) → Good ds → Small D Z → Range D Z ds

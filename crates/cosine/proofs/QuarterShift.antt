@@ -8,10 +8,10 @@ use Rattle.integers.proofs.Division.{modulo-lt, modulo-add}
 use Rattle.integers.specs.Fractions.{Fraction, negᶠ}
 use Rattle.cosine.specs.Cosine.{cosine-by, sine-by, even-part, odd-part, q-of, w-of, working-cosine, working-sine}
 use Rattle.cosine.specs.Reference.{four as F, ref-q, ref-r, even-series, odd-series, reference-cosine, reference-sine}
-use Rattle.cosine.proofs.Lists.{low-by-quarter}
-use Rattle.cosine.proofs.Part.{f-up, f-low}
-use Rattle.cosine.proofs.Work.{working}
-use Rattle.cosine.proofs.Series.{C-up-is, C-low-is, S-up-is, S-low-is}
+use Rattle.cosine.proofs.Divisors.{low-by-quarter}
+use Rattle.cosine.proofs.Lipschitz.{f-up, f-low}
+use Rattle.cosine.proofs.WorkingSeries.{working}
+use Rattle.cosine.proofs.PowerSeries.{C-up-is, C-low-is, S-up-is, S-low-is}
 
 shifted : (q : ℤ) → modulo (q +ℤ pos 3) 4 ≡ (modulo q 4 + 3) % 4
 unfolding modulo
@@ -32,7 +32,8 @@ cosine-is Q step X = ap (λ q. working (modulo q 4) (w-of Q step X)) (+ℤ-idr (
 pub sine-is : (Q step : ℕ) (X : ℤ) → working (modulo (q-of Q X +ℤ pos 3) 4) (w-of Q step X) ≡ working-sine Q step X
 unfolding working working-sine
 sine-is Q step X =
-    ap (λ k. working k (w-of Q step X)) (shifted (q-of Q X)) ∙ sine-shift negℤ (modulo (q-of Q X) 4) (modulo-lt (q-of Q X) 4 (omega arith)) (even-part (w-of Q step X)) (odd-part (w-of Q step X))
+    ap (λ k. working k (w-of Q step X)) (shifted (q-of Q X))
+    ∙ sine-shift negℤ (modulo (q-of Q X) 4) (modulo-lt (q-of Q X) 4 (omega arith)) (even-part (w-of Q step X)) (odd-part (w-of Q step X))
 
 abbrev pub nested : ℕ → ℤ → ℤ → Fraction
 nested k r N = record { upper = f-up k r N; lower = f-low k N }
@@ -54,4 +55,5 @@ unfolding reference-sine
 reference-sine-is n N =
     ap (λ k. nested k (ref-r n N) (pos F *ℤ pos N)) (shifted (ref-q n N))
     ∙ plain ((modulo (ref-q n N) 4 + 3) % 4) (ref-r n N) (pos F *ℤ pos N)
-    ∙ sine-shift negᶠ (modulo (ref-q n N) 4) (modulo-lt (ref-q n N) 4 (omega arith)) (even-series (ref-r n N) (pos F *ℤ pos N)) (odd-series (ref-r n N) (pos F *ℤ pos N))
+    ∙ sine-shift negᶠ (modulo (ref-q n N) 4) (modulo-lt (ref-q n N) 4 (omega arith)) (even-series (ref-r n N) (pos F *ℤ pos N))
+    (odd-series (ref-r n N) (pos F *ℤ pos N))

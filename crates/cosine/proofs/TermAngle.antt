@@ -17,8 +17,8 @@ use Rattle.cosine.specs.declared.term.Prepared.{Prepared}
 use Rattle.cosine.specs.machine.Prepared.{base, base², base³, half-base, c-bias, half-millennium, Residue, Ready}
 use Rattle.cosine.specs.Cosine.{cosine}
 use Rattle.cosine.specs.Terms.{term-angle, term-cosine, term-value}
-use Rattle.cosine.proofs.Natural.{rounded-nat}
-use Rattle.cosine.proofs.Turns.{cosine-mod}
+use Rattle.cosine.proofs.NaturalSteps.{rounded-nat}
+use Rattle.cosine.proofs.WholeTurns.{cosine-mod}
 use Rattle.cosine.proofs.Residues.{residue-+, residue-*, residue-carry, residue-rest, residue-as, angle-of}
 
 -- ---- x + k
@@ -34,13 +34,20 @@ biased-low x k h = cert! (x ∷ pos k ∷ []) 0 (gap (natAbs-low x k h)) (search
 residue-at : {n : ℤ} {q q′ r r′ : ℕ} → q ≡ q′ → r ≡ r′ → Residue n q′ r′ → Residue n q r
 residue-at {n} e f a = subst₂ (λ s t. Residue n s t) (sym e) (sym f) a
 
-pub place-first : (t : ℤ) (m q r : ℕ) → pos m ≡ t +ℤ pos t-limit → q ≡ (P - angle-per-part * tau-limit + angle-per-part * m / T) % P → r ≡ angle-per-part * m % T → Residue (pos angle-per-part *ℤ t) q r
-place-first t m q r e f g = residue-at f g (residue-carry (record { turns = negℤ (pos 1); is = law t ∙ ap (λ z. pos T *ℤ (pos P *ℤ negℤ (pos 1) +ℤ pos (P - angle-per-part * tau-limit)) +ℤ pos angle-per-part *ℤ z) (sym e) }))
+place-first : (t : ℤ) (m q r : ℕ) → pos m ≡ t +ℤ pos t-limit → q ≡ (P - angle-per-part * tau-limit + angle-per-part * m / T) % P
+    → r ≡ angle-per-part * m % T → Residue (pos angle-per-part *ℤ t) q r
+place-first t m q r e f g = residue-at f g
+    (residue-carry (record {
+      turns = negℤ (pos 1);
+      is = law t
+          ∙ ap (λ z. pos T *ℤ (pos P *ℤ negℤ (pos 1) +ℤ pos (P - angle-per-part * tau-limit)) +ℤ pos angle-per-part *ℤ z) (sym e);
+    }))
   where
-    law : (t : ℤ) → pos angle-per-part *ℤ t ≡ pos T *ℤ (pos P *ℤ negℤ (pos 1) +ℤ pos (P - angle-per-part * tau-limit)) +ℤ pos angle-per-part *ℤ (t +ℤ pos t-limit)
+    law : (t : ℤ) → pos angle-per-part *ℤ t ≡ pos T *ℤ (pos P *ℤ negℤ (pos 1) +ℤ pos (P - angle-per-part * tau-limit))
+        +ℤ pos angle-per-part *ℤ (t +ℤ pos t-limit)
     law t = ring! (t ∷ []) (search polys depth 60 fits 100000) tt
 
-pub place-next : (t : ℤ) (g w : ℕ) {q r : ℕ} (z s : ℕ) → z ≡ (g * q + g * r / T) % P → s ≡ g * r % T → Residue (pos w *ℤ t) q r → Residue (pos (g * w) *ℤ t) z s
+place-next : (t : ℤ) (g w : ℕ) {q r : ℕ} (z s : ℕ) → z ≡ (g * q + g * r / T) % P → s ≡ g * r % T → Residue (pos w *ℤ t) q r → Residue (pos (g * w) *ℤ t) z s
 place-next t g w z s e f a = residue-at e f (residue-as (law (pos g) (pos w) t) (residue-carry (residue-* g a)))
   where
     law : (g w t : ℤ) → g *ℤ (w *ℤ t) ≡ g *ℤ w *ℤ t
@@ -50,10 +57,13 @@ place-next t g w z s e f a = residue-at e f (residue-as (law (pos g) (pos w) t) 
 
 -- the number that the digits g₀ .. g₃ of c + the bias stand for
 digits : (c t g₀ g₁ g₂ g₃ d : ℤ) → d ≡ c +ℤ pos c-bias → d ≡ g₀ +ℤ pos base *ℤ g₁ +ℤ pos base² *ℤ g₂ +ℤ pos base³ *ℤ g₃
-    → g₀ *ℤ (pos angle-per-part *ℤ t) +ℤ g₁ *ℤ (pos (angle-per-part * base) *ℤ t) +ℤ g₂ *ℤ (pos (angle-per-part * base²) *ℤ t) +ℤ g₃ *ℤ (pos (angle-per-part * base³) *ℤ t) +ℤ (pos half-millennium -ℤ pos (angle-per-part * c-bias) *ℤ t)
+    → g₀ *ℤ (pos angle-per-part *ℤ t) +ℤ g₁ *ℤ (pos (angle-per-part * base) *ℤ t) +ℤ g₂ *ℤ (pos (angle-per-part * base²) *ℤ t)
+    +ℤ g₃ *ℤ (pos (angle-per-part * base³) *ℤ t) +ℤ (pos half-millennium -ℤ pos (angle-per-part * c-bias) *ℤ t)
     ≡ pos half-millennium +ℤ pos angle-per-part *ℤ c *ℤ t
 digits c t g₀ g₁ g₂ g₃ d e f =
-    ring! (t ∷ g₀ ∷ g₁ ∷ g₂ ∷ g₃ ∷ []) {y = pos half-millennium +ℤ pos angle-per-part *ℤ (g₀ +ℤ pos base *ℤ g₁ +ℤ pos base² *ℤ g₂ +ℤ pos base³ *ℤ g₃ -ℤ pos c-bias) *ℤ t} (search polys depth 60 fits 100000) tt
+    ring! (t ∷ g₀ ∷ g₁ ∷ g₂ ∷ g₃ ∷ [])
+    {y = pos half-millennium +ℤ pos angle-per-part *ℤ (g₀ +ℤ pos base *ℤ g₁ +ℤ pos base² *ℤ g₂ +ℤ pos base³ *ℤ g₃ -ℤ pos c-bias) *ℤ t}
+    (search polys depth 60 fits 100000) tt
     ∙ ap (λ z. pos half-millennium +ℤ pos angle-per-part *ℤ (z -ℤ pos c-bias) *ℤ t) (sym f ∙ e)
     ∙ ring! (c ∷ t ∷ []) (search polys depth 60 fits 100000) tt
 
@@ -69,7 +79,8 @@ angle-is p h b c d q r e f g =
     let whole : d ≡ g₀ + base * g₁ + base² * g₂ + base³ * g₃ = omega arith in
     angle-of b c (p .t) q r
     (residue-at f g (residue-as (digits c (p .t) (pos g₀) (pos g₁) (pos g₂) (pos g₃) (pos d) e (ap pos whole))
-    (residue-+ (residue-+ (residue-+ (residue-+ (residue-* g₀ (h .place-0)) (residue-* g₁ (h .place-1))) (residue-* g₂ (h .place-2))) (residue-* g₃ (h .place-3))) (h .rest))))
+    (residue-+ (residue-+ (residue-+ (residue-+ (residue-* g₀ (h .place-0)) (residue-* g₁ (h .place-1))) (residue-* g₂ (h .place-2)))
+    (residue-* g₃ (h .place-3))) (h .rest))))
 
 -- ---- what fits
 

@@ -5,9 +5,9 @@ use Prim.Native.Nat.{ℕ, zero, suc, _*_, _+_, _-_, _/_}
 use lib.IntN.{ℤ, pos, _*ℤ_}
 use Rattle.integers.proofs.Ring.{E, v, #, _⊕_, _⊖_, _⊗_, ⊝, ring}
 use Rattle.cosine.specs.Reference.{power, factorial, sum, alternate, even-series, odd-series}
-use Rattle.cosine.proofs.Lists.{all-evens, all-odds}
-use Rattle.cosine.proofs.Horner.{low, up}
-use Rattle.cosine.proofs.Part.{C-up, C-low, S-up, S-low}
+use Rattle.cosine.proofs.Divisors.{all-evens, all-odds}
+use Rattle.cosine.proofs.NestedSeries.{low, up}
+use Rattle.cosine.proofs.Lipschitz.{C-up, C-low, S-up, S-low}
 
 -- the same as expressions
 abbrev lowᴱ : E → List ℕ → E
@@ -18,15 +18,15 @@ abbrev upᴱ : E → E → List ℕ → E
 upᴱ D Z [] = # 1
 upᴱ D Z (d ∷ ds) = # d ⊗ D ⊗ lowᴱ D ds ⊖ Z ⊗ upᴱ D Z ds
 
-abbrev pub powerᴱ : E → ℕ → E
+abbrev powerᴱ : E → ℕ → E
 powerᴱ x zero = # 1
 powerᴱ x (suc m) = x ⊗ powerᴱ x m
 
-abbrev pub sumᴱ : ℕ → (ℕ → E) → E
+abbrev sumᴱ : ℕ → (ℕ → E) → E
 sumᴱ zero t = t 0
 sumᴱ (suc m) t = sumᴱ m t ⊕ t (suc m)
 
-abbrev pub alternateᴱ : ℕ → E → E
+abbrev alternateᴱ : ℕ → E → E
 alternateᴱ zero x = x
 alternateᴱ (suc m) x = ⊝ (alternateᴱ m x)
 

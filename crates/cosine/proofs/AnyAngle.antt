@@ -14,9 +14,9 @@ use Rattle.units.specs.Units.{U}
 use Rattle.cosine.specs.Cosine.{q-of, r-of, w-of}
 use Rattle.cosine.specs.Reference.{two-pi as A, four as F, ref-q, ref-r}
 use Rattle.integers.proofs.Near.{Near, near-trans, near-weaken, near-times, near-as}
-use Rattle.cosine.proofs.Part.{Angle, f-up, f-low, f-low-pos, near-f}
-use Rattle.cosine.proofs.Work.{rounded-most, rounded-least, working, near-working}
-use Rattle.cosine.proofs.Reduce.{Y, B, bound, Two, Agree, near-two}
+use Rattle.cosine.proofs.Lipschitz.{Angle, f-up, f-low, f-low-pos, near-f}
+use Rattle.cosine.proofs.WorkingSeries.{rounded-most, rounded-least, working, near-working}
+use Rattle.cosine.proofs.Reductions.{Y, B, bound, Two, Agree, near-two}
 
 -- a turn of four quarters Q in 1/(step·U), with G/(Y·step·U) the most that Q/(step·U) differs from the reference's quarter
 pub record Turn (Q step G : ℕ) : Type 0 where
@@ -49,11 +49,13 @@ r-least Q h x = cert! (pos Q ∷ x ∷ rounded x Q ∷ []) 0 (gap (rounded-low x
 
 pub ref-most : (n : ℤ) (N : ℕ) → 0 < N → pos 2 *ℤ ref-r n N ≼ pos A *ℤ pos N
 unfolding ref-r ref-q
-ref-most n N h = cert! (n ∷ pos N ∷ rounded (n *ℤ pos F) (A * N) ∷ []) 0 (gap< (rounded-high (n *ℤ pos F) (A * N) (omega arith)) ⊞ nonneg 1) (search polys depth 60 fits 100000) tt
+ref-most n N h = cert! (n ∷ pos N ∷ rounded (n *ℤ pos F) (A * N) ∷ []) 0 (gap< (rounded-high (n *ℤ pos F) (A * N) (omega arith)) ⊞ nonneg 1)
+    (search polys depth 60 fits 100000) tt
 
 pub ref-least : (n : ℤ) (N : ℕ) → 0 < N → negℤ (pos A *ℤ pos N) ≼ pos 2 *ℤ ref-r n N
 unfolding ref-r ref-q
-ref-least n N h = cert! (n ∷ pos N ∷ rounded (n *ℤ pos F) (A * N) ∷ []) 0 (gap (rounded-low (n *ℤ pos F) (A * N) (omega arith))) (search polys depth 60 fits 100000) tt
+ref-least n N h = cert! (n ∷ pos N ∷ rounded (n *ℤ pos F) (A * N) ∷ []) 0 (gap (rounded-low (n *ℤ pos F) (A * N) (omega arith)))
+    (search polys depth 60 fits 100000) tt
 
 -- ---- the angles r/s and w/U
 r-angle : {Q step G : ℕ} → Turn Q step G → (x : ℤ) → Angle (r-of Q x) (pos step *ℤ pos U)
@@ -69,8 +71,12 @@ pub w-angle : {Q step G : ℕ} → Turn Q step G → (x : ℤ) → Angle (w-of Q
 unfolding w-of
 w-angle {Q} {step} {G} t x =
     let ρ = pos Q ∷ pos step ∷ r-of Q x ∷ [] in
-    let hi : rounded (r-of Q x) step ≼ pos 785400000 = rounded-most (r-of Q x) (pos 785400000) step (t .step-pos) (cert! ρ 1 (gap (r-most Q (t .Q-pos) x) ⊞ gap (t .eighth)) (search polys depth 60 fits 100000) tt) in
-    let lo : negℤ (pos 785400000) ≼ rounded (r-of Q x) step = rounded-least (r-of Q x) (negℤ (pos 785400000)) step (t .step-pos) (cert! ρ 1 (gap (r-least Q (t .Q-pos) x) ⊞ gap (t .eighth)) (search polys depth 60 fits 100000) tt) in
+    let hi : rounded (r-of Q x) step ≼ pos 785400000 =
+    rounded-most (r-of Q x) (pos 785400000) step (t .step-pos)
+    (cert! ρ 1 (gap (r-most Q (t .Q-pos) x) ⊞ gap (t .eighth)) (search polys depth 60 fits 100000) tt) in
+    let lo : negℤ (pos 785400000) ≼ rounded (r-of Q x) step =
+    rounded-least (r-of Q x) (negℤ (pos 785400000)) step (t .step-pos)
+    (cert! ρ 1 (gap (r-least Q (t .Q-pos) x) ⊞ gap (t .eighth)) (search polys depth 60 fits 100000) tt) in
     record {
       positive = record { lt = tt };
       most = cert! (rounded (r-of Q x) step ∷ []) 0 (5000 · gap hi) (search polys depth 60 fits 100000) tt;
@@ -93,7 +99,8 @@ whole s N = pos 1000 *ℤ pos U *ℤ (pos Y *ℤ s *ℤ N) *ℤ pos B
 abbrev pub all-errors : ℤ → ℤ → ℤ → ℤ → ℤ
 all-errors s N G f = pos 1613 *ℤ (pos Y *ℤ s *ℤ N) *ℤ pos B +ℤ pos 1220 *ℤ pos U *ℤ pos B *ℤ (f +ℤ G *ℤ N) +ℤ pos 1000 *ℤ pos U *ℤ (pos Y *ℤ s *ℤ N)
 
-three-steps : (k k′ : ℕ) (w R R′ s N G f : ℤ) → pos 0 ≺ s → pos 0 ≺ N → Angle w (pos U) → Angle R s → Near (pos 2 *ℤ pos U) (pos 1) w (pos U) R s → Agree k k′ s N G R R′ f
+three-steps : (k k′ : ℕ) (w R R′ s N G f : ℤ) → pos 0 ≺ s → pos 0 ≺ N → Angle w (pos U) → Angle R s → Near (pos 2 *ℤ pos U) (pos 1) w (pos U) R s
+    → Agree k k′ s N G R R′ f
     → Near (whole s N) (all-errors s N G f) (working k w) (pos U) (f-up k′ R′ (pos F *ℤ N)) (f-low k′ (pos F *ℤ N))
 three-steps k k′ w R R′ s N G f hs hN a b h c =
     let g = pos Y *ℤ s *ℤ N in
@@ -103,23 +110,29 @@ three-steps k k′ w R R′ s N G f hs hN a b h c =
     let p₂ = f-low-pos k s hs in
     let p₃ = f-low-pos k′ (pos F *ℤ N) (product-pos (pos F) N (record { lt = tt }) hN) in
     let one : Near (whole s N) (pos 1003 *ℤ g *ℤ pos B) (working k w) (pos U) (f-up k w (pos U)) (f-low k (pos U)) =
-    near-as (whole s N) (pos 1003 *ℤ g *ℤ pos B) hU p₁ (ring! (s ∷ N ∷ []) (search polys depth 60 fits 100000) tt) (cert! (s ∷ N ∷ []) 0 (nonneg 0) (search polys depth 60 fits 100000) tt)
+    near-as (whole s N) (pos 1003 *ℤ g *ℤ pos B) hU p₁ (ring! (s ∷ N ∷ []) (search polys depth 60 fits 100000) tt)
+    (cert! (s ∷ N ∷ []) 0 (nonneg 0) (search polys depth 60 fits 100000) tt)
     (near-times (g *ℤ pos B) (hg ⊛ nonneg B) (near-working k w a)) in
     let two : Near (whole s N) (pos 610 *ℤ g *ℤ pos B) (f-up k w (pos U)) (f-low k (pos U)) (f-up k R s) (f-low k s) =
-    near-as (whole s N) (pos 610 *ℤ g *ℤ pos B) p₁ p₂ (ring! (s ∷ N ∷ []) (search polys depth 60 fits 100000) tt) (cert! (s ∷ N ∷ []) 0 (nonneg 0) (search polys depth 60 fits 100000) tt)
+    near-as (whole s N) (pos 610 *ℤ g *ℤ pos B) p₁ p₂ (ring! (s ∷ N ∷ []) (search polys depth 60 fits 100000) tt)
+    (cert! (s ∷ N ∷ []) 0 (nonneg 0) (search polys depth 60 fits 100000) tt)
     (near-times (pos 10 *ℤ g *ℤ pos B) (nonneg 10 ⊛ hg ⊛ nonneg B) (near-f k w (pos U) R s (pos 1) (pos 2 *ℤ pos U) a b (nonneg 1) h)) in
     let three : Near (whole s N) (pos 20 *ℤ pos U *ℤ bound s N G f) (f-up k R s) (f-low k s) (f-up k′ R′ (pos F *ℤ N)) (f-low k′ (pos F *ℤ N)) =
-    near-as (whole s N) (pos 20 *ℤ pos U *ℤ bound s N G f) p₂ p₃ (ring! (s ∷ N ∷ []) (search polys depth 60 fits 100000) tt) (cert! (s ∷ N ∷ G ∷ f ∷ []) 0 (nonneg 0) (search polys depth 60 fits 100000) tt)
+    near-as (whole s N) (pos 20 *ℤ pos U *ℤ bound s N G f) p₂ p₃ (ring! (s ∷ N ∷ []) (search polys depth 60 fits 100000) tt)
+    (cert! (s ∷ N ∷ G ∷ f ∷ []) 0 (nonneg 0) (search polys depth 60 fits 100000) tt)
     (near-times (pos 20 *ℤ pos U) (nonneg 20000000000) c) in
-    near-weaken (all-errors s N G f) hU p₃ (cert! (s ∷ N ∷ G ∷ f ∷ []) 0 (nonneg 0) (search polys depth 60 fits 100000) tt) (near-trans hU p₂ p₃ (near-trans hU p₁ p₂ one two) three)
+    near-weaken (all-errors s N G f) hU p₃ (cert! (s ∷ N ∷ G ∷ f ∷ []) 0 (nonneg 0) (search polys depth 60 fits 100000) tt)
+    (near-trans hU p₂ p₃ (near-trans hU p₁ p₂ one two) three)
 
 -- the difference of the angles, with that of the turns
-spread : (Q s N G X n q q′ m e : ℤ) → pos 0 ≼ N → pos Y *ℤ (X *ℤ N -ℤ s *ℤ n) ≼ e → q ≼ m → negℤ m ≼ q → Q *ℤ pos Y ≼ pos 2 *ℤ pos A *ℤ s +ℤ G → pos 2 *ℤ pos A *ℤ s ≼ Q *ℤ pos Y +ℤ G
+spread : (Q s N G X n q q′ m e : ℤ) → pos 0 ≼ N → pos Y *ℤ (X *ℤ N -ℤ s *ℤ n) ≼ e → q ≼ m → negℤ m ≼ q → Q *ℤ pos Y ≼ pos 2 *ℤ pos A *ℤ s +ℤ G
+    → pos 2 *ℤ pos A *ℤ s ≼ Q *ℤ pos Y +ℤ G
     → (X -ℤ q *ℤ Q) *ℤ (pos Y *ℤ N) -ℤ pos 2 *ℤ s *ℤ (n *ℤ pos F -ℤ q′ *ℤ (pos A *ℤ N) +ℤ (q′ -ℤ q) *ℤ (pos A *ℤ N)) ≼ e +ℤ m *ℤ G *ℤ N
 spread Q s N G X n q q′ m e hN h a b c d =
     cert! (Q ∷ s ∷ N ∷ G ∷ X ∷ n ∷ q ∷ q′ ∷ m ∷ e ∷ []) 1 (2 · gap h ⊞ hN ⊛ (gap b ⊛ gap d ⊞ gap a ⊛ gap c)) (search polys depth 60 fits 100000) tt
 
-spread⁻ : (Q s N G X n q q′ m e : ℤ) → pos 0 ≼ N → negℤ e ≼ pos Y *ℤ (X *ℤ N -ℤ s *ℤ n) → q ≼ m → negℤ m ≼ q → Q *ℤ pos Y ≼ pos 2 *ℤ pos A *ℤ s +ℤ G → pos 2 *ℤ pos A *ℤ s ≼ Q *ℤ pos Y +ℤ G
+spread⁻ : (Q s N G X n q q′ m e : ℤ) → pos 0 ≼ N → negℤ e ≼ pos Y *ℤ (X *ℤ N -ℤ s *ℤ n) → q ≼ m → negℤ m ≼ q → Q *ℤ pos Y ≼ pos 2 *ℤ pos A *ℤ s +ℤ G
+    → pos 2 *ℤ pos A *ℤ s ≼ Q *ℤ pos Y +ℤ G
     → pos 2 *ℤ s *ℤ (n *ℤ pos F -ℤ q′ *ℤ (pos A *ℤ N) +ℤ (q′ -ℤ q) *ℤ (pos A *ℤ N)) -ℤ (X -ℤ q *ℤ Q) *ℤ (pos Y *ℤ N) ≼ e +ℤ m *ℤ G *ℤ N
 spread⁻ Q s N G X n q q′ m e hN h a b c d =
     cert! (Q ∷ s ∷ N ∷ G ∷ X ∷ n ∷ q ∷ q′ ∷ m ∷ e ∷ []) 1 (2 · gap h ⊞ hN ⊛ (gap a ⊛ gap d ⊞ gap b ⊛ gap c)) (search polys depth 60 fits 100000) tt
@@ -153,18 +166,26 @@ two-of {Q} {step} {G} t X n N m e c = record {
   near-enough = c .near-enough;
 }
   where
-    above-of : r-of Q X *ℤ (pos Y *ℤ pos N) -ℤ pos 2 *ℤ (pos step *ℤ pos U) *ℤ (ref-r n N +ℤ (ref-q n N -ℤ q-of Q X) *ℤ (pos A *ℤ pos N)) ≼ e +ℤ m *ℤ pos G *ℤ pos N
-    above-of = unfold r-of ref-r in spread (pos Q) (pos step *ℤ pos U) (pos N) (pos G) X n (q-of Q X) (ref-q n N) m e (nonneg N) (c .e-most) (c .q-most) (c .q-least) (t .gap-most) (t .gap-least)
+    above-of : r-of Q X *ℤ (pos Y *ℤ pos N) -ℤ pos 2 *ℤ (pos step *ℤ pos U) *ℤ (ref-r n N +ℤ (ref-q n N -ℤ q-of Q X) *ℤ (pos A *ℤ pos N))
+        ≼ e +ℤ m *ℤ pos G *ℤ pos N
+    above-of = unfold r-of ref-r in
+        spread (pos Q) (pos step *ℤ pos U) (pos N) (pos G) X n (q-of Q X) (ref-q n N) m e (nonneg N) (c .e-most) (c .q-most) (c .q-least) (t .gap-most)
+        (t .gap-least)
 
-    below-of : pos 2 *ℤ (pos step *ℤ pos U) *ℤ (ref-r n N +ℤ (ref-q n N -ℤ q-of Q X) *ℤ (pos A *ℤ pos N)) -ℤ r-of Q X *ℤ (pos Y *ℤ pos N) ≼ e +ℤ m *ℤ pos G *ℤ pos N
-    below-of = unfold r-of ref-r in spread⁻ (pos Q) (pos step *ℤ pos U) (pos N) (pos G) X n (q-of Q X) (ref-q n N) m e (nonneg N) (c .e-least) (c .q-most) (c .q-least) (t .gap-most) (t .gap-least)
+    below-of : pos 2 *ℤ (pos step *ℤ pos U) *ℤ (ref-r n N +ℤ (ref-q n N -ℤ q-of Q X) *ℤ (pos A *ℤ pos N)) -ℤ r-of Q X *ℤ (pos Y *ℤ pos N)
+        ≼ e +ℤ m *ℤ pos G *ℤ pos N
+    below-of = unfold r-of ref-r in
+        spread⁻ (pos Q) (pos step *ℤ pos U) (pos N) (pos G) X n (q-of Q X) (ref-q n N) m e (nonneg N) (c .e-least) (c .q-most) (c .q-least) (t .gap-most)
+        (t .gap-least)
 
 pub near-any : {Q step G : ℕ} → Turn Q step G → (j X n : ℤ) (N : ℕ) (m e : ℤ) → Close-angles Q step G X n N m e
     → Near (whole (pos step *ℤ pos U) (pos N)) (all-errors (pos step *ℤ pos U) (pos N) (pos G) (e +ℤ m *ℤ pos G *ℤ pos N))
-    (working (modulo (q-of Q X +ℤ j) 4) (w-of Q step X)) (pos U) (f-up (modulo (ref-q n N +ℤ j) 4) (ref-r n N) (pos F *ℤ pos N)) (f-low (modulo (ref-q n N +ℤ j) 4) (pos F *ℤ pos N))
+    (working (modulo (q-of Q X +ℤ j) 4) (w-of Q step X)) (pos U) (f-up (modulo (ref-q n N +ℤ j) 4) (ref-r n N) (pos F *ℤ pos N))
+    (f-low (modulo (ref-q n N +ℤ j) 4) (pos F *ℤ pos N))
 near-any {Q} {step} {G} t j X n N m e c =
     let two = two-of t X n N m e c in
-    three-steps (modulo (q-of Q X +ℤ j) 4) (modulo (ref-q n N +ℤ j) 4) (w-of Q step X) (r-of Q X) (ref-r n N) (pos step *ℤ pos U) (pos N) (pos G) (e +ℤ m *ℤ pos G *ℤ pos N)
+    three-steps (modulo (q-of Q X +ℤ j) 4) (modulo (ref-q n N +ℤ j) 4) (w-of Q step X) (r-of Q X) (ref-r n N) (pos step *ℤ pos U) (pos N) (pos G)
+    (e +ℤ m *ℤ pos G *ℤ pos N)
     (two .s-pos) (two .N-pos) (w-angle t X) (r-angle t X) (near-w t X)
     (near-two j (pos Q) (pos step *ℤ pos U) (pos N) (pos G) (r-of Q X) (ref-r n N) (q-of Q X) (ref-q n N) (e +ℤ m *ℤ pos G *ℤ pos N) two)
   where

@@ -9,7 +9,7 @@ use Rattle.integers.specs.Division.{rounded, modulo, floor}
 use Rattle.integers.proofs.Division.{modulo-shift, floor-modulo}
 use Rattle.units.specs.Units.{quarter, turn, angle-step}
 use Rattle.cosine.specs.Cosine.{cosine-by, sine-by, even-part, odd-part, q-of, w-of, working-cosine, working-sine, cosine, sine}
-use Rattle.cosine.proofs.Any.{q-shift, r-shift}
+use Rattle.cosine.proofs.AnyAngle.{q-shift, r-shift}
 
 again : (Q k m : ℤ) → pos 4 *ℤ Q *ℤ k +ℤ m ≡ Q *ℤ (pos 4 *ℤ k) +ℤ m
 again Q k m = ring! (Q ∷ k ∷ m ∷ []) (search polys depth 60 fits 100000) tt
@@ -21,27 +21,27 @@ same-w : (Q step : ℕ) → 0 < Q → (k m : ℤ) → w-of Q step (pos Q *ℤ (p
 unfolding w-of
 same-w Q step h k m = ap (λ t. rounded t step) (r-shift Q h (pos 4 *ℤ k) m)
 
-pub whole-turns : (Q step : ℕ) → 0 < Q → (k m : ℤ) → working-cosine Q step (pos (4 * Q) *ℤ k +ℤ m) ≡ working-cosine Q step m
+whole-turns : (Q step : ℕ) → 0 < Q → (k m : ℤ) → working-cosine Q step (pos (4 * Q) *ℤ k +ℤ m) ≡ working-cosine Q step m
 unfolding working-cosine
 whole-turns Q step h k m =
     ap (λ t. working-cosine Q step t) (again (pos Q) k m)
     ∙ ap₂ (λ a b. cosine-by negℤ a (even-part b) (odd-part b)) (quarters-only Q h k m) (same-w Q step h k m)
 
-pub mod-turn : (Q step : ℕ) → 0 < Q → (x : ℤ) → working-cosine Q step (pos (modulo x (4 * Q))) ≡ working-cosine Q step x
+mod-turn : (Q step : ℕ) → 0 < Q → (x : ℤ) → working-cosine Q step (pos (modulo x (4 * Q))) ≡ working-cosine Q step x
 mod-turn Q step h x =
     sym (whole-turns Q step h (floor x (4 * Q)) (pos (modulo x (4 * Q)))) ∙ ap (λ t. working-cosine Q step t) (floor-modulo x (4 * Q) (omega arith))
 
-pub whole-turns-sine : (Q step : ℕ) → 0 < Q → (k m : ℤ) → working-sine Q step (pos (4 * Q) *ℤ k +ℤ m) ≡ working-sine Q step m
+whole-turns-sine : (Q step : ℕ) → 0 < Q → (k m : ℤ) → working-sine Q step (pos (4 * Q) *ℤ k +ℤ m) ≡ working-sine Q step m
 unfolding working-sine
 whole-turns-sine Q step h k m =
     ap (λ t. working-sine Q step t) (again (pos Q) k m)
     ∙ ap₂ (λ a b. sine-by negℤ a (even-part b) (odd-part b)) (quarters-only Q h k m) (same-w Q step h k m)
 
-pub mod-turn-sine : (Q step : ℕ) → 0 < Q → (x : ℤ) → working-sine Q step (pos (modulo x (4 * Q))) ≡ working-sine Q step x
+mod-turn-sine : (Q step : ℕ) → 0 < Q → (x : ℤ) → working-sine Q step (pos (modulo x (4 * Q))) ≡ working-sine Q step x
 mod-turn-sine Q step h x =
     sym (whole-turns-sine Q step h (floor x (4 * Q)) (pos (modulo x (4 * Q)))) ∙ ap (λ t. working-sine Q step t) (floor-modulo x (4 * Q) (omega arith))
 
--- At document 01's turn.
+-- At the turn of the rules.
 pub cosine-turns : (k x : ℤ) → cosine (pos turn *ℤ k +ℤ x) ≡ cosine x
 unfolding cosine
 cosine-turns k x = whole-turns quarter angle-step (omega arith) k x
