@@ -25,7 +25,7 @@ use Rattle.text.proofs.Digits.{early}
 use Rattle.integers.proofs.Tests.{by-cases}
 use Rattle.text.proofs.Branches.{verdict-count, verdict-term, verdict-early}
 use Rattle.text.proofs.GoodLines.{put, flag, line-of-term}
-use Rattle.text.proofs.OneByte.{Lexed, none, digit, pointed, spaced, kept, negated, view, never, term-of, count-of}
+use Rattle.text.proofs.OneByte.{Lexed, none, digit, pointed, spaced, kept, negated, view, term-of, Count, count-of}
 use Rattle.text.proofs.TakenTerms.{no-digit}
 use Rattle.text.proofs.Lines.{moved}
 
@@ -62,7 +62,8 @@ module _ (spot at w k m : ℕ) (s : Tally) where
   pub count-verdict : (n : ℕ) (L : Line) → whole-count L ≡ true → L .value ≡ n
       → (verdict (moved (sp spot at w k 0 s) L m) .refusal ≡ count-refusal k s n)
       × (verdict (moved (sp spot at w k 0 s) L m) .bytes ≡ encode n)
-      × (after-line (moved (sp spot at w k 0 s) L m) (verdict (moved (sp spot at w k 0 s) L m)) ≡ st (at + m + 1) (w + length (encode n)) (k + 1) n (opened k n s))
+      × (after-line (moved (sp spot at w k 0 s) L m) (verdict (moved (sp spot at w k 0 s) L m))
+      ≡ st (at + m + 1) (w + length (encode n)) (k + 1) n (opened k n s))
   count-verdict n L h e =
       let q = verdict-count (moved (sp spot at w k 0 s) L m) h in (rw (q, e), rw (q, e), rw (q, e))
 
@@ -134,32 +135,26 @@ term-kind (x ∷ xs) l h = term-kind xs (lex l x) (go (lex l x) (view l x))
 pub early-never : {P : Type 0} (r : Reader) → whole-count (r .line) ≡ false → whole-term (r .line) ≡ false → verdict r .refusal ≡ 0 → P
 early-never r p q g = let e = sym (verdict-early r p q) ∙ g in absurd (omega (arith, e))
 
--- A line feed that is not refused ends a count after counts, and a term after terms.
-pub ends-count : (r : Reader) (xs : List ℕ) → r .line ≡ lexes (fresh 20) xs → verdict r .refusal ≡ 0 → whole-count (lexes (fresh 20) xs) ≡ true
-ends-count r xs e g =
-    by-cases (whole-count (lexes (fresh 20) xs)) (λ p. p)
-    (λ p. by-cases (whole-term (lexes (fresh 20) xs))
-    (λ q. let t = term-of _ q in absurd (omega (arith, t .spot, count-kind xs (fresh 20) (omega arith))))
-    (λ q. early-never r (rw e p) (rw e q) g))
-
-pub ends-term : (r : Reader) (xs : List ℕ) → r .line ≡ lexes (fresh 0) xs → verdict r .refusal ≡ 0 → whole-term (lexes (fresh 0) xs) ≡ true
-ends-term r xs e g =
-    by-cases (whole-term (lexes (fresh 0) xs)) (λ p. p)
-    (λ p. by-cases (whole-count (lexes (fresh 0) xs))
-    (λ q. let c = count-of _ q in ⊎-elim (λ h. absurd (omega (arith, c .low))) (λ h. absurd (omega (arith, c .high))) (term-kind xs (fresh 0) (inl (omega arith))))
-    (λ q. early-never r (rw e q) (rw e p) g))
-
+-- No line that begins as a term is a count, and none that begins as a count is a term.
 pub not-count : (xs : List ℕ) → whole-count (lexes (fresh 0) xs) ≡ false
-not-count xs =
-    by-cases (whole-count (lexes (fresh 0) xs))
-    (λ q. let c = count-of _ q in ⊎-elim (λ h. absurd (omega (arith, c .low))) (λ h. absurd (omega (arith, c .high))) (term-kind xs (fresh 0) (inl (omega arith))))
-    (λ q. q)
+not-count xs = by-cases (whole-count (lexes (fresh 0) xs)) (λ q. absurd (go (count-of _ q) (term-kind xs (fresh 0) (inl (omega arith))))) (λ q. q)
+  where
+    go : Count (lexes (fresh 0) xs) → (lexes (fresh 0) xs .spot ≤ 18) ⊎ (lexes (fresh 0) xs .spot ≡ 31) → ⊥
+    go c (inl h) = omega (arith, c .low)
+    go c (inr h) = omega (arith, c .high)
 
 pub not-term : (xs : List ℕ) → whole-term (lexes (fresh 20) xs) ≡ false
 not-term xs =
     by-cases (whole-term (lexes (fresh 20) xs))
     (λ q. let t = term-of _ q in absurd (omega (arith, t .spot, count-kind xs (fresh 20) (omega arith))))
     (λ q. q)
+
+-- So a line feed that is not refused ends a count after counts, and a term after terms.
+pub ends-count : (r : Reader) (xs : List ℕ) → r .line ≡ lexes (fresh 20) xs → verdict r .refusal ≡ 0 → whole-count (lexes (fresh 20) xs) ≡ true
+ends-count r xs e g = by-cases (whole-count (lexes (fresh 20) xs)) (λ p. p) (λ p. early-never r (rw e p) (rw e (not-term xs)) g)
+
+pub ends-term : (r : Reader) (xs : List ℕ) → r .line ≡ lexes (fresh 0) xs → verdict r .refusal ≡ 0 → whole-term (lexes (fresh 0) xs) ≡ true
+ends-term r xs e g = by-cases (whole-term (lexes (fresh 0) xs)) (λ p. p) (λ p. early-never r (rw e (not-count xs)) (rw e p) g)
 
 pub is-whole : (c : CountLine) → GoodCount c → whole-count (put (fresh 20) (21 + length (c .more)) 0 (count c)) ≡ true
 unfolding whole-count
