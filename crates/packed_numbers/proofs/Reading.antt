@@ -1,4 +1,4 @@
--- Where a reader stands after what it has read, and what the answer of a function tells of it. Assumes nothing.
+-- The offset that a reader has come to stands for the bytes from there, and what a function answers tells what was read. Assumes nothing.
 use mathlib.Core.Path.{_≡_, refl, sym, ap, _∙_}
 use mathlib.Core.Bool.{Bool, true, false, cond}
 use mathlib.Core.List.{List, [], _∷_}

@@ -8,6 +8,7 @@ use native.Mathlib.Omega.{arith}
 use borrow.Author.Tests.{lt-ltb, le-ltb, lt-leb, le-leb, eq-eqb, ne-eqb}
 use lib.ListN.{length}
 use Rattle.units.specs.declared.Refusal.the-variants.{OverLimit, NotShortest}
+pub use Rattle.packed_numbers.specs.Numbers.{AllBytes}
 use Rattle.packed_numbers.specs.Numbers.{got, bad, closed, groups-from, number, groups, encode}
 use Rattle.packed_numbers.proofs.Decode.{power-next}
 
@@ -74,11 +75,6 @@ unfolding number encode
 number-encoded v at rest h =
     read-groups 10 0 0 at v rest 9 h (omega arith) (omega arith) (omega arith) (λ e. refl) (λ e. refl)
     ∙ ap (λ (n : ℕ). got n (at + length (groups 10 v)) rest) (omega arith)
-
--- Each is a byte.
-abbrev pub AllBytes : List ℕ → Type 0
-AllBytes [] = Unit {0}
-AllBytes (b ∷ s) = (b < 256) × AllBytes s
 
 pub bytes-append : (s t : List ℕ) → AllBytes s → AllBytes t → AllBytes (s ++ t)
 bytes-append [] t a b = b

@@ -1,7 +1,7 @@
 -- Packed numbers (RULES, "Series, as text and packed" and "Refusals and what they leave"): how one is read, written, folded and unfolded.
 use mathlib.Core.Bool.{cond}
 use mathlib.Core.List.{List, [], _∷_}
-use Prim.Native.Nat.{ℕ, zero, suc, _+_, _*_, _/_, _%_, _-_, _^_}
+use Prim.Native.Nat.{ℕ, zero, suc, _+_, _*_, _/_, _%_, _-_, _^_, _<_}
 use lib.Dec.{leb, ltb, eqb}
 use lib.IntN.{ℤ, pos, negsuc}
 use Rattle.units.specs.declared.Refusal.{Refusal}
@@ -14,6 +14,11 @@ group = 128
 -- A number has at most so many groups.
 abbrev pub group-limit : ℕ
 group-limit = 9
+
+-- Each is a byte.
+abbrev pub AllBytes : List ℕ → Type 0
+AllBytes [] = Unit {0}
+AllBytes (b ∷ s) = (b < 256) × AllBytes s
 
 -- What a reader answers: what it has read, the offset past it and the bytes from there; or a refusal.
 pub data Read (A : Type 0) : Type 0 where

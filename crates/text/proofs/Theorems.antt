@@ -29,11 +29,12 @@ unfolding run
 cut r out [] ys = refl
 cut r out (byte ∷ xs) ys = cut (step r out byte) (step-out r out byte) xs ys
 
--- Any number of calls, of any lengths, zero too.
+-- Some calls, one after the other; each may have any bytes or none.
 unfoldable pub calls : Reader → List ℕ → List (List ℕ) → Run
 calls r out [] = record { reader = r; out = out }
 calls r out (p ∷ ps) = calls (run r out p .reader) (run r out p .out) ps
 
+-- The bytes of all calls.
 unfoldable pub joined : List (List ℕ) → List ℕ
 joined [] = []
 joined (p ∷ ps) = p ++ joined ps
@@ -43,13 +44,13 @@ unfolding calls joined
 cutting r out [] = unfold run in refl
 cutting r out (p ∷ ps) = cutting (run r out p .reader) (run r out p .out) ps ∙ sym (cut r out p (joined ps))
 
--- Every cutting gives the output and the answer of the whole text in one call.
+-- However a text is cut into calls, it comes to what one call with all of it comes to.
 pub any-cutting : (text out : List ℕ) (ps : List (List ℕ)) → joined ps ≡ text
     → _≡_ {A = Run} record { reader = ended (calls begun out ps .reader); out = calls begun out ps .out } (whole text out)
 any-cutting text out ps e =
     ap (λ (x : Run). record { reader = ended (x .reader); out = x .out }) (cutting begun out ps ∙ ap (λ (t : List ℕ). run begun out t) e)
 
--- Calls after a refusal or after the end repeat the answer and write nothing.
+-- A reader that has refused or ended changes no more, and neither does the output.
 pub repeats : (r : Reader) (out : List ℕ) (ps : List (List ℕ)) → (r .status ≡ 0 → ⊥) → calls r out ps ≡ record { reader = r; out = out }
 repeats r out ps h = cutting r out ps ∙ stays (joined ps) r out h
 

@@ -75,7 +75,7 @@ unfoldable pub numeral : ℕ → List ℕ → ℕ
 numeral v [] = v
 numeral v (d ∷ ds) = numeral (10 * v + d) ds
 
--- 1 to n digits, the first one and more, with no needless leading zero: after a first digit 0 stands none.
+-- 1 to n digits, the first one and more; a first digit 0 stands alone.
 pub record Natural (n first : ℕ) (more : List ℕ) : Type 0 where
   pub digit : first < 10
   pub digits : AllDigits more
@@ -101,7 +101,7 @@ value d = sgn (d .minus) (size d)
 unfoldable pub decimal : Decimal → List ℕ
 decimal d = sign (d .minus) ++ (digits (d .first ∷ d .more) ++ (point ∷ digits (d .parts)))
 
--- A decimal as it may stand in a text: with digits in the right number, and no minus before zero.
+-- A decimal as it may stand in a text: digits in the right number, and a minus only where it is not zero.
 pub record GoodDecimal (d : Decimal) : Type 0 where
   pub whole : Natural whole-digits (d .first) (d .more)
   pub digits : AllDigits (d .parts)

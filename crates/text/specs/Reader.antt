@@ -129,7 +129,7 @@ last-offset = 18446744073709551615
 unfoldable pub uncounted : Reader → Bool
 uncounted r = eqb (r .at) last-offset
 
--- The reader after one byte. One that has stopped stays as it is; any byte after block 18 is 9.
+-- The reader after one byte. One that has stopped stays as it is; after block 18 every byte is refused 9.
 unfoldable pub step : Reader → List ℕ → ℕ → Reader
 step r out byte =
     cond (eqb (r .status) reading)

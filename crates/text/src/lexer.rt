@@ -50,6 +50,22 @@ pub fn fresh_line(spot: u64) -> Line
     }
 }
 
+// The line put at another spot, with another number so far.
+fn put(l: Line, spot: u64, minus: u64, value: u64) -> Line
+    ensures { λ r. ⌜ r ≡ Rattle.text.specs.Lexer.put l spot minus value ⌝ }
+{
+    Line {
+        spot,
+        field: l.field,
+        minus,
+        value,
+        minusa: l.minusa,
+        a: l.a,
+        minusb: l.minusb,
+        b: l.b,
+    }
+}
+
 // A digit that stands first, or after a number that is not 0.
 fn whole_digit(first: bool, value: u64) -> bool
     ensures { λ r. ⌜ r ≡ Rattle.text.specs.Lexer.whole-digit first value ⌝ }
@@ -95,16 +111,7 @@ fn with_digit(l: Line, d: u64) -> Line
     ensures { λ r. ⌜ r ≡ with-digit l d ⌝ }
 {
     if takes_digit(l.spot, l.minus, l.value, d) {
-        return Line {
-            spot: l.spot + 1,
-            field: l.field,
-            minus: l.minus,
-            value: 10 * l.value + d,
-            minusa: l.minusa,
-            a: l.a,
-            minusb: l.minusb,
-            b: l.b,
-        };
+        return put(l, l.spot + 1, l.minus, 10 * l.value + d);
     }
     fresh_line(SPOT_BAD)
 }
@@ -115,16 +122,7 @@ fn with_point(l: Line) -> Line
 {
     if 1 <= l.spot {
         if l.spot <= WHOLE_DIGITS {
-            return Line {
-                spot: SPOT_POINT,
-                field: l.field,
-                minus: l.minus,
-                value: l.value,
-                minusa: l.minusa,
-                a: l.a,
-                minusb: l.minusb,
-                b: l.b,
-            };
+            return put(l, SPOT_POINT, l.minus, l.value);
         }
         return fresh_line(SPOT_BAD);
     }
@@ -165,16 +163,7 @@ fn with_minus(l: Line) -> Line
 {
     if l.spot == SPOT_DECIMAL {
         if l.minus == 0 {
-            return Line {
-                spot: SPOT_DECIMAL,
-                field: l.field,
-                minus: 1,
-                value: l.value,
-                minusa: l.minusa,
-                a: l.a,
-                minusb: l.minusb,
-                b: l.b,
-            };
+            return put(l, SPOT_DECIMAL, 1, l.value);
         }
         return fresh_line(SPOT_BAD);
     }

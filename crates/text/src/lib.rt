@@ -1,5 +1,5 @@
-// The reader of series texts (RULES, "Series, as text and packed"): a text comes in pieces, all with one output buffer, and its packed form
-// is written there line by line.
+// The reader of series texts (RULES, "Series, as text and packed"): a text comes in pieces, and its packed form is written line by line into
+// one buffer that each call lends.
 mod judge;
 mod lexer;
 mod steps;
@@ -75,7 +75,7 @@ pub fn start() -> Reader
     }
 }
 
-// The next piece of the text, of any length, zero too.
+// The next piece of the text; it may be empty.
 pub fn piece(r: Reader, text: &[u8], out: &mut [u8]) -> Reader
     ensures { λ s. ⌜ (s ≡ run r (now (out .entry)) (now (text .entry)) .reader) × (now (out .exit) ≡ run r (now (out .entry)) (now (text .entry)) .out) ⌝ }
 {

@@ -3,8 +3,7 @@ use mathlib.Core.Path.{_≡_, refl, sym, ap, _∙_}
 use Prim.Native.Nat.{_-_}
 use native.Mathlib.Omega.{arith}
 use borrow.Author.Needs.{needs}
-use lib.ListN.{length}
-use lib.ListN.{drop}
+use lib.ListN.{length, drop}
 use Rattle.text.proofs.Branches.{run-more, run-end}
 use Rattle.text.specs.Reader.{Run, run}
 use Rattle.text.proofs.piece.Statement.{statement}
@@ -33,9 +32,11 @@ loop-less c = omega arith
 
 loop-again : tie.Need-loop-again Inv-loop μ-loop
 loop-again c =
-    let l = c .before .before .before .before .before .before .loop in
-    let t = c .before .before .take-byte in
-    let s = c .before .before .before .before .before .before .before .before .before .args .text .now in
+    let byte = c .before .before in
+    let turn = byte .before .before .before .before in
+    let s = turn .before .before .before .args .text .now in
+    let l = turn .loop in
+    let t = byte .take-byte in
     (t .kept .1 .1 .0 ∙ l .inv .0, sym (run-more _ _ _ _ s (l .i) _ refl (omega arith) (t .ensures .0) (t .ensures .1)) ∙ l .inv .1)
 
 same-length : tie.Need-same-length Inv-loop μ-loop

@@ -23,14 +23,17 @@ same-length c = search needs
 
 returns : tie.Need-returns
 returns c =
-    let a = c .before .before .before .before .before .before .before .before .before .before .before .before .args in
+    let at-end = c .before .before .before in
+    let at-piece = at-end .before .before .before .before in
+    let at-start = at-piece .before .before in
+    let a = at-start .before .before .before .args in
     let t = a .text .now in
     let o = a .out .now in
-    let b = c .before .before .before .before .before .before .before .before .before .start .ensures in
-    let e = c .before .before .before .before .before .before .before .piece .ensures .0 ∙ ap (λ (r : Reader). run r o t .reader) b in (
-      c .answer .ensures ∙ ap told (c .before .before .before .end .ensures .0 ∙ ap ended e),
-      c .before .before .before .end .ensures .1 ∙ c .before .before .before .before .before .before .before .piece .ensures .1 ∙ ap
-          (λ (r : Reader). run r o t .out) b,
+    let b = at-start .start .ensures in
+    let p = at-piece .piece .ensures in
+    let e = at-end .end .ensures in (
+      c .answer .ensures ∙ ap told (e .0 ∙ ap ended (p .0 ∙ ap (λ (r : Reader). run r o t .reader) b)),
+      e .1 ∙ p .1 ∙ ap (λ (r : Reader). run r o t .out) b,
     )
 
 pub read-spec : {M : Type 1} → statement M

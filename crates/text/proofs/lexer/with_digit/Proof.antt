@@ -14,18 +14,21 @@ takes-digit-requires c κs = search needs
 took : (c : tie.Then1) → let a = c .before .before .args in takes-digit (a .l .spot) (a .l .minus) (a .l .value) (a .d) ≡ true
 took c = sym (c .before .takes-digit .ensures) ∙ c .if1 .taken
 
-add-t4 : tie.Need-add-t4
-add-t4 c = omega (arith, early _ _ _ _ (took (c .before)))
+add-put : tie.Need-add-put
+add-put c = omega (arith, early _ _ _ _ (took (c .before)))
 
-mul-t5 : tie.Need-mul-t5
-mul-t5 c = omega (arith, small _ _ _ _ (took (c .before .before)))
+mul-put : tie.Need-mul-put
+mul-put c = omega (arith, small _ _ _ _ (took (c .before .before)))
 
-add-t6 : tie.Need-add-t6
-add-t6 c = omega (arith, small _ _ _ _ (took (c .before .before)), c .before .before .before .before .pre)
+add-put-2 : tie.Need-add-put-2
+add-put-2 c = omega (arith, small _ _ _ _ (took (c .before .before)), c .before .before .before .before .pre)
+
+put-requires : tie.Need-put-requires
+put-requires c κs = search needs
 
 returns : tie.Need-returns
 unfolding with-digit
-returns c = rw (took (c .before .before))
+returns c = rw (c .put .ensures, took (c .before .before .before))
 
 fresh-line-requires : tie.Need-fresh-line-requires
 fresh-line-requires c κs = search needs
@@ -38,4 +41,4 @@ returns-2 c =
 pub with-digit-spec : {M : Type 1} → statement M
 with-digit-spec =
     tie.close
-    (tie.spec takes-digit-requires add-t4 mul-t5 add-t6 returns fresh-line-requires returns-2)
+    (tie.spec takes-digit-requires add-put mul-put add-put-2 put-requires returns fresh-line-requires returns-2)

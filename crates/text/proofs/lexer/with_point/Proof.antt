@@ -6,9 +6,14 @@ use borrow.Author.Needs.{needs}
 use Rattle.text.proofs.lexer.with_point.Statement.{statement}
 use Rattle.text.proofs.lexer.with_point.Tie as tie
 
+put-requires : tie.Need-put-requires
+put-requires c κs = search needs
+
 returns : tie.Need-returns
 unfolding with-point
-returns c = let a = c .before .before .before .before .args in rw (le-leb 1 (a .l .spot) (omega arith), le-leb (a .l .spot) 6 (omega arith))
+returns c =
+    let a = c .before .before .before .before .before .args in
+    rw (c .put .ensures, le-leb 1 (a .l .spot) (omega arith), le-leb (a .l .spot) 6 (omega arith))
 
 fresh-line-requires : tie.Need-fresh-line-requires
 fresh-line-requires c κs = search needs
@@ -28,4 +33,4 @@ returns-3 c = let a = c .before .before .before .args in rw (c .fresh-line2 .ens
 
 pub with-point-spec : {M : Type 1} → statement M
 with-point-spec =
-    tie.close (tie.spec returns fresh-line-requires returns-2 fresh-line-requires-2 returns-3)
+    tie.close (tie.spec put-requires returns fresh-line-requires returns-2 fresh-line-requires-2 returns-3)

@@ -1,7 +1,6 @@
 -- `text::writer::fold` meets its contract. Assumes nothing.
 use mathlib.Core.Path.{sym}
 use native.Mathlib.Omega.{arith}
-use borrow.Author.Needs.{needs}
 use Rattle.text.proofs.WrittenTerm.{fold-plus, fold-zero, fold-minus}
 use borrow.Author.Needs.{needs}
 use Rattle.text.proofs.writer.fold.Statement.{statement}
