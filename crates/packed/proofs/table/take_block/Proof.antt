@@ -1,16 +1,13 @@
 -- `take_block` meets its contract. Assumes nothing.
-use mathlib.Core.Path.{sym, _∙_, subst}
-use mathlib.Core.List.{List}
+use mathlib.Core.Path.{sym, _∙_}
 use Prim.Native.Nat.{_+_}
 use native.Mathlib.Omega.{arith}
 use lib.ListN.{drop}
 use borrow.Author.Needs.{needs}
-use Rattle.packed_numbers.specs.Numbers.{Read, number}
+use Rattle.packed_numbers.specs.Numbers.{number}
 use Rattle.packed_numbers.specs.machine.Answers.{plain}
 use Rattle.packed_numbers.proofs.Reading.{Got, got-plain, was-bad, number-after}
-use Rattle.limits.specs.declared.Term.{Term}
 use Rattle.packed.specs.Series.{after-block}
-use Rattle.packed.specs.machine.Answers.{Filled}
 use Rattle.packed.proofs.Walking.{show-stopped, filled-bad}
 use Rattle.packed.proofs.Blocks.{block-bad, block-over, series-over, block-got, opened-ready, block-read, block-walked}
 use Rattle.packed.proofs.table.take_block.Statement.{statement}
