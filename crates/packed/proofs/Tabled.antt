@@ -40,7 +40,8 @@ ends-below k [] j h = absurd (omega arith)
 ends-below k (ts ∷ blocks) zero h = omega arith
 ends-below k (ts ∷ blocks) (suc j) h = let l = ends-below (k + length ts) blocks j (omega arith) in omega arith
 
-block-is : (rows : List (List ℕ)) (k : ℕ) (es : List ℕ) (j : ℕ) → j < length es → getD (blocks-at rows k es) j [] ≡ terms-at rows (getD (k ∷ es) j 0) (getD es j 0 - getD (k ∷ es) j 0)
+block-is : (rows : List (List ℕ)) (k : ℕ) (es : List ℕ) (j : ℕ) → j < length es
+    → getD (blocks-at rows k es) j [] ≡ terms-at rows (getD (k ∷ es) j 0) (getD es j 0 - getD (k ∷ es) j 0)
 unfolding blocks-at
 block-is rows k [] j h = absurd (omega arith)
 block-is rows k (e ∷ es) zero h = refl

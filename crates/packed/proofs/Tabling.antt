@@ -2,7 +2,6 @@
 use mathlib.Core.Path.{_≡_, refl, sym, ap, _∙_}
 use mathlib.Core.List.{List, [], _∷_, _++_, map, append-assoc, append-nil}
 use Prim.Native.Nat.{ℕ, zero, suc, _+_, _-_, _≤_}
-use native.Mathlib.Nat.{add-zero}
 use native.Mathlib.Numerals.{add-one}
 use native.Mathlib.Omega.{arith}
 use lib.ListN.{length, getD, take, drop, set, take-append-drop, length-append, length-map, length-drop}
@@ -29,7 +28,8 @@ unfolding term-count
 count-more [] ts = omega arith
 count-more (x ∷ done) ts = rw (count-more done ts) (omega arith)
 
-pub ends-more : (k : ℕ) (done : List (List Term)) (ts : List Term) → block-ends k (done ++ ts ∷ []) ≡ block-ends k done ++ (k + term-count done + length ts) ∷ []
+pub ends-more : (k : ℕ) (done : List (List Term)) (ts : List Term)
+    → block-ends k (done ++ ts ∷ []) ≡ block-ends k done ++ (k + term-count done + length ts) ∷ []
 unfolding block-ends term-count
 ends-more k [] ts = ap (λ (n : ℕ). n ∷ []) (omega arith)
 ends-more k (x ∷ done) ts =
@@ -100,7 +100,8 @@ pub ends-stay : (rows : List (List ℕ)) (k : ℕ) (ts : List Term) → k + leng
 unfolding ends
 ends-stay rows k ts h = ap (map first) (drop-sets series-limit (map row-of ts) rows k (rw (length-map ts row-of) h))
 
-pub rows-stored : (rows : List (List ℕ)) (k : ℕ) (ts : List Term) → k + length ts ≤ length rows → take (k + length ts) (sets rows k (map row-of ts)) ≡ take k rows ++ map row-of ts
+pub rows-stored : (rows : List (List ℕ)) (k : ℕ) (ts : List Term) → k + length ts ≤ length rows
+    → take (k + length ts) (sets rows k (map row-of ts)) ≡ take k rows ++ map row-of ts
 rows-stored rows k ts h =
     let n : length (map row-of ts) ≡ length ts = length-map ts row-of in
     let m : length (take k rows ++ map row-of ts) ≡ k + length ts = rw (length-append (take k rows) (map row-of ts), n, length-take-le k rows (omega arith)) in

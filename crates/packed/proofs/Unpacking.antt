@@ -47,19 +47,23 @@ unpacking-none s rows z =
       sized = z;
     }
 
--- The table with one block more, and then with its end.
-module _ (rows after : List (List ℕ)) (n m k : ℕ) (done : List (List Term)) (r : Read (List Term)) (ts : List Term) (to : ℕ) (rest : List ℕ) (e : r ≡ got ts to rest) (p : m ≡ n + length ts) (few : m ≤ series-limit) (z : Sized rows) (f : Filled n r rows after) where
-  stored : after ≡ sets rows n (map row-of ts)
-  unfolding filled
-  stored = rw e at (f .rows)
+-- The rows of the table after a block.
+block-rows : (n : ℕ) (r : Read (List Term)) (rows after : List (List ℕ)) {ts : List Term} {to : ℕ} {rest : List ℕ} → r ≡ got ts to rest → Filled n r rows after
+    → after ≡ sets rows n (map row-of ts)
+unfolding filled
+block-rows n r rows after e f = rw e at (f .rows)
 
-  rows-block : take n rows ≡ all-rows done → take m (set after (series-limit + k) (m ∷ 0 ∷ 0 ∷ [])) ≡ all-rows (done ++ ts ∷ [])
-  rows-block w =
+-- Its terms are there, and then its end is too.
+module _ (rows after : List (List ℕ)) (n m k : ℕ) (done : List (List Term)) (ts : List Term) (f : m ≤ series-limit) (p : m ≡ n + length ts) (z : Sized rows) where
+  rows-block : after ≡ sets rows n (map row-of ts) → take n rows ≡ all-rows done
+      → take m (set after (series-limit + k) (m ∷ 0 ∷ 0 ∷ [])) ≡ all-rows (done ++ ts ∷ [])
+  rows-block stored w =
       let h : m ≤ series-limit + k = omega arith in
       rw (take-set-le m after (series-limit + k) (m ∷ 0 ∷ 0 ∷ []) h, stored, p, rows-stored rows n ts (omega (arith, z .size)), w) (sym (rows-more done ts))
 
-  ends-block : k < block-count → m ≡ 0 + term-count done + length ts → take k (ends rows) ≡ block-ends 0 done → take (k + 1) (ends (set after (series-limit + k) (m ∷ 0 ∷ 0 ∷ []))) ≡ block-ends 0 (done ++ ts ∷ [])
-  ends-block b c w =
+  ends-block : after ≡ sets rows n (map row-of ts) → k < block-count → m ≡ 0 + term-count done + length ts → take k (ends rows) ≡ block-ends 0 done
+      → take (k + 1) (ends (set after (series-limit + k) (m ∷ 0 ∷ 0 ∷ []))) ≡ block-ends 0 (done ++ ts ∷ [])
+  ends-block stored b c w =
       let h : ends after ≡ ends rows = ap ends stored ∙ ends-stay rows n ts (omega arith) in
       let l : k < length (ends rows) = rw (ends-length rows z) b in
       rw (ends-set after k (m ∷ 0 ∷ 0 ∷ []), h, add-one, take-suc-set (ends rows) k m l, w, ends-more 0 done ts, c)
@@ -68,10 +72,13 @@ module _ (s : List ℕ) (rows : List (List ℕ)) (tally : Tally) (i k : ℕ) (l 
   some : (n : ℕ) → k < block-count → n ≡ block-count - (k + 1) → block-count - k ≡ suc n
   some n h e = omega arith
 
-  left-got : (ts : List Term) (to : ℕ) → k < block-count → read-block k tally i (drop i s) ≡ got ts to (drop to s) → read-series 0 s ≡ joined (l .done ++ ts ∷ []) (read-blocks (block-count - (k + 1)) (k + 1) (after-block k tally ts) to (drop to s))
+  left-got : (ts : List Term) (to : ℕ) → k < block-count → read-block k tally i (drop i s) ≡ got ts to (drop to s)
+      → read-series 0 s ≡ joined (l .done ++ ts ∷ []) (read-blocks (block-count - (k + 1)) (k + 1) (after-block k tally ts) to (drop to s))
   unfolding read-blocks next
   left-got ts to h e =
-      l .whole ∙ rw (some (block-count - (k + 1)) h refl, e) (joined-more (l .done) ts (read-blocks (block-count - (k + 1)) (k + 1) (after-block k tally ts) to (drop to s)))
+      l .whole
+      ∙ rw (some (block-count - (k + 1)) h refl, e)
+      (joined-more (l .done) ts (read-blocks (block-count - (k + 1)) (k + 1) (after-block k tally ts) to (drop to s)))
 
   pub unpacking-stop : (q : Refusal) → k < block-count → read-block k tally i (drop i s) ≡ bad q → parse s ≡ refused q
   unfolding read-blocks next joined parse ended
@@ -91,22 +98,25 @@ module _ (s : List ℕ) (rows : List (List ℕ)) (tally : Tally) (i k : ℕ) (l 
   unfolding parse ended
   unpacking-done h b = rw (unpacking-last h, drop-of-length-le s b)
 
-  pub unpacking-more : (to : ℕ) (more : Tally) (after : List (List ℕ)) → k < block-count → Stepped (after-block k tally) s (read-block k tally i (drop i s)) to more
-      → Filled (tally .terms) (read-block k tally i (drop i s)) rows after → Unpacking s (set after (series-limit + k) (more .terms ∷ 0 ∷ 0 ∷ [])) more to (k + 1)
+  pub unpacking-more : (to : ℕ) (more : Tally) (after : List (List ℕ)) → k < block-count
+      → Stepped (after-block k tally) s (read-block k tally i (drop i s)) to more
+      → Filled (tally .terms) (read-block k tally i (drop i s)) rows after
+      → Unpacking s (set after (series-limit + k) (more .terms ∷ 0 ∷ 0 ∷ [])) more to (k + 1)
   unpacking-more to more after h w f =
       let ts = w .x in
       let g = block-sums k tally ts (block-accepted k tally i (drop i s) ts to (drop to s) (w .is) .fits) in
       let n : more .terms ≡ tally .terms + length ts = ap (λ (z : Tally). z .terms) (w .with) ∙ g .terms in
       let m : more .terms ≡ 0 + term-count (l .done) + length ts = n ∙ rw (l .terms) (omega arith) in
       let few : more .terms ≤ series-limit = rw (w .with) (g .few) in
+      let new = block-rows (tally .terms) _ rows after (w .is) f in
       record {
         done = l .done ++ ts ∷ [];
         place = rw (length-append (l .done) (ts ∷ [])) (omega (arith, l .place));
         bound = omega arith;
         whole = left-got ts to h (w .is) ∙ rw (w .with);
         terms = n ∙ rw (count-more (l .done) ts, l .terms);
-        held = rows-block rows after (tally .terms) (more .terms) k (l .done) _ ts to _ (w .is) n few (l .sized) f (l .held);
-        held-ends = ends-block rows after (tally .terms) (more .terms) k (l .done) _ ts to _ (w .is) n few (l .sized) f h m (l .held-ends);
+        held = rows-block rows after (tally .terms) (more .terms) k (l .done) ts few n (l .sized) new (l .held);
+        held-ends = ends-block rows after (tally .terms) (more .terms) k (l .done) ts few n (l .sized) new h m (l .held-ends);
         sized = record { size = length-set after (series-limit + k) _ ∙ f .sized .size };
       }
 
@@ -122,6 +132,7 @@ pub answer-refused : (s : List ℕ) (q : Refusal) (rows : List (List ℕ)) → p
 unfolding checked unpacked
 answer-refused s q rows e = (rw e, rw e tt)
 
-pub answer-terms : (s : List ℕ) (blocks : List (List Term)) (n : ℕ) (rows : List (List ℕ)) → parse s ≡ accepted blocks → n ≡ term-count blocks → Holds rows blocks → (Terms n ≡ checked (parse s)) × unpacked (parse s) rows
+pub answer-terms : (s : List ℕ) (blocks : List (List Term)) (n : ℕ) (rows : List (List ℕ)) → parse s ≡ accepted blocks → n ≡ term-count blocks
+    → Holds rows blocks → (Terms n ≡ checked (parse s)) × unpacked (parse s) rows
 unfolding checked unpacked
 answer-terms s blocks n rows e p h = (rw (e, p), rw e h)

@@ -24,7 +24,8 @@ pub record Stepped {A : Type 0} (tally : A → Tally) (s : List ℕ) (r : Read A
   pub is : r ≡ got x to (drop to s)
   pub with : z ≡ tally x
 
-pub walked-moved : {A : Type 0} {s : List ℕ} {low : ℕ} (g : A → Tally) (r : Read A) (to : ℕ) (z : Tally) → After s low r → walked g r ≡ Moved to z → Stepped g s r to z
+pub walked-moved : {A : Type 0} {s : List ℕ} {low : ℕ} (g : A → Tally) (r : Read A) (to : ℕ) (z : Tally) → After s low r → walked g r ≡ Moved to z
+    → Stepped g s r to z
 unfolding walked
 walked-moved g (got x end rest) to z (moved e h) q =
     let p : end ≡ to = cc in
@@ -54,7 +55,8 @@ pub store : (k : ℕ) (r : Read Term) (t : Term) (to : ℕ) (rest : List ℕ) (r
 unfolding stored
 store k r t to rest rows e = rw e
 
-pub store-row : (k : ℕ) (r : Read Term) (a b c to : ℕ) (rest : List ℕ) (rows : List (List ℕ)) → r ≡ got (term-of a b c) to rest → set rows k (a ∷ b ∷ c ∷ []) ≡ stored k r rows
+pub store-row : (k : ℕ) (r : Read Term) (a b c to : ℕ) (rest : List ℕ) (rows : List (List ℕ)) → r ≡ got (term-of a b c) to rest
+    → set rows k (a ∷ b ∷ c ∷ []) ≡ stored k r rows
 unfolding row-of
 store-row k r a b c to rest rows e = rw (store k r (term-of a b c) to rest rows e, folded-unfolded a, folded-unfolded c)
 
@@ -67,7 +69,8 @@ unfolding joined next
 joined-none (got ts at rest) = refl
 joined-none (bad q) = refl
 
-pub joined-more : {A : Type 0} (done : List A) (t : A) (r : Read (List A)) → joined done (next r (λ ts at rest. got (t ∷ ts) at rest)) ≡ joined (done ++ t ∷ []) r
+pub joined-more : {A : Type 0} (done : List A) (t : A) (r : Read (List A))
+    → joined done (next r (λ ts at rest. got (t ∷ ts) at rest)) ≡ joined (done ++ t ∷ []) r
 unfolding joined next
 joined-more done t (got ts at rest) = ap (λ (l : List _). got l at rest) (sym (append-assoc done (t ∷ []) ts))
 joined-more done t (bad q) = refl
@@ -78,7 +81,8 @@ summed-more f s [] t = refl
 summed-more f s (x ∷ done) t = summed-more f (added f s x) done t
 
 -- One row more after those that were stored.
-put-more : (done : List Term) (t : Term) (from : ℕ) (rows : List (List ℕ)) → set (sets rows from (map row-of done)) (from + length done) (row-of t) ≡ sets rows from (map row-of (done ++ t ∷ []))
+put-more : (done : List Term) (t : Term) (from : ℕ) (rows : List (List ℕ))
+    → set (sets rows from (map row-of done)) (from + length done) (row-of t) ≡ sets rows from (map row-of (done ++ t ∷ []))
 put-more [] t from rows = rw (add-zero from)
 put-more (x ∷ done) t from rows =
     let e : from + suc (length done) ≡ suc from + length done = omega arith in
@@ -153,7 +157,8 @@ module _ (s : List ℕ) (at f from end : ℕ) (first : Tally) (rows₀ : List (L
     unfolding filled
     filled-last h = record { rows = rw (taken-last h) (l .held); sized = l .sized }
 
-    pub filled-stop : (q : Refusal) (rows′ : List (List ℕ)) → k < end → read-term f tally i (drop i s) ≡ bad q → rows′ ≡ stored k (read-term f tally i (drop i s)) rows
+    pub filled-stop : (q : Refusal) (rows′ : List (List ℕ)) → k < end → read-term f tally i (drop i s) ≡ bad q
+        → rows′ ≡ stored k (read-term f tally i (drop i s)) rows
         → Filled from (read-terms (end - from) f first at (drop at s)) rows₀ rows′
     unfolding stored
     filled-stop q rows′ h e m =

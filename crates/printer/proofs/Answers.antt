@@ -25,7 +25,8 @@ module _ (blocks : List (List Term)) (out : List ℕ) (n : ℕ) (e : n ≡ lengt
   unfolding printed printed-out text-fits
   table-over h = let f = lt-leb (length (plain-text blocks)) (length out) (rw e at h) in (rw (f, e), rw f)
 
-  pub table-fits : (to : ℕ) (after : List ℕ) → n ≤ length out → Wrote (plain-text blocks) 0 out to after → (Length n ≡ printed (accepted blocks) out) × (after ≡ printed-out (accepted blocks) out)
+  pub table-fits : (to : ℕ) (after : List ℕ) → n ≤ length out → Wrote (plain-text blocks) 0 out to after
+      → (Length n ≡ printed (accepted blocks) out) × (after ≡ printed-out (accepted blocks) out)
   unfolding printed printed-out text-fits
   table-fits to after h w = let f = le-leb (length (plain-text blocks)) (length out) (rw e at h) in (rw (f, e), rw f (w .holds))
 

@@ -55,7 +55,8 @@ unfolding further
 first-zero zero v h = refl
 first-zero (suc f) v h = go (first-zero f (v / 10)) (decLe 10 v) h
   where
-    go : (v / 10 / 10 ^ further f (v / 10) ≡ 0 → further f (v / 10) ≡ 0) → Dec (10 ≤ v) → v / 10 ^ cond (ltb v 10) 0 (suc (further f (v / 10))) ≡ 0 → cond (ltb v 10) 0 (suc (further f (v / 10))) ≡ 0
+    go : (v / 10 / 10 ^ further f (v / 10) ≡ 0 → further f (v / 10) ≡ 0) → Dec (10 ≤ v) → v / 10 ^ cond (ltb v 10) 0 (suc (further f (v / 10))) ≡ 0
+        → cond (ltb v 10) 0 (suc (further f (v / 10))) ≡ 0
     go rec (yes l) h =
         let k : v / 10 ^ suc (further f (v / 10)) ≡ 0 = rw (le-ltb v 10 l) at h in
         let j : v / 10 / 10 ^ further f (v / 10) ≡ 0 = div-power (further f (v / 10)) v ∙ k in

@@ -76,7 +76,8 @@ last-first (suc n) v = rw (← div-power n v) (ap (λ (l : List ℕ). l ++ (v % 
 -- The digits of a whole number are all its last digits.
 pub whole-digits : (v : ℕ) → v < 10 ^ 20 → digits (last-digits (suc (further-digits v)) v) ≡ whole-text v
 unfolding whole-text first-digit rest-digits
-whole-digits v h = ap digits (last-first (further-digits v) v ∙ ap (λ (d : ℕ). d ∷ last-digits (further-digits v) v) (small v (further-digits v) (further-bound v h)))
+whole-digits v h =
+    ap digits (last-first (further-digits v) v ∙ ap (λ (d : ℕ). d ∷ last-digits (further-digits v) v) (small v (further-digits v) (further-bound v h)))
   where
     small : (v n : ℕ) → v < 10 ^ suc n → v / 10 ^ n % 10 ≡ v / 10 ^ n
     small v n h = let l = first-small v n h in omega arith
@@ -99,13 +100,15 @@ whole-length v = length-digits (first-digit v ∷ last-digits (further-digits v)
 pub whole-room : (v n at : ℕ) (out : List ℕ) → n ≡ length (whole-text v) → Room (whole-text v) at out → at + n ≤ length out
 whole-room v n at out e h = omega arith
 
-pub whole-wrote : (v n at to : ℕ) (out after : List ℕ) → v < 2 ^ 64 → n ≡ length (whole-text v) → Wrote (digits (last-digits n v)) at out to after → Wrote (whole-text v) at out to after
+pub whole-wrote : (v n at to : ℕ) (out after : List ℕ) → v < 2 ^ 64 → n ≡ length (whole-text v) → Wrote (digits (last-digits n v)) at out to after
+    → Wrote (whole-text v) at out to after
 whole-wrote v n at to out after h e w =
     let k : suc (further-digits v) ≡ n = sym (e ∙ whole-length v) in
     let d : digits (last-digits n v) ≡ whole-text v = rw (← k) (whole-digits v (omega arith)) in
     rw d at w
 
-pub digits-room : {text start out : List ℕ} {ps : List (List ℕ)} {at p : ℕ} (n v : ℕ) → Left text at start (digits (last-digits n v) ∷ ps) p out → Room text at start → p + n ≤ length out
+pub digits-room : {text start out : List ℕ} {ps : List (List ℕ)} {at p : ℕ} (n v : ℕ) → Left text at start (digits (last-digits n v) ∷ ps) p out
+    → Room text at start → p + n ≤ length out
 digits-room n v l h = let r = left-room l h in omega (arith, r, length-digits (last-digits n v), length-last n v)
 
 pub digits-append : (xs ys : List ℕ) → digits (xs ++ ys) ≡ digits xs ++ digits ys

@@ -1,13 +1,13 @@
 -- The pieces of a decimal's and of a line's text, and their lengths. Assumes nothing.
 use mathlib.Core.Path.{_≡_, refl, sym, ap, _∙_}
 use mathlib.Core.Bool.{Bool, true, false}
-use mathlib.Core.List.{List, [], _∷_, _++_, append-assoc, append-nil}
+use mathlib.Core.List.{List, [], _∷_, append-assoc, append-nil}
 use Prim.Native.Nat.{ℕ, _+_, _/_, _%_, _≤_}
 use native.Mathlib.Decide.{ℕ-discrete}
 use native.Mathlib.Nat.{add-zero}
 use native.Mathlib.Omega.{arith}
 use lib.Dec.{eqb}
-use lib.IntN.{natAbs}
+use lib.IntN.{ℤ, natAbs}
 use lib.ListN.{length}
 use Rattle.integers.specs.Signs.{negative}
 use Rattle.units.specs.Units.{parts}
@@ -20,23 +20,26 @@ use Rattle.printer.specs.machine.Writing.{Room, Wrote, whole-text, line-
 use Rattle.printer.proofs.PieceByPiece.{joined, total, length-joined}
 use Rattle.printer.proofs.DigitsWritten.{length-digits, length-last}
 
--- A decimal: its sign, its whole part, the point and eleven digits.
-pub decimal-pieces : (minus : Bool) (v : ℕ) → decimal (plain-decimal minus v) ≡ joined (sign minus ∷ whole-text (v / parts) ∷ (point ∷ []) ∷ digits (last-digits places v) ∷ [])
+-- A decimal: its sign, its whole part, the point and the digits after it.
+abbrev pub decimal-parts : Bool → ℕ → List (List ℕ)
+decimal-parts minus v = sign minus ∷ whole-text (v / parts) ∷ (point ∷ []) ∷ digits (last-digits places v) ∷ []
+
+pub decimal-pieces : (minus : Bool) (v : ℕ) → decimal (plain-decimal minus v) ≡ joined (decimal-parts minus v)
 unfolding decimal plain-decimal whole-text joined
 decimal-pieces minus v = rw (append-nil (digits (last-digits places v)))
 
-pub decimal-size : (minus : Bool) (v : ℕ) → length (decimal (plain-decimal minus v)) ≡ length (sign minus) + length (whole-text (v / parts)) + 12
+pub decimal-size : (minus : Bool) (v : ℕ) → length (decimal (plain-decimal minus v)) ≡ length (sign minus) + length (whole-text (v / parts)) + (1 + places)
 unfolding total
 decimal-size minus v =
-    let p : List (List ℕ) = sign minus ∷ whole-text (v / parts) ∷ (point ∷ []) ∷ digits (last-digits places v) ∷ [] in
-    omega (arith, ap length (decimal-pieces minus v) ∙ length-joined p, length-digits (last-digits places v), length-last places v)
+    omega (arith, ap length (decimal-pieces minus v) ∙ length-joined (decimal-parts minus v), length-digits (last-digits places v), length-last places v)
 
 pub sign-length : (m : Bool) → length (sign m) ≤ 1
 unfolding sign
 sign-length true = omega arith
 sign-length false = omega arith
 
-pub decimal-length : (minus : Bool) (v n : ℕ) → n ≡ length (whole-text (v / parts)) → n ≤ whole-most → (n + 12 + length (sign minus) ≡ length (decimal (plain-decimal minus v))) × (n + 12 + length (sign minus) ≤ decimal-most)
+pub decimal-length : (minus : Bool) (v n : ℕ) → n ≡ length (whole-text (v / parts)) → n ≤ whole-most
+    → (n + (1 + places) + length (sign minus) ≡ length (decimal (plain-decimal minus v))) × (n + (1 + places) + length (sign minus) ≤ decimal-most)
 decimal-length minus v n e h = (omega (arith, decimal-size minus v), omega (arith, sign-length minus))
 
 -- A folded number is below zero where it is odd.
@@ -68,17 +71,27 @@ pub plus-wrote : {m : Bool} (at : ℕ) (out : List ℕ) → m ≡ false → Wrot
 unfolding sign
 plus-wrote at out e = rw e (record { end = sym (add-zero at); holds = refl })
 
--- A term's line: its decimals, two spaces and the line feed.
-module _ (t : Term) (ma : Bool) (va : ℕ) (mc : Bool) (vc : ℕ) (ea : ma ≡ negative (t .a)) (fa : va ≡ natAbs (t .a)) (ec : mc ≡ negative (t .c)) (fc : vc ≡ natAbs (t .c)) where
-  pub line-pieces : line-text t ≡ joined (decimal (plain-decimal ma va) ∷ (32 ∷ []) ∷ decimal (plain-decimal false (t .b)) ∷ (32 ∷ []) ∷ decimal (plain-decimal mc vc) ∷ (feed ∷ []) ∷ [])
-  unfolding line-text term-bytes plain-term spaces joined
-  line-pieces =
-      rw (ea, fa, ec, fc)
-      (append-assoc (decimal (plain-decimal (negative (t .a)) (natAbs (t .a)))) (32 ∷ (decimal (plain-decimal false (t .b)) ++ (32 ∷ decimal (plain-decimal (negative (t .c)) (natAbs (t .c)))))) (feed ∷ [])
-      ∙ ap (λ (l : List ℕ). decimal (plain-decimal (negative (t .a)) (natAbs (t .a))) ++ (32 ∷ l)) (append-assoc (decimal (plain-decimal false (t .b))) (32 ∷ decimal (plain-decimal (negative (t .c)) (natAbs (t .c)))) (feed ∷ [])))
+-- A number's sign and size.
+pub record Signed (z : ℤ) (minus : Bool) (size : ℕ) : Type 0 where
+  pub is-minus : minus ≡ negative z
+  pub is-size : size ≡ natAbs z
 
-  pub line-length : (n m k : ℕ) → n ≡ length (decimal (plain-decimal ma va)) → m ≡ length (decimal (plain-decimal false (t .b))) → k ≡ length (decimal (plain-decimal mc vc)) → n + m + k + 3 ≡ length (line-text t)
+pub signed : (z : ℤ) (minus : Bool) (size : ℕ) → minus ≡ negative z → size ≡ natAbs z → Signed z minus size
+signed z minus size e f = record { is-minus = e; is-size = f }
+
+-- A term's line: its decimals, two spaces and the line feed.
+abbrev pub line-parts : List ℕ → List ℕ → List ℕ → List (List ℕ)
+line-parts a b c = a ∷ (32 ∷ []) ∷ b ∷ (32 ∷ []) ∷ c ∷ (feed ∷ []) ∷ []
+
+abbrev pub term-parts : Bool → ℕ → ℕ → Bool → ℕ → List (List ℕ)
+term-parts ma va b mc vc = line-parts (decimal (plain-decimal ma va)) (decimal (plain-decimal false b)) (decimal (plain-decimal mc vc))
+
+module _ (t : Term) (ma : Bool) (va : ℕ) (mc : Bool) (vc : ℕ) (ea : Signed (t .a) ma va) (ec : Signed (t .c) mc vc) where
+  pub line-pieces : line-text t ≡ joined (term-parts ma va (t .b) mc vc)
+  unfolding line-text term-bytes plain-term spaces joined
+  line-pieces = rw (ea .is-minus, ea .is-size, ec .is-minus, ec .is-size) (simp append-assoc)
+
+  pub line-length : (n m k : ℕ) → n ≡ length (decimal (plain-decimal ma va)) → m ≡ length (decimal (plain-decimal false (t .b)))
+      → k ≡ length (decimal (plain-decimal mc vc)) → n + m + k + 3 ≡ length (line-text t)
   unfolding total
-  line-length n m k en em ek =
-      let p : List (List ℕ) = decimal (plain-decimal ma va) ∷ (32 ∷ []) ∷ decimal (plain-decimal false (t .b)) ∷ (32 ∷ []) ∷ decimal (plain-decimal mc vc) ∷ (feed ∷ []) ∷ [] in
-      omega (arith, ap length line-pieces ∙ length-joined p)
+  line-length n m k en em ek = omega (arith, ap length line-pieces ∙ length-joined (term-parts ma va (t .b) mc vc))

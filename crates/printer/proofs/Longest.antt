@@ -18,7 +18,7 @@ use Rattle.text.specs.Grammar.{feed, sign, count-bytes, decimal}
 use Rattle.printer.specs.Printer.{places, plain-decimal, plain-count, plain-text}
 use Rattle.printer.specs.machine.Writing.{whole-text, line-text, lines-text, block-text}
 use Rattle.printer.proofs.DigitsWritten.{whole-length}
-use Rattle.printer.proofs.LinePieces.{decimal-size, sign-length, line-length}
+use Rattle.printer.proofs.LinePieces.{decimal-size, sign-length, line-length, signed}
 use Rattle.printer.proofs.DigitsAndNumbers.{further-few}
 use Rattle.printer.proofs.TableText.{lines-cons, lines-none, text-cons, text-none}
 
@@ -36,7 +36,7 @@ line-short f s t g =
     let c = decimal-short (negative (t .c)) 5 (natAbs (t .c)) (omega (arith, g .good-c .small)) in
     let sa = sign-length (negative (t .a)) in
     let sc = sign-length (negative (t .c)) in
-    let l = line-length t _ _ _ _ refl refl refl refl _ _ _ refl refl refl in
+    let l = line-length t _ _ _ _ (signed (t .a) _ _ refl refl) (signed (t .c) _ _ refl refl) _ _ _ refl refl refl in
     omega arith
 
 lines-short : {f : ℕ} {s : Tally} {ts : List Term} → limits.GoodTerms f s ts → length (lines-text ts) ≤ 53 * length ts

@@ -37,13 +37,15 @@ pub left-one : (text : List ℕ) (at : ℕ) (start : List ℕ) → Left text at 
 unfolding joined
 left-one text at start = let e : text ≡ joined (text ∷ []) = sym (append-nil text) in left-is e at start
 
-pub left-split : {text start xs ys zs out : List ℕ} {ps : List (List ℕ)} {at p : ℕ} → Left text at start (xs ∷ ps) p out → xs ≡ ys ++ zs → Left text at start (ys ∷ zs ∷ ps) p out
+pub left-split : {text start xs ys zs out : List ℕ} {ps : List (List ℕ)} {at p : ℕ} → Left text at start (xs ∷ ps) p out → xs ≡ ys ++ zs
+    → Left text at start (ys ∷ zs ∷ ps) p out
 unfolding joined
 left-split {xs = xs} {ys} {zs} {out} {ps} {p = p} l e =
     let q : ys ++ (zs ++ joined ps) ≡ xs ++ joined ps = sym (append-assoc ys zs (joined ps)) ∙ ap (λ (l : List ℕ). l ++ joined ps) (sym e) in
     record { count = ap (λ (l : List ℕ). p + length l) q ∙ l .count; written = ap (λ (l : List ℕ). sets out p l) q ∙ l .written; same = l .same }
 
-pub left-more : {text start xs out : List ℕ} {ps : List (List ℕ)} {at p to : ℕ} {after : List ℕ} → Left text at start (xs ∷ ps) p out → Wrote xs p out to after → Left text at start ps to after
+pub left-more : {text start xs out : List ℕ} {ps : List (List ℕ)} {at p to : ℕ} {after : List ℕ} → Left text at start (xs ∷ ps) p out
+    → Wrote xs p out to after → Left text at start ps to after
 unfolding joined
 left-more {xs = xs} {out} {ps} {p = p} l w =
     record {

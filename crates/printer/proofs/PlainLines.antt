@@ -84,7 +84,8 @@ pub term-plain : (t : Term) → term-of-line (plain-term t) ≡ t
 unfolding plain-term
 term-plain t = whole-is t (sym (value-plain (t .a))) (sym (size-plain false (t .b))) (sym (value-plain (t .c)))
 
-line-is : (l : TermLine) {x y z : ℕ} → l .lead ≡ x → l .after-a ≡ y → l .after-b ≡ z → record { lead = x; a = l .a; after-a = y; b = l .b; after-b = z; c = l .c } ≡ l
+line-is : (l : TermLine) {x y z : ℕ} → l .lead ≡ x → l .after-a ≡ y → l .after-b ≡ z
+    → record { lead = x; a = l .a; after-a = y; b = l .b; after-b = z; c = l .c } ≡ l
 line-is l p q r = rw (← p, ← q, ← r)
 
 pub term-unique : (l : TermLine) → GoodTerm l → PlainLine l → l .b .minus ≡ false → plain-term (term-of-line l) ≡ l

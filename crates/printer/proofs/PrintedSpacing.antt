@@ -14,7 +14,7 @@ use Rattle.printer.specs.Printer.{places, last-digits, first-digit, rest
 use Rattle.printer.specs.Plain.{Spaced, PlainText}
 use Rattle.printer.specs.machine.Writing.{line-text, lines-text, block-text}
 use Rattle.printer.proofs.PieceByPiece.{joined}
-use Rattle.printer.proofs.LinePieces.{line-pieces}
+use Rattle.printer.proofs.LinePieces.{line-pieces, signed}
 use Rattle.printer.proofs.TableText.{lines-cons, lines-none, text-cons, text-none}
 
 -- Bytes that are neither a space nor a line feed.
@@ -63,7 +63,8 @@ digit-solid d = record { no-space = λ e. omega (arith, e); no-feed = λ e. omeg
 
 decimal-then : (p : ℕ) (minus : Bool) (v : ℕ) (ys : List ℕ) → Next ys → Spaced p (decimal (plain-decimal minus v) ++ ys)
 unfolding decimal plain-decimal sign digits
-decimal-then p true v ys k = solid-then p 45 ((48 + first-digit (v / parts)) ∷ solid-tail v) ys (solid-sign true .0) (digit-solid (first-digit (v / parts)), solid-end v) k
+decimal-then p true v ys k =
+    solid-then p 45 ((48 + first-digit (v / parts)) ∷ solid-tail v) ys (solid-sign true .0) (digit-solid (first-digit (v / parts)), solid-end v) k
 decimal-then p false v ys k = solid-then p (48 + first-digit (v / parts)) (solid-tail v) ys (digit-solid (first-digit (v / parts))) (solid-end v) k
 
 space-then : (ys : List ℕ) → Spaced 32 ys → Next (32 ∷ ys)
@@ -81,7 +82,8 @@ line-then t ys h =
     let a = decimal (plain-decimal (negative (t .a)) (natAbs (t .a))) in
     let b = decimal (plain-decimal false (t .b)) in
     let c = decimal (plain-decimal (negative (t .c)) (natAbs (t .c))) in
-    let e : line-text t ++ ys ≡ a ++ (32 ∷ (b ++ (32 ∷ (c ++ (feed ∷ ys))))) = ap (λ (l : List ℕ). l ++ ys) (line-pieces t _ _ _ _ refl refl refl refl) ∙ (append-assoc a (32 ∷ (b ++ (32 ∷ (c ++ (feed ∷ []))))) ys ∙ ap (λ (l : List ℕ). a ++ (32 ∷ l)) (append-assoc b (32 ∷ (c ++ (feed ∷ []))) ys ∙ ap (λ (l : List ℕ). b ++ (32 ∷ l)) (append-assoc c (feed ∷ []) ys))) in
+    let p = line-pieces t _ _ _ _ (signed (t .a) _ _ refl refl) (signed (t .c) _ _ refl refl) in
+    let e : line-text t ++ ys ≡ a ++ (32 ∷ (b ++ (32 ∷ (c ++ (feed ∷ ys))))) = ap (λ (l : List ℕ). l ++ ys) p ∙ simp append-assoc in
     rw e
     (decimal-then feed (negative (t .a)) (natAbs (t .a)) _
     (space-then _ (decimal-then 32 false (t .b) _
@@ -95,7 +97,8 @@ block-then : (ts : List Term) (ys : List ℕ) → Spaced feed ys → Spaced feed
 unfolding block-text count-bytes plain-count digits
 block-then ts ys h =
     rw (append-assoc (digits (first-digit (length ts) ∷ rest-digits (length ts))) (feed ∷ lines-text ts) ys)
-    (solid-then feed (48 + first-digit (length ts)) (digits (rest-digits (length ts))) (feed ∷ (lines-text ts ++ ys)) (digit-solid (first-digit (length ts))) (solid-digits (rest-digits (length ts))) (λ q s. feed-then q (lines-text ts ++ ys) (lines-then ts ys h)))
+    (solid-then feed (48 + first-digit (length ts)) (digits (rest-digits (length ts))) (feed ∷ (lines-text ts ++ ys))
+    (digit-solid (first-digit (length ts))) (solid-digits (rest-digits (length ts))) (λ q s. feed-then q (lines-text ts ++ ys) (lines-then ts ys h)))
 
 pub text-spaced : (blocks : List (List Term)) → PlainText (plain-text blocks)
 text-spaced [] = rw text-none (unfold Spaced in tt)

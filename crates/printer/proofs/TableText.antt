@@ -28,7 +28,8 @@ lines-none = refl
 
 pub text-cons : (ts : List Term) (blocks : List (List Term)) → plain-text (ts ∷ blocks) ≡ block-text ts ++ plain-text blocks
 unfolding plain-text block-text lines-text blocks-bytes plain-block
-text-cons ts blocks = sym (append-assoc (count-bytes (plain-count (length ts))) (feed ∷ lines-bytes (map plain-term ts)) (blocks-bytes (map plain-block blocks)))
+text-cons ts blocks =
+    sym (append-assoc (count-bytes (plain-count (length ts))) (feed ∷ lines-bytes (map plain-term ts)) (blocks-bytes (map plain-block blocks)))
 
 pub text-none : plain-text [] ≡ []
 unfolding plain-text blocks-bytes
@@ -49,7 +50,8 @@ module _ (rows : List (List ℕ)) where
   unfolding block-text count-bytes plain-count whole-text joined
   block-pieces from end = rw (length-terms from (end - from), append-nil (lines-of rows from end))
 
-  pub block-length : (from end n m : ℕ) → n ≡ length (whole-text (end - from)) → m ≡ length (lines-of rows from end) → n + 1 + m ≡ length (block-of rows from end)
+  pub block-length : (from end n m : ℕ) → n ≡ length (whole-text (end - from)) → m ≡ length (lines-of rows from end)
+      → n + 1 + m ≡ length (block-of rows from end)
   unfolding total
   block-length from end n m en em =
       let p : List (List ℕ) = whole-text (end - from) ∷ (feed ∷ []) ∷ lines-of rows from end ∷ [] in
@@ -67,7 +69,8 @@ module _ (rows : List (List ℕ)) where
   lines-over i end h = let e : end - i ≡ 0 = omega arith in rw e lines-none
 
   -- The blocks from block k on, the first apart, which ends at e.
-  blocks-more : Sized rows → (from k e : ℕ) → k < block-count → e ≡ getD (ends rows) k 0 → blocks-from rows from k ≡ block-of rows from e ++ blocks-from rows e (k + 1)
+  blocks-more : Sized rows → (from k e : ℕ) → k < block-count → e ≡ getD (ends rows) k 0
+      → blocks-from rows from k ≡ block-of rows from e ++ blocks-from rows e (k + 1)
   unfolding blocks-at
   blocks-more z from k e h q =
       let b : k < length (ends rows) = rw (ends-length rows z) h in
@@ -88,7 +91,8 @@ pub record Next (rows : List (List ℕ)) (p e k : ℕ) : Type 0 where
   pub within : e ≤ series-limit
   pub rest : Ordered e (drop (k + 1) (ends rows))
 
-pub ordered-next : (rows : List (List ℕ)) → Sized rows → (p k e : ℕ) → k < block-count → e ≡ getD (ends rows) k 0 → Ordered p (drop k (ends rows)) → Next rows p e k
+pub ordered-next : (rows : List (List ℕ)) → Sized rows → (p k e : ℕ) → k < block-count → e ≡ getD (ends rows) k 0 → Ordered p (drop k (ends rows))
+    → Next rows p e k
 unfolding Ordered
 ordered-next rows z p k e h q o =
     let es = ends rows in
@@ -129,7 +133,8 @@ module _ (rows : List (List ℕ)) where
   pub measured-none : (from end : ℕ) → from ≤ end → Measured rows from end 0 from
   measured-none from end h = record { low = omega arith; high = h; count = zero-add _; few = omega arith }
 
-  pub measured-more : (from end n i m : ℕ) → Measured rows from end n i → i < end → m ≡ length (line-of rows i) → m ≤ line-most → Measured rows from end (n + m) (i + 1)
+  pub measured-more : (from end n i m : ℕ) → Measured rows from end n i → i < end → m ≡ length (line-of rows i) → m ≤ line-most
+      → Measured rows from end (n + m) (i + 1)
   measured-more from end n i m l h e b =
       let q = ap length (lines-more rows i end h) ∙ length-append (line-of rows i) (lines-of rows (i + 1) end) in
       record { low = omega (arith, l .low); high = omega arith; count = omega (arith, l .count, q, e); few = omega (arith, l .few, l .low, b) }

@@ -64,7 +64,8 @@ print-read x out blocks b e h =
 
 -- A plain text, as the reader takes it, is printed back as it was, from the bytes that the reader gives for it.
 pub read-print : (ks : List Block) (out : List ℕ) → GoodText ks → InLimits ks → PlainText (blocks-bytes ks) → length (blocks-bytes ks) ≤ length out
-    → (printed (parse (pack (blocks-of-lines ks))) out ≡ Length (length (blocks-bytes ks))) × (printed-out (parse (pack (blocks-of-lines ks))) out ≡ sets out 0 (blocks-bytes ks))
+    → (printed (parse (pack (blocks-of-lines ks))) out ≡ Length (length (blocks-bytes ks)))
+    × (printed-out (parse (pack (blocks-of-lines ks))) out ≡ sets out 0 (blocks-bytes ks))
 unfolding printed printed-out text-fits plain-text
 read-print ks out g l p h =
     let a = text-allowed ks g l in
@@ -73,15 +74,19 @@ read-print ks out g l p h =
 
 -- So an accepted plain text is printed back as it was, from the bytes that the reader wrote.
 pub accepted-printed : (text buffer out : List ℕ) (n : ℕ) → told (whole text buffer .reader) ≡ Accepted n → PlainText text → length text ≤ length out
-    → (printed (parse (take n (whole text buffer .out))) out ≡ Length (length text)) × (printed-out (parse (take n (whole text buffer .out))) out ≡ sets out 0 text)
+    → (printed (parse (take n (whole text buffer .out))) out ≡ Length (length text))
+    × (printed-out (parse (take n (whole text buffer .out))) out ≡ sets out 0 text)
 accepted-printed text buffer out n e p h =
     let r = accepted-text text buffer n e in
     let b = reads-packed text buffer n r in
-    let q = read-print (r .ks) out (r .good) (r .limits) (rw (r .is) at p) (rw (r .is) at h) in
-    (ap (λ (s : List ℕ). printed (parse s) out) b ∙ (q .0 ∙ ap (λ (t : List ℕ). Length (length t)) (sym (r .is))), ap (λ (s : List ℕ). printed-out (parse s) out) b ∙ (q .1 ∙ ap (λ (t : List ℕ). sets out 0 t) (sym (r .is))))
+    let q = read-print (r .ks) out (r .good) (r .limits) (rw (r .is) at p) (rw (r .is) at h) in (
+      ap (λ (s : List ℕ). printed (parse s) out) b ∙ (q .0 ∙ ap (λ (t : List ℕ). Length (length t)) (sym (r .is))),
+      ap (λ (s : List ℕ). printed-out (parse s) out) b ∙ (q .1 ∙ ap (λ (t : List ℕ). sets out 0 t) (sym (r .is))),
+    )
 
 -- Two packed series with the same plain text are equal.
-pub same-text : (x y : List ℕ) (xs ys : List (List Term)) → AllBytes x → AllBytes y → parse x ≡ accepted xs → parse y ≡ accepted ys → plain-text xs ≡ plain-text ys → x ≡ y
+pub same-text : (x y : List ℕ) (xs ys : List (List Term)) → AllBytes x → AllBytes y → parse x ≡ accepted xs → parse y ≡ accepted ys
+    → plain-text xs ≡ plain-text ys → x ≡ y
 same-text x y xs ys a b e f p =
     let out : List ℕ = replicate (length x + length y) 0 in
     let n = length-replicate {A = ℕ} (length x + length y) 0 in

@@ -38,7 +38,8 @@ fn print_table(table: &Table, out: &mut [u8]) -> Printed
 
 // Prints the plain text of a packed series into out: its length, or the refusal of the series, or 7 with the length that it would need.
 pub fn print(packed: &[u8], out: &mut [u8]) -> Printed
-    ensures { λ r. ⌜ (r ≡ printed (parse (now (packed .entry))) (now (out .entry))) × (now (out .exit) ≡ printed-out (parse (now (packed .entry))) (now (out .entry))) ⌝ }
+    ensures { λ r. ⌜ (r ≡ printed (parse (now (packed .entry))) (now (out .entry)))
+        × (now (out .exit) ≡ printed-out (parse (now (packed .entry))) (now (out .entry))) ⌝ }
 {
     let mut table: Table = [[0; 3]; TABLE_ROWS];
     let read = unpack(packed, &mut table);

@@ -5,7 +5,8 @@ use native.Mathlib.Omega.{arith}
 use borrow.Author.Needs.{needs}
 use Rattle.limits.specs.Limits.{added, summed}
 use Rattle.packed.proofs.ReadCases.{term-after}
-use Rattle.packed.proofs.Walking.{Taken, taken-none, taken-more, taken-stop, taken-last, filled-last, filled-stop, walked-moved, walked-stopped, show-moved, show-stopped}
+use Rattle.packed.proofs.Walking.{Taken, taken-none, taken-more, taken-stop, taken-last, filled-last}
+use Rattle.packed.proofs.Walking.{filled-stop, walked-moved, walked-stopped, show-moved, show-stopped}
 use Rattle.packed.proofs.table.take_terms.Statement.{statement}
 use Rattle.packed.proofs.table.take_terms.Tie as tie
 
@@ -33,13 +34,16 @@ returns c =
     let t = c .before .before .before .take-term in
     let h = c .before .before .before .before .before .loop-test .taken in
     let e = walked-stopped (added (a .f) (l .s)) _ _ (sym (t .ensures .0) ∙ c .before .w .given .1) in
-    (show-stopped (summed (a .f) (a .tally)) (taken-stop _ _ _ _ _ _ _ _ _ _ _ (l .inv) _ h e), filled-stop _ _ _ _ _ _ _ _ _ _ _ (l .inv) _ _ h e (t .ensures .1))
+    let w = taken-stop _ _ _ _ _ _ _ _ _ _ _ (l .inv) _ h e in
+    (show-stopped (summed (a .f) (a .tally)) w, filled-stop _ _ _ _ _ _ _ _ _ _ _ (l .inv) _ _ h e (t .ensures .1))
 
 enum-known-w-2 : tie.Need-enum-known-w-2 Inv-loop μ-loop
 enum-known-w-2 c = search needs
 
 add-k : tie.Need-add-k Inv-loop μ-loop
-add-k c = omega (arith, c .before .before .before .before .before .loop-test .taken, c .before .before .before .before .before .before .before .before .pre .few)
+add-k c =
+    let turn = c .before .before .before .before .before in
+    omega (arith, turn .loop-test .taken, turn .before .before .before .pre .few)
 
 less : (k end : ℕ) → k < end → end - (k + 1) < end - k
 less k end h = omega arith

@@ -7,7 +7,8 @@ use Rattle.units.specs.Units.{block-count}
 use Rattle.limits.specs.Limits.{after-block}
 use Rattle.packed.proofs.Walking.{walked-moved, walked-stopped}
 use Rattle.packed.proofs.Blocks.{block-after}
-use Rattle.packed.proofs.Unpacking.{Unpacking, unpacking-none, unpacking-more, unpacking-stop, unpacking-over, unpacking-done, unpacking-holds, answer-refused, answer-terms}
+use Rattle.packed.proofs.Unpacking.{Unpacking, unpacking-none, unpacking-more, unpacking-stop, unpacking-over}
+use Rattle.packed.proofs.Unpacking.{unpacking-done, unpacking-holds, answer-refused, answer-terms}
 use Rattle.packed.proofs.table.unpack.Statement.{statement}
 use Rattle.packed.proofs.table.unpack.Tie as tie
 

@@ -58,7 +58,8 @@ same-length c = c .before .loop .inv .1 .same
 returns : tie.Need-returns Inv-loop μ-loop
 returns c =
     let s = c .before .before .before in
-    left-over (left-empty (c .before .loop .inv .1) (blocks-over (s .args .table .now) (s .pre .0) (c .before .loop .from) (c .before .loop .k) (c .loop-test .left)))
+    let l = c .before .loop in
+    left-over (left-empty (l .inv .1) (blocks-over (s .args .table .now) (s .pre .0) (l .from) (l .k) (c .loop-test .left)))
 
 pub put-blocks-spec : {M : Type 1} → statement M
 put-blocks-spec =

@@ -15,10 +15,20 @@ add-result : tie.Need-add-result
 add-result c = search needs
 
 returns : tie.Need-returns
-returns c = let d = decimal-length (c .before .before .args .minus) (c .before .before .args .v) _ (c .before .whole-length .ensures .0) (c .before .whole-length .ensures .1) in let g = minus-length _ (c .if1 .taken) in (omega (arith, d .0, g), omega (arith, d .1, g))
+returns c =
+    let s = c .before .before in
+    let n = c .before .whole-length .ensures in
+    let d = decimal-length (s .args .minus) (s .args .v) _ (n .0) (n .1) in
+    let g = minus-length _ (c .if1 .taken) in
+    (omega (arith, d .0, g), omega (arith, d .1, g))
 
 returns-2 : tie.Need-returns-2
-returns-2 c = let d = decimal-length (c .before .before .args .minus) (c .before .before .args .v) _ (c .before .whole-length .ensures .0) (c .before .whole-length .ensures .1) in let g = plus-length _ (c .if1 .left) in (omega (arith, d .0, g), omega (arith, d .1, g))
+returns-2 c =
+    let s = c .before .before in
+    let n = c .before .whole-length .ensures in
+    let d = decimal-length (s .args .minus) (s .args .v) _ (n .0) (n .1) in
+    let g = plus-length _ (c .if1 .left) in
+    (omega (arith, d .0, g), omega (arith, d .1, g))
 
 pub decimal-length-spec : {M : Type 1} → statement M
 decimal-length-spec = tie.close (tie.spec whole-length-requires add-n add-result returns returns-2)

@@ -1,18 +1,17 @@
 -- `put_decimal` meets its contract. Assumes nothing.
-use mathlib.Core.List.{[], _∷_}
-use Prim.Native.Nat.{_/_}
-use Rattle.text.specs.Grammar.{sign, digits, decimal}
-use Rattle.printer.specs.Printer.{last-digits, plain-decimal}
-use Rattle.printer.specs.machine.Writing.{whole-text}
+use Rattle.text.specs.Grammar.{decimal}
+use Rattle.printer.specs.Printer.{places, plain-decimal}
 use Rattle.printer.proofs.PieceByPiece.{Left, left-is, left-more, left-over, left-room}
 use Rattle.printer.proofs.DigitsWritten.{digits-room}
-use Rattle.printer.proofs.LinePieces.{decimal-pieces}
+use Rattle.printer.proofs.LinePieces.{decimal-parts, decimal-pieces}
 use borrow.Author.Needs.{needs}
 use Rattle.printer.proofs.digits.put_decimal.Statement.{statement}
 use Rattle.printer.proofs.digits.put_decimal.Tie as tie
 
 -- Before the first call all pieces are left.
-begun : (s : tie.Start) → Left (decimal (plain-decimal (s .args .minus) (s .args .v))) (s .args .at) (s .args .out .now) (sign (s .args .minus) ∷ whole-text (s .args .v / 100000000000) ∷ (46 ∷ []) ∷ digits (last-digits 11 (s .args .v)) ∷ []) (s .args .at) (s .args .out .now)
+begun : (s : tie.Start)
+    → let a = s .args in
+    Left (decimal (plain-decimal (a .minus) (a .v))) (a .at) (a .out .now) (decimal-parts (a .minus) (a .v)) (a .at) (a .out .now)
 begun s = left-is (decimal-pieces (s .args .minus) (s .args .v)) (s .args .at) (s .args .out .now)
 
 put-sign-requires : tie.Need-put-sign-requires
@@ -39,7 +38,9 @@ put-digits-requires c κs =
     let whole = byte .before .before .before .before in
     let sign = whole .before .before .before .before in
     let s = sign .before .before .before in
-    digits-room 11 (s .args .v) (left-more (left-more (left-more (begun s) (sign .put-sign .ensures)) (whole .put-whole .ensures)) (byte .put-byte .ensures)) (s .pre)
+    let left1 = left-more (begun s) (sign .put-sign .ensures) in
+    let left2 = left-more left1 (whole .put-whole .ensures) in
+    digits-room places (s .args .v) (left-more left2 (byte .put-byte .ensures)) (s .pre)
 
 same-length : tie.Need-same-length
 same-length c = search needs
@@ -51,7 +52,10 @@ returns c =
     let whole = byte .before .before .before .before in
     let sign = whole .before .before .before .before in
     let s = sign .before .before .before in
-    left-over (left-more (left-more (left-more (left-more (begun s) (sign .put-sign .ensures)) (whole .put-whole .ensures)) (byte .put-byte .ensures)) (digits .put-digits .ensures))
+    let left1 = left-more (begun s) (sign .put-sign .ensures) in
+    let left2 = left-more left1 (whole .put-whole .ensures) in
+    let left3 = left-more left2 (byte .put-byte .ensures) in
+    left-over (left-more left3 (digits .put-digits .ensures))
 
 pub put-decimal-spec : {M : Type 1} → statement M
 put-decimal-spec =

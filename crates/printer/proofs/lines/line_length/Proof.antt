@@ -2,7 +2,7 @@
 use native.Mathlib.Omega.{arith}
 use borrow.Author.Needs.{needs}
 use Rattle.packed.specs.machine.Table.{term-at}
-use Rattle.printer.proofs.LinePieces.{line-length}
+use Rattle.printer.proofs.LinePieces.{signed, line-length}
 use Rattle.printer.proofs.lines.line_length.Statement.{statement}
 use Rattle.printer.proofs.lines.line_length.Tie as tie
 
@@ -65,10 +65,10 @@ returns c =
     let n = c .before .before .decimal-length .ensures in
     let m = c .before .decimal-length2 .ensures in
     let l = c .decimal-length3 .ensures in
-    let minus-a = known .before .before .before .below-zero .ensures in
-    let size-a = known .before .before .magnitude .ensures in
-    let minus-c = known .before .below-zero2 .ensures in
-    let e = line-length (term-at (s .args .table .now) (s .args .k)) _ _ _ _ minus-a size-a minus-c (known .magnitude2 .ensures) _ _ _ (n .0) (m .0) (l .0) in
+    let t = term-at (s .args .table .now) (s .args .k) in
+    let a = signed (t .a) _ _ (known .before .before .before .below-zero .ensures) (known .before .before .magnitude .ensures) in
+    let z = signed (t .c) _ _ (known .before .below-zero2 .ensures) (known .magnitude2 .ensures) in
+    let e = line-length t _ _ _ _ a z _ _ _ (n .0) (m .0) (l .0) in
     (e, omega (arith, n .1, m .1, l .1))
 
 pub line-length-spec : {M : Type 1} → statement M

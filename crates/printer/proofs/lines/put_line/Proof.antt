@@ -1,33 +1,29 @@
 -- `put_line` meets its contract. Assumes nothing.
 use mathlib.Core.Path.{_≡_}
-use mathlib.Core.Bool.{false}
-use mathlib.Core.List.{List, [], _∷_}
+use mathlib.Core.List.{List}
 use Prim.Native.Nat.{ℕ}
 use borrow.Author.Needs.{needs}
 use Rattle.packed.specs.machine.Table.{number-at, term-at}
-use Rattle.text.specs.Grammar.{feed, decimal}
-use Rattle.printer.specs.Printer.{plain-decimal}
 use Rattle.printer.specs.machine.Writing.{line-of}
 use Rattle.printer.proofs.PieceByPiece.{joined, Left, left-is, left-more, left-over, left-room}
-use Rattle.printer.proofs.LinePieces.{line-pieces}
+use Rattle.printer.proofs.LinePieces.{signed, term-parts, line-pieces}
 use Rattle.printer.proofs.lines.put_line.Statement.{statement}
 use Rattle.printer.proofs.lines.put_line.Tie as tie
 
 abbrev texts : tie.After-magnitude2 → List (List ℕ)
 texts c =
     let s = c .before .before .before .before .before .before in
-    let a = decimal (plain-decimal (c .before .before .before .below-zero .result) (c .before .before .magnitude .result)) in
-    let b = decimal (plain-decimal false (number-at (s .args .table .now) (s .args .k) 1)) in
-    let l = decimal (plain-decimal (c .before .below-zero2 .result) (c .magnitude2 .result)) in
-    a ∷ (32 ∷ []) ∷ b ∷ (32 ∷ []) ∷ l ∷ (feed ∷ []) ∷ []
+    let b = number-at (s .args .table .now) (s .args .k) 1 in
+    term-parts (c .before .before .before .below-zero .result) (c .before .before .magnitude .result) b (c .before .below-zero2 .result) (c .magnitude2 .result)
 
 -- Before the first write all pieces are left.
 pieces : (c : tie.After-magnitude2) → let s = c .before .before .before .before .before .before in line-of (s .args .table .now) (s .args .k) ≡ joined (texts c)
 unfolding term-at
 pieces c =
     let s = c .before .before .before .before .before .before in
-    let minus-a = c .before .before .before .below-zero .ensures in
-    line-pieces (term-at (s .args .table .now) (s .args .k)) _ _ _ _ minus-a (c .before .before .magnitude .ensures) (c .before .below-zero2 .ensures) (c .magnitude2 .ensures)
+    let t = term-at (s .args .table .now) (s .args .k) in
+    let a = signed (t .a) _ _ (c .before .before .before .below-zero .ensures) (c .before .before .magnitude .ensures) in
+    line-pieces t _ _ _ _ a (signed (t .c) _ _ (c .before .below-zero2 .ensures) (c .magnitude2 .ensures))
 
 begun : (c : tie.After-magnitude2)
     → let s = c .before .before .before .before .before .before in
