@@ -15,7 +15,8 @@ use Rattle.text.specs.Grammar.{digits, AllDigits, numeral, Natural, Deci
 use Rattle.text.specs.Grammar.{CountLine, count-bytes, GoodCount, TermLine, term-bytes, GoodTerm}
 use Rattle.text.proofs.Digits.{early}
 use Rattle.integers.proofs.Tests.{by-cases}
-use Rattle.text.proofs.GoodLines.{put, keep, flag, ten, lexes-append, parts-run, lex-point, lex-keep, natural-run, whole-spots, decimal-run, count-run, term-run}
+use Rattle.text.proofs.GoodLines.{put, keep, flag, ten, lexes-append, parts-run, lex-point, lex-keep, natural-run, whole-spots}
+use Rattle.text.proofs.GoodLines.{decimal-run, count-run, term-run}
 use Rattle.text.proofs.OneByte.{Lexed, none, digit, pointed, spaced, kept, negated, view}
 use Rattle.text.proofs.TakenTerms.{no-digit, term-in}
 use Rattle.text.proofs.TakenCounts.{count-in}
