@@ -2,7 +2,7 @@
 use mathlib.Core.Path.{_≡_}
 use mathlib.Core.Bool.{Bool, true, false, cond}
 use mathlib.Core.List.{List, [], _∷_}
-use Prim.Native.Nat.{ℕ, zero, suc, _+_, _*_, _%_, _≤_, _<_}
+use Prim.Native.Nat.{ℕ, zero, suc, _+_, _*_, _-_, _%_, _≤_, _<_}
 use native.Mathlib.Omega.{arith}
 use borrow.Author.Tests.{eq-eqb, ne-eqb}
 use lib.Dec.{eqb}
@@ -101,14 +101,16 @@ coarse-group (suc j) p k c (ts ∷ bs) e l w r =
 pub coarse-blocks : (c : ℕ) (bs : List (List Term))
     → length bs ≡ block-count → ((q : ℕ) → q < 3 → coarseness 0 (coordinate q bs) + coarse-base ≤ coarse-limit) → Coarse 0 c bs
 coarse-blocks c bs e h =
-    let z : drop 6 (drop 6 (drop 6 bs)) ≡ [] = rw (drop-drop 6 6 bs, drop-drop 6 12 bs) (drop-of-length-le bs {i = 18} (omega arith)) in
-    let t : coarseness 0 (take powers (drop 6 (drop 6 bs))) + coarse-base ≤ coarse-limit = rw (drop-drop 6 6 bs) (h 2 (omega arith)) in
+    let z : drop powers (drop powers (drop powers bs)) ≡ [] =
+    rw (drop-drop powers powers bs, drop-drop powers (powers + powers) bs) (drop-of-length-le bs {i = block-count} (omega arith)) in
+    let t : coarseness 0 (take powers (drop powers (drop powers bs))) + coarse-base ≤ coarse-limit =
+    rw (drop-drop powers powers bs) (h 2 (omega arith)) in
     group 0 c bs (h 0 (omega arith)) (λ c.
-    group 1 c (drop 6 bs) (h 1 (omega arith)) (λ c.
-    group 2 c (drop 6 (drop 6 bs)) t (λ c. rw z no-blocks)))
+    group 1 c (drop powers bs) (h 1 (omega arith)) (λ c.
+    group 2 c (drop powers (drop powers bs)) t (λ c. rw z no-blocks)))
   where
     group : (q c : ℕ) (l : List (List Term)) → coarseness 0 (take powers l) + coarse-base ≤ coarse-limit
-        → ((d : ℕ) → Coarse (powers * q + 6) d (drop 6 l)) → Coarse (powers * q) c l
+        → ((d : ℕ) → Coarse (powers * q + powers) d (drop powers l)) → Coarse (powers * q) c l
     group q c l w r =
         let n : powers * q % powers ≡ 0 = omega arith in
-        coarse-group 5 0 (powers * q) c l n (omega arith) (rw (start-new (powers * q) c n) (omega arith)) r
+        coarse-group (powers - 1) 0 (powers * q) c l n (omega arith) (rw (start-new (powers * q) c n) (omega arith)) r

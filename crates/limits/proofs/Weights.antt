@@ -1,6 +1,5 @@
 -- What a term adds to the coarseness sum, and that it is small. Assumes nothing.
 use mathlib.Core.Path.{_≡_}
-use mathlib.Core.Bool.{Bool, true, false, cond}
 use Prim.Native.Nat.{ℕ, _+_, _*_, _≤_, _<_}
 use native.Mathlib.Nat.{mul-le-mul}
 use native.Mathlib.Decide.{ℕ-discrete}
@@ -12,19 +11,11 @@ use Rattle.limits.specs.Limits.{constant, weight}
 use Rattle.limits.specs.machine.Magnitudes.{factor-limit}
 
 -- No term weighs more.
-abbrev pub weight-limit : ℕ
+abbrev weight-limit : ℕ
 weight-limit = factor-limit * (coarse-share * a-limit + U)
 
 pub product-small : (f m : ℕ) → f ≤ factor-limit → m < a-limit → f * (coarse-share * m + U) ≤ weight-limit
 product-small f m h l = let p : coarse-share * m + U ≤ coarse-share * a-limit + U = omega arith in omega (arith, mul-le-mul h p)
-
-pub weight-small : (f : ℕ) (a : ℤ) (b : ℕ) (c : ℤ) → f ≤ factor-limit → natAbs a < a-limit → weight f a b c ≤ weight-limit
-unfolding weight
-weight-small f a b c h l = go (constant b c)
-  where
-    go : (t : Bool) → cond t 0 (f * (coarse-share * natAbs a + U)) ≤ weight-limit
-    go true = omega arith
-    go false = product-small f (natAbs a) h l
 
 -- A term that is not constant, and one that is.
 pub weight-moving : (f : ℕ) (a : ℤ) (b : ℕ) (c : ℤ) → (b ≡ 0 → natAbs c ≡ 0 → ⊥) → weight f a b c ≡ f * (coarse-share * natAbs a + U)

@@ -50,7 +50,7 @@ pub fn empty_tally() -> Tally
 // The factor of each power in the coarseness sum.
 const SQUARE: u64 = TAU_LIMIT * TAU_LIMIT;
 
-const FACTORS: [u64; 6] = [
+const FACTORS: [u64; POWERS as usize] = [
     1,
     TAU_LIMIT,
     SQUARE,
@@ -127,7 +127,7 @@ pub fn total_fits(tally: Tally, m: u64) -> bool
 }
 
 // What a term adds to the coarseness sum, in a block with factor f.
-pub fn term_weight(f: u64, m: u64, b: u64, n: u64) -> u64
+fn term_weight(f: u64, m: u64, b: u64, n: u64) -> u64
     requires { ⌜ (f ≤ factor-limit) × (m < a-limit) ⌝ }
     ensures { λ r. ⌜ r ≡ weight f (pos m) b (pos n) ⌝ }
 {

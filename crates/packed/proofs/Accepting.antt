@@ -38,7 +38,8 @@ pub record Passed {A : Type 0} (t : Bool) (r z : Read A) : Type 0 where
   pub passed : t ≡ true
   pub is : r ≡ z
 
-pub judged-got : {A : Type 0} {y : A} {to : ℕ} {left : List ℕ} (t : Bool) (refusal : ℕ → Refusal) (end : ℕ) (r : Read A) → judged t refusal end r ≡ got y to left → Passed t r (got y to left)
+pub judged-got : {A : Type 0} {y : A} {to : ℕ} {left : List ℕ} (t : Bool) (refusal : ℕ → Refusal) (end : ℕ) (r : Read A)
+    → judged t refusal end r ≡ got y to left → Passed t r (got y to left)
 unfolding judged
 judged-got true refusal end r e = record { passed = refl; is = e }
 judged-got false refusal end r e = let z : _≡_ {A = ℕ} 0 1 = cc in absurd (omega arith)
@@ -47,7 +48,8 @@ same : {A : Type 0} {y z : A} {i j : ℕ} {l m : List ℕ} → got y i l ≡ got
 same h = cc
 
 -- A number that stands for y was read, and then y was answered at the same place.
-read-as : {A : Type 0} {y : A} {i j : ℕ} {l m : List ℕ} (h : A → ℕ) (g : ℕ → A) (v at : ℕ) (x : List ℕ) → ((n : ℕ) → h (g n) ≡ n) → number at x ≡ got v i l → got (g v) i l ≡ got y j m → number at x ≡ got (h y) j m
+read-as : {A : Type 0} {y : A} {i j : ℕ} {l m : List ℕ} (h : A → ℕ) (g : ℕ → A) (v at : ℕ) (x : List ℕ) → ((n : ℕ) → h (g n) ≡ n)
+    → number at x ≡ got v i l → got (g v) i l ≡ got y j m → number at x ≡ got (h y) j m
 read-as {y = y} {i = i} {j = j} {l = l} {m = m} h g v at x k e q =
     let p : g v ≡ y = same q in
     let w : v ≡ h y = sym (k v) ∙ ap h p in
@@ -120,7 +122,8 @@ pub record TermAt (f : ℕ) (s : Tally) (at : ℕ) (x : List ℕ) (t : Term) (to
   pub number-c : number at-c from-c ≡ got (folded (t .c)) to rest
   pub passes : Passes f s t
 
-pub term-accepted : (f : ℕ) (s : Tally) (at : ℕ) (x : List ℕ) {t : Term} {to : ℕ} {rest : List ℕ} → read-term f s at x ≡ got t to rest → TermAt f s at x t to rest
+pub term-accepted : (f : ℕ) (s : Tally) (at : ℕ) (x : List ℕ) {t : Term} {to : ℕ} {rest : List ℕ} → read-term f s at x ≡ got t to rest
+    → TermAt f s at x t to rest
 unfolding read-term
 term-accepted f s at x {t} {to} {rest} e =
     let ra = next-got (read-a s at x) _ e in
@@ -180,7 +183,8 @@ show-wrong e = sym (ap shown-term e)
 pub show-found : {r : Read Term} {a b c to : ℕ} {rest : List ℕ} → r ≡ got (term-of a b c) to rest → Found a b c to ≡ shown-term r
 unfolding shown-term
 show-found {a = a} {b = b} {c = c} {to = to} e =
-    ap (λ (n : ℕ). Found n b c to) (sym (folded-unfolded a)) ∙ ap (λ (n : ℕ). Found (folded (unfolded a)) b n to) (sym (folded-unfolded c)) ∙ sym (ap shown-term e)
+    ap (λ (n : ℕ). Found n b c to) (sym (folded-unfolded a)) ∙
+    ap (λ (n : ℕ). Found (folded (unfolded a)) b n to) (sym (folded-unfolded c)) ∙ sym (ap shown-term e)
 
 -- And what was read, from the answers.
 pub was-wrong : (r : Read Term) (q : Refusal) → shown-term r ≡ Wrong q → r ≡ bad q

@@ -25,11 +25,13 @@ either : {A : Type 0} {y : List ℕ} {p q r s : Read A} (t : Bool) → Longer y 
 either true h k = h
 either false h k = k
 
-passed : {A : Type 0} {y : List ℕ} {p q : Read A} (t : Bool) (refusal : ℕ → Refusal) (to : ℕ) → Longer y p q → Longer y (judged t refusal to p) (judged t refusal to q)
+passed : {A : Type 0} {y : List ℕ} {p q : Read A} (t : Bool) (refusal : ℕ → Refusal) (to : ℕ) → Longer y p q
+    → Longer y (judged t refusal to p) (judged t refusal to q)
 unfolding judged
 passed t refusal to h = either t h none
 
-then : {A B : Type 0} {y : List ℕ} (p q : Read A) (f : A → ℕ → List ℕ → Read B) → Longer y p q → ((v : A) (to : ℕ) (rest : List ℕ) → Longer y (f v to rest) (f v to (rest ++ y))) → Longer y (next p f) (next q f)
+then : {A B : Type 0} {y : List ℕ} (p q : Read A) (f : A → ℕ → List ℕ → Read B) → Longer y p q
+    → ((v : A) (to : ℕ) (rest : List ℕ) → Longer y (f v to rest) (f v to (rest ++ y))) → Longer y (next p f) (next q f)
 unfolding next
 then (got v to rest) (got v′ to′ rest′) f same k = k v to rest
 then (bad q) r f none k = none
@@ -78,14 +80,16 @@ terms-longer y (suc n) f s at x =
 block-longer : (y : List ℕ) (k : ℕ) (s : Tally) (at : ℕ) (x : List ℕ) → Longer y (read-block k s at x) (read-block k s at (x ++ y))
 unfolding read-block
 block-longer y k s at x =
-    then (number at x) (number at (x ++ y)) _ (number-longer y at x) (λ n to rest. passed (count-fits s n) OverLimit to (terms-longer y n (factor k) (opened k n s) to rest))
+    then (number at x) (number at (x ++ y)) _ (number-longer y at x) (λ n to rest.
+    passed (count-fits s n) OverLimit to (terms-longer y n (factor k) (opened k n s) to rest))
 
 blocks-longer : (y : List ℕ) (n k : ℕ) (s : Tally) (at : ℕ) (x : List ℕ) → Longer y (read-blocks n k s at x) (read-blocks n k s at (x ++ y))
 unfolding read-blocks
 blocks-longer y zero k s at x = same
 blocks-longer y (suc n) k s at x =
     then (read-block k s at x) (read-block k s at (x ++ y)) _ (block-longer y k s at x) (λ ts to rest.
-    then (read-blocks n (k + 1) (after-block k s ts) to rest) (read-blocks n (k + 1) (after-block k s ts) to (rest ++ y)) _ (blocks-longer y n (k + 1) (after-block k s ts) to rest) (λ bs to rest. same))
+    let more = read-blocks n (k + 1) (after-block k s ts) to in
+    then (more rest) (more (rest ++ y)) _ (blocks-longer y n (k + 1) (after-block k s ts) to rest) (λ bs to rest. same))
 
 longer-got : {A : Type 0} {y : List ℕ} {v : A} {to : ℕ} {rest : List ℕ} (p q : Read A) → Longer y p q → p ≡ got v to rest → q ≡ got v to (rest ++ y)
 longer-got {y = y} {v = v} {to = to} {rest = rest} (got u i l) (got u′ i′ l′) same e =
@@ -96,6 +100,7 @@ longer-got {y = y} {v = v} {to = to} {rest = rest} (got u i l) (got u′ i′ l�
 longer-got (bad q) r none e = let z : _≡_ {A = ℕ} 0 1 = cc in absurd (omega arith)
 
 -- A series with more bytes after it.
-pub series-append : (at : ℕ) (x y : List ℕ) {blocks : List (List Term)} {to : ℕ} {rest : List ℕ} → read-series at x ≡ got blocks to rest → read-series at (x ++ y) ≡ got blocks to (rest ++ y)
+pub series-append : (at : ℕ) (x y : List ℕ) {blocks : List (List Term)} {to : ℕ} {rest : List ℕ} → read-series at x ≡ got blocks to rest
+    → read-series at (x ++ y) ≡ got blocks to (rest ++ y)
 unfolding read-series
 series-append at x y = longer-got _ _ (blocks-longer y block-count 0 no-tally at x)

@@ -1,5 +1,5 @@
 -- A block: each case of its count, and what holds of the tally after its terms. Assumes nothing.
-use mathlib.Core.Path.{_≡_, refl, sym, ap, _∙_}
+use mathlib.Core.Path.{_≡_, refl, sym, ap}
 use mathlib.Core.Bool.{true, false}
 use mathlib.Core.List.{List, [], _∷_}
 use Prim.Native.Nat.{ℕ, zero, suc, _+_, _-_, _≤_}
@@ -51,7 +51,8 @@ pub block-after : (s : List ℕ) (k : ℕ) (tally : Tally) (at : ℕ) → After 
 unfolding read-block
 block-after s k tally at =
     later at (up at)
-    (next-after (number at (drop at s)) _ (number-after s at) (λ n to. judged-after (count-fits tally n) OverLimit to (terms-after s n (factor k) (opened k n tally) to)))
+    (next-after (number at (drop at s)) _ (number-after s at) (λ n to.
+    judged-after (count-fits tally n) OverLimit to (terms-after s n (factor k) (opened k n tally) to)))
   where
     up : (n : ℕ) → n ≤ n + 1
     up n = omega arith
@@ -59,16 +60,19 @@ block-after s k tally at =
 -- The terms that were read, one after the other.
 pub data TermsAt (f : ℕ) : ℕ → Tally → ℕ → List ℕ → List Term → ℕ → List ℕ → Type 0 where
   no-terms : {s : Tally} {at : ℕ} {x : List ℕ} → TermsAt f 0 s at x [] at x
-  a-term : {n : ℕ} {s : Tally} {at : ℕ} {x : List ℕ} {t : Term} {mid : ℕ} {y : List ℕ} {ts : List Term} {to : ℕ} {rest : List ℕ} → read-term f s at x ≡ got t mid y → TermsAt f n (added f s t) mid y ts to rest → TermsAt f (suc n) s at x (t ∷ ts) to rest
+  a-term : {n : ℕ} {s : Tally} {at : ℕ} {x : List ℕ} {t : Term} {mid : ℕ} {y : List ℕ} {ts : List Term} {to : ℕ} {rest : List ℕ}
+      → read-term f s at x ≡ got t mid y → TermsAt f n (added f s t) mid y ts to rest → TermsAt f (suc n) s at x (t ∷ ts) to rest
 
-carry : {f n : ℕ} {s : Tally} {at : ℕ} {x : List ℕ} {y ts : List Term} {i to : ℕ} {l rest : List ℕ} → got y i l ≡ got ts to rest → TermsAt f n s at x y i l → TermsAt f n s at x ts to rest
+carry : {f n : ℕ} {s : Tally} {at : ℕ} {x : List ℕ} {y ts : List Term} {i to : ℕ} {l rest : List ℕ} → got y i l ≡ got ts to rest
+    → TermsAt f n s at x y i l → TermsAt f n s at x ts to rest
 carry {y = y} {ts = ts} {i = i} {to = to} {l = l} {rest = rest} e h =
     let p : y ≡ ts = cc in
     let q : i ≡ to = cc in
     let r : l ≡ rest = cc in
     rw (p, q, r) at h
 
-pub terms-accepted : (n f : ℕ) (s : Tally) (at : ℕ) (x : List ℕ) (ts : List Term) (to : ℕ) (rest : List ℕ) → read-terms n f s at x ≡ got ts to rest → TermsAt f n s at x ts to rest
+pub terms-accepted : (n f : ℕ) (s : Tally) (at : ℕ) (x : List ℕ) (ts : List Term) (to : ℕ) (rest : List ℕ) → read-terms n f s at x ≡ got ts to rest
+    → TermsAt f n s at x ts to rest
 unfolding read-terms
 terms-accepted zero f s at x ts to rest e = carry e no-terms
 terms-accepted (suc n) f s at x ts to rest e =
@@ -117,11 +121,16 @@ block-sums k s ts h =
     record { terms = e; few = rw e (count-passed s (length ts) h .fewer) }
 
 -- The answer of a walk over n terms is that of the walk over the block.
-pub walked-block : (k n : ℕ) (s : Tally) (at : ℕ) (x : List ℕ) → walked (summed (factor k) (opened k n s)) (read-terms n (factor k) (opened k n s) at x) ≡ walked (after-block k s) (read-terms n (factor k) (opened k n s) at x)
+pub walked-block : (k n : ℕ) (s : Tally) (at : ℕ) (x : List ℕ)
+    → walked (summed (factor k) (opened k n s)) (read-terms n (factor k) (opened k n s) at x)
+    ≡ walked (after-block k s) (read-terms n (factor k) (opened k n s) at x)
 unfolding walked after-block
-walked-block k n s at x = go (read-terms n (factor k) (opened k n s) at x) (λ ts to rest e. terms-length (terms-accepted n (factor k) (opened k n s) at x ts to rest e))
+walked-block k n s at x =
+    go (read-terms n (factor k) (opened k n s) at x)
+    (λ ts to rest e. terms-length (terms-accepted n (factor k) (opened k n s) at x ts to rest e))
   where
-    go : (r : Read (List Term)) → ((ts : List Term) (to : ℕ) (rest : List ℕ) → r ≡ got ts to rest → length ts ≡ n) → walked (summed (factor k) (opened k n s)) r ≡ walked (after-block k s) r
+    go : (r : Read (List Term)) → ((ts : List Term) (to : ℕ) (rest : List ℕ) → r ≡ got ts to rest → length ts ≡ n)
+        → walked (summed (factor k) (opened k n s)) r ≡ walked (after-block k s) r
     go (got ts to rest) h = rw (h ts to rest refl)
     go (bad q) h = refl
 
@@ -135,12 +144,14 @@ unfolding opened
 opened-ready k n s r e h = rw e (record { from = omega arith; few = count-passed s n h .fewer })
 
 -- The walk over the terms of a block, with the block's count, factor and tally, is the walk over the block.
-pub block-read : (k n f to : ℕ) (s r : Tally) (x : List ℕ) {b : Read (List Term)} → f ≡ factor k → r ≡ opened k n s → b ≡ read-terms n (factor k) (opened k n s) to x → read-terms (r .terms - s .terms) f r to x ≡ b
+pub block-read : (k n f to : ℕ) (s r : Tally) (x : List ℕ) {b : Read (List Term)} → f ≡ factor k → r ≡ opened k n s
+    → b ≡ read-terms n (factor k) (opened k n s) to x → read-terms (r .terms - s .terms) f r to x ≡ b
 unfolding opened
 block-read k n f to s r x ef er eb =
     let m : s .terms + n - s .terms ≡ n = omega arith in
     rw (ef, er, m) (sym eb)
 
-pub block-walked : (k n f to : ℕ) (s r : Tally) (x : List ℕ) {b : Read (List Term)} → f ≡ factor k → r ≡ opened k n s → b ≡ read-terms n (factor k) (opened k n s) to x → walked (summed f r) (read-terms (r .terms - s .terms) f r to x) ≡ walked (after-block k s) b
+pub block-walked : (k n f to : ℕ) (s r : Tally) (x : List ℕ) {b : Read (List Term)} → f ≡ factor k → r ≡ opened k n s
+    → b ≡ read-terms n (factor k) (opened k n s) to x → walked (summed f r) (read-terms (r .terms - s .terms) f r to x) ≡ walked (after-block k s) b
 block-walked k n f to s r x {b} ef er eb =
     rw (block-read k n f to s r x ef er eb, ef, er, eb) (walked-block k n s to x)

@@ -36,15 +36,21 @@ terms-bytes : (ts : List Term) → AllBytes (pack-terms ts)
 unfolding pack-terms pack-term
 terms-bytes [] = tt
 terms-bytes (t ∷ ts) =
-    bytes-append (pack-term t) (pack-terms ts) (bytes-append (encode (folded (t .a)) ++ encode (t .b)) (encode (folded (t .c))) (bytes-append (encode (folded (t .a))) (encode (t .b)) (encode-bytes (folded (t .a))) (encode-bytes (t .b))) (encode-bytes (folded (t .c)))) (terms-bytes ts)
+    let a = folded (t .a) in
+    let c = folded (t .c) in
+    let ab = bytes-append (encode a) (encode (t .b)) (encode-bytes a) (encode-bytes (t .b)) in
+    bytes-append (pack-term t) (pack-terms ts) (bytes-append (encode a ++ encode (t .b)) (encode c) ab (encode-bytes c)) (terms-bytes ts)
 
 pub pack-bytes : (blocks : List (List Term)) → AllBytes (pack blocks)
 unfolding pack pack-block
 pack-bytes [] = tt
-pack-bytes (ts ∷ blocks) = bytes-append (pack-block ts) (pack blocks) (bytes-append (encode (length ts)) (pack-terms ts) (encode-bytes (length ts)) (terms-bytes ts)) (pack-bytes blocks)
+pack-bytes (ts ∷ blocks) =
+    let b = bytes-append (encode (length ts)) (pack-terms ts) (encode-bytes (length ts)) (terms-bytes ts) in
+    bytes-append (pack-block ts) (pack blocks) b (pack-bytes blocks)
 
 -- What was read is the packed form.
-term-begins : (f : ℕ) (s : Tally) (at : ℕ) (x : List ℕ) (t : Term) (to : ℕ) (rest : List ℕ) → AllBytes x → read-term f s at x ≡ got t to rest → Begins (pack-term t) x rest
+term-begins : (f : ℕ) (s : Tally) (at : ℕ) (x : List ℕ) (t : Term) (to : ℕ) (rest : List ℕ) → AllBytes x → read-term f s at x ≡ got t to rest
+    → Begins (pack-term t) x rest
 unfolding pack-term
 term-begins f s at x t to rest a e =
     let h = term-accepted f s at x e in
@@ -53,14 +59,16 @@ term-begins f s at x t to rest a e =
     let r = number-begins (h .at-c) (q .left) (h .number-c) in
     both (both p q) r
 
-terms-begin : {f n : ℕ} {s : Tally} {at : ℕ} {x : List ℕ} {ts : List Term} {to : ℕ} {rest : List ℕ} → AllBytes x → TermsAt f n s at x ts to rest → Begins (pack-terms ts) x rest
+terms-begin : {f n : ℕ} {s : Tally} {at : ℕ} {x : List ℕ} {ts : List Term} {to : ℕ} {rest : List ℕ} → AllBytes x → TermsAt f n s at x ts to rest
+    → Begins (pack-terms ts) x rest
 unfolding pack-terms
 terms-begin a no-terms = record { form = refl; left = a }
 terms-begin {f} {s = s} {at = at} {x = x} a (a-term {t = t} {mid = mid} {y = y} e h) =
     let p = term-begins f s at x t mid y a e in
     both p (terms-begin (p .left) h)
 
-block-begins : (k : ℕ) (s : Tally) (at : ℕ) (x : List ℕ) (ts : List Term) (to : ℕ) (rest : List ℕ) → AllBytes x → read-block k s at x ≡ got ts to rest → Begins (pack-block ts) x rest
+block-begins : (k : ℕ) (s : Tally) (at : ℕ) (x : List ℕ) (ts : List Term) (to : ℕ) (rest : List ℕ) → AllBytes x → read-block k s at x ≡ got ts to rest
+    → Begins (pack-block ts) x rest
 unfolding pack-block
 block-begins k s at x ts to rest a e =
     let b = block-accepted k s at x ts to rest e in
@@ -73,7 +81,8 @@ carry {y = y} {z = z} {l = l} {m = m} P h w =
     let q : l ≡ m = cc in
     rw (p, q) at w
 
-pub blocks-begin : (n k : ℕ) (s : Tally) (at : ℕ) (x : List ℕ) (bs : List (List Term)) (to : ℕ) (rest : List ℕ) → AllBytes x → read-blocks n k s at x ≡ got bs to rest → Begins (pack bs) x rest
+pub blocks-begin : (n k : ℕ) (s : Tally) (at : ℕ) (x : List ℕ) (bs : List (List Term)) (to : ℕ) (rest : List ℕ) → AllBytes x
+    → read-blocks n k s at x ≡ got bs to rest → Begins (pack bs) x rest
 unfolding read-blocks pack
 blocks-begin zero k s at x bs to rest a e = carry (λ (l : List (List Term)) (r : List ℕ). Begins (pack l) x r) e (record { form = refl; left = a })
 blocks-begin (suc n) k s at x bs to rest a e =
@@ -92,7 +101,8 @@ pub record Blocks-are (n k : ℕ) (s : Tally) (bs : List (List Term)) : Type 0 w
   pub many : length bs ≡ n
   pub good : GoodBlocks k s bs
 
-pub blocks-are-good : (n k : ℕ) (s : Tally) (at : ℕ) (x : List ℕ) (bs : List (List Term)) (to : ℕ) (rest : List ℕ) → read-blocks n k s at x ≡ got bs to rest → Blocks-are n k s bs
+pub blocks-are-good : (n k : ℕ) (s : Tally) (at : ℕ) (x : List ℕ) (bs : List (List Term)) (to : ℕ) (rest : List ℕ)
+    → read-blocks n k s at x ≡ got bs to rest → Blocks-are n k s bs
 unfolding read-blocks
 blocks-are-good zero k s at x bs to rest e = carry (λ (l : List (List Term)) (r : List ℕ). Blocks-are 0 k s l) e (record { many = refl; good = none })
 blocks-are-good (suc n) k s at x bs to rest e =
@@ -108,7 +118,8 @@ blocks-are-good (suc n) k s at x bs to rest e =
 small : (v : ℕ) (z : ℤ) → natAbs z < c-limit → folded z < 2 ^ 63
 small v z h = omega (arith, folded-natAbs z)
 
-term-packed : (f : ℕ) (s : Tally) (at : ℕ) (t : Term) (rest : List ℕ) → GoodTerm f s t → read-term f s at (pack-term t ++ rest) ≡ got t (at + length (encode (folded (t .a))) + length (encode (t .b)) + length (encode (folded (t .c)))) rest
+term-packed : (f : ℕ) (s : Tally) (at : ℕ) (t : Term) (rest : List ℕ) → GoodTerm f s t
+    → read-term f s at (pack-term t ++ rest) ≡ got t (at + length (encode (folded (t .a))) + length (encode (t .b)) + length (encode (folded (t .c)))) rest
 unfolding pack-term
 term-packed f s at t rest g =
     let a = encode (folded (t .a)) in
@@ -133,7 +144,8 @@ pub record Comes {A : Type 0} (r : Read A) (x : A) (rest : List ℕ) : Type 0 wh
   pub to : ℕ
   pub is : r ≡ got x to rest
 
-terms-packed : {f : ℕ} {s : Tally} {ts : List Term} (at : ℕ) (rest : List ℕ) → GoodTerms f s ts → Comes (read-terms (length ts) f s at (pack-terms ts ++ rest)) ts rest
+terms-packed : {f : ℕ} {s : Tally} {ts : List Term} (at : ℕ) (rest : List ℕ) → GoodTerms f s ts
+    → Comes (read-terms (length ts) f s at (pack-terms ts ++ rest)) ts rest
 unfolding read-terms pack-terms next
 terms-packed at rest good-none = record { to = at; is = refl }
 terms-packed {f} {s} {ts = t ∷ ts} at rest (good-term g h) =
@@ -151,7 +163,8 @@ block-packed k s ts at rest g =
     let b = block-got k s at (encode n ++ (pack-terms ts ++ rest)) n (at + length (encode n)) (pack-terms ts ++ rest) c f in
     record { to = i .to; is = rw (append-assoc (encode n) (pack-terms ts) rest) (b ∙ i .is) }
 
-pub blocks-packed : {k : ℕ} {s : Tally} {bs : List (List Term)} (at : ℕ) (rest : List ℕ) → GoodBlocks k s bs → Comes (read-blocks (length bs) k s at (pack bs ++ rest)) bs rest
+pub blocks-packed : {k : ℕ} {s : Tally} {bs : List (List Term)} (at : ℕ) (rest : List ℕ) → GoodBlocks k s bs
+    → Comes (read-blocks (length bs) k s at (pack bs ++ rest)) bs rest
 unfolding read-blocks pack next
 blocks-packed at rest none = record { to = at; is = refl }
 blocks-packed {k} {s} {bs = ts ∷ bs} at rest (more g h) =

@@ -120,7 +120,8 @@ module _ (f : ℕ) (s : Tally) (at : ℕ) (x : List ℕ) where
       unfolding read-term next
       term-bad-c q e = rw (ea, eb, e)
 
-      pub term-got : (c : ℤ) (last : ℕ) (rest : List ℕ) → read-c f s a b end z ≡ got c last rest → read-term f s at x ≡ got (record { a = a; b = b; c = c }) last rest
+      pub term-got : (c : ℤ) (last : ℕ) (rest : List ℕ) → read-c f s a b end z ≡ got c last rest
+          → read-term f s at x ≡ got (record { a = a; b = b; c = c }) last rest
       unfolding read-term next
       term-got c last rest e = rw (ea, eb, e)
 

@@ -1,4 +1,4 @@
--- What holds of packed series as a whole, and the figures of document 01. Assumes nothing.
+-- What holds of packed series as a whole, and the figures at its edges. Assumes nothing.
 use mathlib.Core.Path.{_≡_, refl, _∙_}
 use mathlib.Core.List.{List, [], _∷_, append-nil}
 use Prim.Native.Nat.{ℕ}

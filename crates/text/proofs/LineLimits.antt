@@ -1,6 +1,6 @@
 -- The limits of a line's term, judged over the magnitudes that the line holds; what a line that is not refused has. Assumes nothing.
-use mathlib.Core.Path.{_≡_, refl, sym, _∙_}
-use mathlib.Core.Bool.{true, false}
+use mathlib.Core.Path.{_≡_, sym, _∙_}
+use mathlib.Core.Bool.{true}
 use Prim.Native.Nat.{ℕ, _<_}
 use native.Mathlib.Omega.{arith}
 use borrow.Author.Tests.{ltb-true, eq-eqb, ne-eqb}
@@ -12,7 +12,7 @@ use Rattle.units.specs.Units.{block-count, a-limit, c-limit}
 use Rattle.limits.specs.declared.Tally.{Tally}
 use Rattle.limits.specs.Limits.{added, count-fits, term-may-come, term-refusal}
 use Rattle.limits.specs.machine.Magnitudes.{unsigned}
-use Rattle.limits.proofs.Passing.{Passes, GoodTerm, good-of, all-pass, not-refused}
+use Rattle.limits.proofs.Passing.{Passes, good-of, all-pass, not-refused}
 use Rattle.limits.proofs.Magnitudes.{may-come-size, refusal-size, added-size}
 use Rattle.text.specs.declared.Line.{Line}
 use Rattle.text.specs.Judge.{signed, term-on-line, count-refusal, term-line-refusal}

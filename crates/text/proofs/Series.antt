@@ -19,19 +19,17 @@ use Rattle.text.specs.declared.Outcome.the-variants.{Accepted}
 use Rattle.text.specs.Reader.{told, whole}
 use Rattle.text.specs.Grammar.{count, TermLine, Block, term-of-line, terms-of-lines, blocks-of-lines, GoodBlocks, GoodText}
 use Rattle.text.specs.Grammar.{TermInLimits, TermsInLimits, BlocksInLimits, InLimits}
+use Rattle.text.proofs.Verdicts.{within-passes, passes-within}
 use Rattle.text.proofs.Theorems.{Reads, accepted-text}
 pub use Rattle.text.proofs.TakenTexts.{length-terms}
 
 -- ---- The limits of a term, as the text and as the packed series have them.
 
-module _ (f : ℕ) (s : Tally) (l : TermLine) where
-  term-out : TermInLimits f s l → GoodTerm f s (term-of-line l)
-  term-out g = good-of f s (term-of-line l) (record { a = g .a; total = g .total; b = g .b; c = g .c; coarse = g .coarse })
+term-out : (f : ℕ) (s : Tally) (l : TermLine) → TermInLimits f s l → GoodTerm f s (term-of-line l)
+term-out f s l g = good-of f s (term-of-line l) (within-passes f s l g)
 
-  term-in : l .b .minus ≡ false → GoodTerm f s (term-of-line l) → TermInLimits f s l
-  term-in u g =
-      let p = passes-of f s (term-of-line l) g in
-      record { from-zero = u; a = p .a; b = p .b; c = p .c; total = p .total; coarse = p .coarse }
+term-in : (f : ℕ) (s : Tally) (l : TermLine) → l .b .minus ≡ false → GoodTerm f s (term-of-line l) → TermInLimits f s l
+term-in f s l u g = passes-within f s l u (passes-of f s (term-of-line l) g)
 
 -- ---- As many blocks of terms as blocks.
 

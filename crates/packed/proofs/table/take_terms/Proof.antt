@@ -5,7 +5,8 @@ use native.Mathlib.Omega.{arith}
 use borrow.Author.Needs.{needs}
 use Rattle.limits.specs.Limits.{added, summed}
 use Rattle.packed.proofs.ReadCases.{term-after}
-use Rattle.packed.proofs.Walking.{Taken, taken-none, taken-more, taken-stop, taken-last, filled-last, filled-stop, walked-moved, walked-stopped, show-moved, show-stopped}
+use Rattle.packed.proofs.Walking.{Taken, taken-none, taken-more, taken-stop, taken-last, filled-last}
+use Rattle.packed.proofs.Walking.{filled-stop, walked-moved, walked-stopped, show-moved, show-stopped}
 use Rattle.packed.proofs.table.take_terms.Statement.{statement}
 use Rattle.packed.proofs.table.take_terms.Tie as tie
 
