@@ -17,8 +17,11 @@ use libc::STDOUT_FILENO;
 use sunlist::ListAnswer;
 use units::Instant;
 
-// The minutes of a day, and so many numbers have the runs that a list of a day can have: 720, each of a first and a last minute.
+// The minutes of a day. A list of a day has at most 720 runs, and as many numbers, a first and a last minute each.
 const DAY: u64 = 1440;
+
+// A minute in milliseconds.
+const MINUTE: u64 = 60000;
 
 // A byte more than the longest file that is taken.
 const ROOM: usize = 24577;
@@ -91,7 +94,7 @@ fn window_asked() -> Asked {
     };
     let ms = ms_of_day(clock.first, clock.second, 0);
     let from = instant_of_date(date.first, date.second, date.third, ms);
-    let start = natural_or(ms, 0) / 60000;
+    let start = natural_or(ms, 0) / MINUTE;
     Asked::For(Window {
         from,
         start,

@@ -1,5 +1,6 @@
 // The C interface: one function for each public call, with its name and its layout of `include/stephylax.h`, which explains each. A slice
-// crosses as a pointer and a length. An answer is the library's, as numbers: specs/Answers.antt says which.
+// crosses as a pointer and a length. An answer is the library's, as numbers: specs/Answers.antt of the crate answers
+// says which.
 ghost use mathlib.Core.Path.{_≡_};
 ghost use lib.ListN.{length};
 ghost use Rattle.calendar.specs.Calendar.{day-of-date, date-of-day, instant-of-date, date-of-instant};
