@@ -18,6 +18,7 @@ use arith::signed::add;
 use arith::signed::sub;
 use arith::signed::wide;
 use cosine::working::cosine_sine;
+use direction::TURN_STEPS;
 use direction::direction_of;
 use direction::latitude_of;
 use direction::units_angle;
@@ -29,7 +30,7 @@ use units::Instant;
 use units::PARTS;
 use units::TURN;
 
-// The same constants stand in specs/Apparent.antt and, for TURN_STEPS, in the specs of direction.
+// The same constants stand in specs/Apparent.antt.
 
 // Light takes LIGHT_NS nanoseconds for an AU. The divisor, nanoseconds to a millisecond times parts to an AU, comes as two factors.
 const LIGHT_NS: u64 = 499004781984;
@@ -39,9 +40,6 @@ const NS_PER_MS: u64 = 1000000;
 const LIGHT_STEP: u64 = 10000000;
 
 const LIGHT_REST: u64 = NS_PER_MS * PARTS / LIGHT_STEP;
-
-// Hundredths of an arcsecond in a turn.
-const TURN_STEPS: u64 = 129600000;
 
 // The light time of a distance, in ms.
 fn light(distance: u64) -> i64
