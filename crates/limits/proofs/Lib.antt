@@ -1,3 +1,5 @@
+-- Laws of the limits, each file on those above it. Room, Weights, Passing, Magnitudes: what the tests of the code say. Terms, Coarseness,
+-- Series: what is judged one by one, and the limits of blocks, of coordinates and of a whole series.
 pub mod Room
 pub mod Weights
 pub mod Passing

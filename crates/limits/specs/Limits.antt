@@ -15,7 +15,7 @@ use Rattle.limits.specs.declared.Tally.{Tally}
 unfoldable pub factor : ℕ → ℕ
 factor k = tau-limit ^ (k % powers)
 
--- A term that does not change with time.
+-- A term counts as constant where b and c are both 0.
 unfoldable pub constant : ℕ → ℤ → Bool
 constant b c = eqb b 0 && eqb (natAbs c) 0
 

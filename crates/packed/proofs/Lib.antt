@@ -1,3 +1,5 @@
+-- Laws of packed series. Appending: more bytes after it; ReadCases, Accepting: one term; Walking, Blocks, Tabling, Unpacking: the walk that
+-- fills a table; Packing: the packed form; Tabled: what a filled table holds; Theorems: the promises.
 pub mod Appending
 pub mod ReadCases
 pub mod Accepting
