@@ -17,7 +17,7 @@ use Rattle.limits.specs.declared.Term.{Term}
 use Rattle.packed.specs.machine.Table.{term-at, terms-at}
 use Rattle.pieces.specs.declared.Counts.{Counts}
 use Rattle.pieces.specs.Sums.{block-sum}
-use Rattle.pieces.specs.machine.Parted.{piece-limit, room, half-sum, WorkedFor, Piece, PutInBoth, Small, Half, Parted}
+use Rattle.pieces.specs.machine.Parted.{piece-limit, room, half-sum, WorkedFor, Piece, Rooms, PutInBoth, Small, Half, Parted}
 use Rattle.pieces.proofs.Adding.{cells-fit, cells-are}
 use Rattle.pieces.proofs.Filling.{sum-same, half-none, half-less, half-same, sum-stored, half-more, half-closed, half-below}
 use Rattle.pieces.proofs.Sizes.{no-share}
@@ -93,11 +93,11 @@ pub record Partly (t : ℤ) (rows : List (List ℕ)) (from to : ℕ) (ea : List 
   pub short : to ≤ from + piece-limit
 
 pub partly-none : {p : Prepared} {rows : List (List ℕ)} {from to : ℕ} {ea : List ℤ} {ev : List ℕ} {oa : List ℤ} {ov : List ℕ}
-    → Piece p rows from to → length ea ≡ room → length ev ≡ room → length oa ≡ room → length ov ≡ room
+    → Piece p rows from to → Rooms ea ev oa ov
     → Partly (p .t) rows from to ea ev oa ov (record { evens = 0; odds = 0 }) from
-partly-none {ea} {ev} {oa} {ov} q h k l m = record {
+partly-none {ea} {ev} {oa} {ov} q h = record {
   x = pos 0;
-  holding = holding-none ea ev oa ov h k l m;
+  holding = holding-none ea ev oa ov (h .evens-a) (h .evens-v) (h .odds-a) (h .odds-v);
   summed = summed-none (q .order) (q .space) (q .limits);
   many = omega arith;
   short = q .short;
@@ -155,3 +155,13 @@ module _ {t : ℤ} {terms : List Term} {ea : List ℤ} {ev : List ℕ} {oa : Lis
 
   pub halves-are : (r : ℤ) → r ≡ Cell even +ℤ Cell odd → Cell r ≡ block-sum t terms
   halves-are r e = cells-are even odd halves-small r e ∙ ap₂ _+ℤ_ he ho ∙ p .sum
+
+-- the tables keep their sizes
+pub rooms-kept : {t : ℤ} {terms : List Term} {ea : List ℤ} {ev : List ℕ} {oa : List ℤ} {ov : List ℕ} {n : Counts} → Parted t terms ea ev oa ov n
+    → Rooms ea ev oa ov
+rooms-kept p = record {
+  evens-a = p .evens-closed .filled .size-a;
+  evens-v = p .evens-closed .filled .size-v;
+  odds-a = p .odds-closed .filled .size-a;
+  odds-v = p .odds-closed .filled .size-v;
+}
