@@ -1,8 +1,8 @@
-// The sum of a block of a term table, in pieces of up to 256 terms. Their angles are worked out first, and each term is put into one of two tables by the parity of
-// its quarter; then each table is summed. So no jump hangs on a quarter, which is as good as random from term to term.
-// A table has one place more than a piece has terms: a term of amplitude 0 stands past the last one, for a last pair to end
-// with. Of a term, ea and ev (at an even quarter) or oa and ov (at an odd one) hold the a and the v of cosine/specs/Halves.antt.
-// For the crates above.
+// The sum of a block of a term table, in pieces of up to 256 terms. The angles of a piece are worked out first, and each term is put
+// into one of two tables by the parity of its quarter; then each table is summed. So no jump hangs on a quarter, which is as good as
+// random from term to term. A table has one place more than a piece has terms: a term of amplitude 0 stands past the last one, for a
+// last pair to end with. Of a term, ea and ev (at an even quarter) or oa and ov (at an odd one) hold the a and the v of
+// cosine/specs/machine/Parity.antt. For the crates above.
 ghost use mathlib.Core.Path.{_≡_};
 ghost use Prim.Native.Nat.{_+_, _-_, _≤_, _<_};
 ghost use Rattle.cosine.specs.machine.Parity.{even-value, odd-value};
@@ -44,7 +44,8 @@ fn put_term(
     ov: &mut [u64; ROOM],
 ) -> Counts
     requires { ⌜ (w .odd ≤ 1) × (n .evens < room) × (n .odds < room) ⌝ }
-    ensures { λ r. ⌜ PutInBoth w n (now (ea .entry)) (now (ev .entry)) (now (oa .entry)) (now (ov .entry)) (now (ea .exit)) (now (ev .exit)) (now (oa .exit)) (now (ov .exit)) r ⌝ }
+    ensures { λ r. ⌜ PutInBoth w n (now (ea .entry)) (now (ev .entry)) (now (oa .entry)) (now (ov .entry))
+        (now (ea .exit)) (now (ev .exit)) (now (oa .exit)) (now (ov .exit)) r ⌝ }
 {
     let evens = n.evens;
     let odds = n.odds;

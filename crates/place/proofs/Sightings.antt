@@ -64,7 +64,8 @@ module _ (P E : List (List Term)) (t : Instant) (s : Sight) (ps : s ≡ sight-at
       unfolding in-limit
       earlier-in h = leb-true _ _ (sym pb ∙ not-false b h)
 
-      pub second-is : not b ≡ false → (r : Sight) (z : Sighting) → r ≡ sight-at P E u → z ≡ taken-again (g .distance) r → z ≡ taken (sight-at P E) t (sight-at P E t)
+      pub second-is : not b ≡ false → (r : Sight) (z : Sighting) → r ≡ sight-at P E u → z ≡ taken-again (g .distance) r →
+          z ≡ taken (sight-at P E) t (sight-at P E t)
       unfolding taken
       second-is h r z pr pz =
           let f : in-limit (earlier t (g .distance) .ms) ≡ true = limit-is ∙ not-false b h in
@@ -75,7 +76,8 @@ pub earth-refused : (P : List (List Term)) (q : Parsed) (t : Instant) (r : Refus
 unfolding of-series
 earth-refused P q t r e = rw e
 
-pub both-accepted : (P E : List (List Term)) (q : Parsed) (t : Instant) (z : Sighting) → q ≡ accepted E → z ≡ taken (sight-at P E) t (sight-at P E t) → z ≡ of-series (accepted P) q t
+pub both-accepted : (P E : List (List Term)) (q : Parsed) (t : Instant) (z : Sighting) → q ≡ accepted E → z ≡ taken (sight-at P E) t (sight-at P E t)
+    → z ≡ of-series (accepted P) q t
 unfolding of-series
 both-accepted P E q t z e h = rw e h
 

@@ -16,10 +16,12 @@ module _ (p e : Parsed) (t0 : Instant) (n k : ℕ) (out : List ℕ) where
   unfolding of-series answered written
   planet-refused r h = rw h (refl, refl)
 
-  pub earth-refused : (planet : List (List Term)) (r : Refusal) → p ≡ accepted planet → e ≡ refused r → (NoList r ≡ answered (length out) (of-series p e t0 n k)) × (out ≡ written out (of-series p e t0 n k))
+  pub earth-refused : (planet : List (List Term)) (r : Refusal) → p ≡ accepted planet → e ≡ refused r →
+      (NoList r ≡ answered (length out) (of-series p e t0 n k)) × (out ≡ written out (of-series p e t0 n k))
   unfolding of-series answered written
   earth-refused planet r h g = rw (h, g) (refl, refl)
 
-  pub both-accepted : (planet earth : List (List Term)) → p ≡ accepted planet → e ≡ accepted earth → of-minutes (decision-at planet earth t0 k) n ≡ of-series p e t0 n k
+  pub both-accepted : (planet earth : List (List Term)) → p ≡ accepted planet → e ≡ accepted earth →
+      of-minutes (decision-at planet earth t0 k) n ≡ of-series p e t0 n k
   unfolding of-series
   both-accepted planet earth h g = rw (h, g)
