@@ -24,7 +24,8 @@ module _ (f : ℤ → ℕ → ℤ) where
   unfolding half-sum
   sum-one la lv n = rw add-one
 
-  sum-two : (la : List ℤ) (lv : List ℕ) (n : ℕ) → half-sum f la lv (n + 2) ≡ half-sum f la lv n +ℤ (f (getD la n (pos 0)) (getD lv n 0) +ℤ f (getD la (n + 1) (pos 0)) (getD lv (n + 1) 0))
+  sum-two : (la : List ℤ) (lv : List ℕ) (n : ℕ) →
+      half-sum f la lv (n + 2) ≡ half-sum f la lv n +ℤ (f (getD la n (pos 0)) (getD lv n 0) +ℤ f (getD la (n + 1) (pos 0)) (getD lv (n + 1) 0))
   sum-two la lv n =
       let e : n + 2 ≡ n + 1 + 1 = omega arith in
       ap (λ (m : ℕ). half-sum f la lv m) e ∙ sum-one la lv (n + 1)
@@ -39,7 +40,8 @@ module _ (f : ℤ → ℕ → ℤ) where
       ap₂ _+ℤ_ (sum-same la lv k a v n (omega arith))
       (ap₂ f (getD-set-other la k n a (pos 0) (λ e. omega (arith, e))) (getD-set-other lv k n v 0 (λ e. omega (arith, e))))
 
-  sum-more : (la : List ℤ) (lv : List ℕ) (n : ℕ) (a : ℤ) (v : ℕ) → n < length la → n < length lv → half-sum f (set la n a) (set lv n v) (n + 1) ≡ half-sum f la lv n +ℤ f a v
+  sum-more : (la : List ℤ) (lv : List ℕ) (n : ℕ) (a : ℤ) (v : ℕ) → n < length la → n < length lv →
+      half-sum f (set la n a) (set lv n v) (n + 1) ≡ half-sum f la lv n +ℤ f a v
   sum-more la lv n a v h k =
       sum-one (set la n a) (set lv n v) n
       ∙ ap₂ _+ℤ_ (sum-same la lv n a v n (omega arith)) (ap₂ f (getD-set-same la n a (pos 0) h) (getD-set-same lv n v 0 k))
@@ -63,7 +65,12 @@ module _ (f : ℤ → ℕ → ℤ) where
     sum-stored = let x = p .size-a in let y = p .size-v in sum-more la lv n a v (omega arith) (omega arith)
 
     pub half-more : Small f a v → Half f (set la n a) (set lv n v) (n + 1)
-    half-more s = record { size-a = length-set la n a ∙ p .size-a; size-v = length-set lv n v ∙ p .size-v; few = omega arith; each = λ k l. at k l (ℕ-discrete k n) }
+    half-more s = record {
+      size-a = length-set la n a ∙ p .size-a;
+      size-v = length-set lv n v ∙ p .size-v;
+      few = omega arith;
+      each = λ k l. at k l (ℕ-discrete k n);
+    }
       where
         here : Small f (getD (set la n a) n (pos 0)) (getD (set lv n v) n 0)
         here = let x = p .size-a in let y = p .size-v in rw (getD-set-same la n a (pos 0) (omega arith), getD-set-same lv n v 0 (omega arith)) s
@@ -77,7 +84,10 @@ module _ (f : ℤ → ℕ → ℤ) where
 
     -- past the terms, a value of 0
     pub half-closed : Small f a v → f a v ≡ pos 0 → Closed f (set la n a) (set lv n v) n
-    half-closed s e = record { filled = half-more s; past = sum-stored ∙ ap (λ (x : ℤ). half-sum f la lv n +ℤ x) e ∙ +ℤ-idr (half-sum f la lv n) ∙ sym (sum-same la lv n a v n (omega arith)) }
+    half-closed s e = record {
+      filled = half-more s;
+      past = sum-stored ∙ ap (λ (x : ℤ). half-sum f la lv n +ℤ x) e ∙ +ℤ-idr (half-sum f la lv n) ∙ sym (sum-same la lv n a v n (omega arith));
+    }
 
   -- ---- how large
 
@@ -93,7 +103,8 @@ module _ (f : ℤ → ℕ → ℤ) where
   half-below la lv n p sum e = subst (λ (x : ℤ). natAbs x ≤ room * a-limit) (sym e) (let s = half-size la lv n p in let l = p .few in omega arith)
 
   -- pairs end at the last term or one past it
-  pub half-all : (la : List ℤ) (lv : List ℕ) (n : ℕ) → Closed f la lv n → (sum : ℤ) (i : ℕ) → i ≤ n + 1 → sum ≡ half-sum f la lv i → n ≤ i → sum ≡ half-sum f la lv n
+  pub half-all : (la : List ℤ) (lv : List ℕ) (n : ℕ) → Closed f la lv n → (sum : ℤ) (i : ℕ) → i ≤ n + 1 → sum ≡ half-sum f la lv i → n ≤ i →
+      sum ≡ half-sum f la lv n
   half-all la lv n p sum i h e k = e ∙ end (ℕ-discrete i n)
     where
       end : Dec (i ≡ n) → half-sum f la lv i ≡ half-sum f la lv n
@@ -138,7 +149,8 @@ module _ (f : ℤ → ℕ → ℤ) (la : List ℤ) (lv : List ℕ) (i : ℕ) (p 
     z-is = ez ∙ ap₂ (λ (x y : ℤ). f x v +ℤ f y w) a-cell b-cell
 
     z-size : natAbs z < 2 * a-limit
-    z-size = subst (λ (x : ℤ). natAbs x < 2 * a-limit) (sym z-is) (let s = first .value-below in let t = second .value-below in omega (arith, natAbs-+ (f a v) (f b w)))
+    z-size = subst (λ (x : ℤ). natAbs x < 2 * a-limit) (sym z-is)
+        (let s = first .value-below in let t = second .value-below in omega (arith, natAbs-+ (f a v) (f b w)))
 
     sum-size : natAbs sum ≤ room * a-limit
     sum-size = half-below f la lv i (half-less f la lv i (i + 2) (omega arith) p) sum es

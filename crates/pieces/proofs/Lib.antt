@@ -1,6 +1,7 @@
--- The sum of a piece: `Filling` and `Parting` say what its two tables hold, `Summing` what is summed and what is left, `Sizes` and `Adding` that every sum fits 64 bits.
+-- The sum of a block in pieces: `Reading` is about a row of the term table, `Filling` and `Parting` about the two tables of a piece,
+-- `Summing` about what is summed and what is left, `Sizes` and `Adding` about every sum's size.
 pub mod Sizes
-pub mod Summing
+mod Summing
 pub mod Adding
 mod Reading
 mod Filling

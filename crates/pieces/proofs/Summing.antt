@@ -67,7 +67,13 @@ pub record Summed (t : ℤ) (rows : List (List ℕ)) (from to : ℕ) (sum : ℤ)
 
 module _ {t : ℤ} {rows : List (List ℕ)} {from to : ℕ} where
   pub summed-none : from ≤ to → to ≤ series-limit → BlockFits (terms-at rows from (to - from)) → Summed t rows from to (pos 0) from
-  summed-none h k b = record { within = h; space = k; limits = b .terms; small = let s = b .total in omega arith; left = zero-plus (block-sum t (terms-at rows from (to - from))) }
+  summed-none h k b = record {
+    within = h;
+    space = k;
+    limits = b .terms;
+    small = let s = b .total in omega arith;
+    left = zero-plus (block-sum t (terms-at rows from (to - from)));
+  }
     where
       zero-plus : (x : ℤ) → pos 0 +ℤ x ≡ x
       zero-plus x = +ℤ-idl x

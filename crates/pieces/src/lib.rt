@@ -1,18 +1,17 @@
-// The sum of up to 256 terms of a term table. Their angles are worked out first, and each term is put into one of two tables by the parity of
-// its quarter; then each table is summed. So no jump hangs on a quarter, which is as good as random from term to term.
-// A table has one place more than a piece has terms: a term of amplitude 0 stands past the last one, for a last pair to end
-// with. Of a term, ea and ev (at an even quarter) or oa and ov (at an odd one) hold the a and the v of cosine/specs/Halves.antt.
-// For the crates above.
+// The sum of a block of a term table, in pieces of up to 256 terms. The angles of a piece are worked out first, and each term is put
+// into one of two tables by the parity of its quarter; then each table is summed. So no jump hangs on a quarter, which is as good as
+// random from term to term. A table has one place more than a piece has terms: a term of amplitude 0 stands past the last one, for a
+// last pair to end with. Of a term, ea and ev (at an even quarter) or oa and ov (at an odd one) hold the a and the v of
+// cosine/specs/machine/Parity.antt. For the crates above.
 ghost use mathlib.Core.Path.{_≡_};
 ghost use Prim.Native.Nat.{_+_, _-_, _≤_, _<_};
-ghost use lib.ListN.{length};
 ghost use Rattle.cosine.specs.machine.Parity.{even-value, odd-value};
 ghost use Rattle.cosine.specs.machine.Prepared.{Ready};
 ghost use Rattle.units.specs.Units.{series-limit};
 ghost use Rattle.packed.specs.machine.Table.{Sized, term-at, terms-at};
-ghost use Rattle.limits.specs.Allowed.{TermFits};
+ghost use Rattle.limits.specs.Allowed.{TermFits, BlockFits};
 ghost use Rattle.pieces.specs.Sums.{block-sum};
-ghost use Rattle.pieces.specs.machine.Parted.{room, half-sum, WorkedFor, Piece, PutInBoth, Half, Closed, Parted};
+ghost use Rattle.pieces.specs.machine.Parted.{piece-limit, room, half-sum, WorkedFor, Piece, Rooms, PutInBoth, Half, Closed, Parted};
 use arith::signed::add;
 use cosine::term::Prepared;
 use cosine::term::ReducedTerm;
@@ -25,7 +24,7 @@ use pairs::odd_values;
 use units::U;
 
 // The terms of a piece are at most so many; a table has one place more.
-pub const PIECE_LIMIT: usize = 256;
+const PIECE_LIMIT: usize = 256;
 
 const ROOM: usize = PIECE_LIMIT + 1;
 
@@ -45,7 +44,8 @@ fn put_term(
     ov: &mut [u64; ROOM],
 ) -> Counts
     requires { ⌜ (w .odd ≤ 1) × (n .evens < room) × (n .odds < room) ⌝ }
-    ensures { λ r. ⌜ PutInBoth w n (now (ea .entry)) (now (ev .entry)) (now (oa .entry)) (now (ov .entry)) (now (ea .exit)) (now (ev .exit)) (now (oa .exit)) (now (ov .exit)) r ⌝ }
+    ensures { λ r. ⌜ PutInBoth w n (now (ea .entry)) (now (ev .entry)) (now (oa .entry)) (now (ov .entry))
+        (now (ea .exit)) (now (ev .exit)) (now (oa .exit)) (now (ov .exit)) r ⌝ }
 {
     let evens = n.evens;
     let odds = n.odds;
@@ -81,7 +81,7 @@ fn part_terms(
     oa: &mut [i64; ROOM],
     ov: &mut [u64; ROOM],
 ) -> Counts
-    requires { ⌜ Piece p (now table) from to × (length (now ea) ≡ room) × (length (now ev) ≡ room) × (length (now oa) ≡ room) × (length (now ov) ≡ room) ⌝ }
+    requires { ⌜ Piece p (now table) from to × Rooms (now ea) (now ev) (now oa) (now ov) ⌝ }
     ensures { λ r. ⌜ Parted (p .t) (terms-at (now (table .entry)) from (to - from)) (now (ea .exit)) (now (ev .exit)) (now (oa .exit)) (now (ov .exit)) r ⌝ }
 {
     let mut n = Counts { evens: 0, odds: 0 };
@@ -147,17 +147,56 @@ fn sum_odds(oa: &[i64; ROOM], ov: &[u64; ROOM], n: usize) -> i64
     sum
 }
 
+// The sum of the terms of a piece, from place from up to place to. The tables are lent.
+fn sum_piece(
+    p: Prepared,
+    table: &Table,
+    from: usize,
+    to: usize,
+    ea: &mut [i64; ROOM],
+    ev: &mut [u64; ROOM],
+    oa: &mut [i64; ROOM],
+    ov: &mut [u64; ROOM],
+) -> i64
+    requires { ⌜ Piece p (now table) from to × Rooms (now ea) (now ev) (now oa) (now ov) ⌝ }
+    ensures { λ r. ⌜ (r ≡ block-sum (p .t) (terms-at (now (table .entry)) from (to - from)))
+        × Rooms (now (ea .exit)) (now (ev .exit)) (now (oa .exit)) (now (ov .exit)) ⌝ }
+{
+    let n = part_terms(p, table, from, to, ea, ev, oa, ov);
+    let even = sum_evens(ea, ev, n.evens);
+    let odd = sum_odds(oa, ov, n.odds);
+    add(even, odd)
+}
+
+// Where the piece that starts at place i ends.
+fn piece_end(i: usize, to: usize) -> usize
+    requires { ⌜ i < to ⌝ }
+    ensures { λ r. ⌜ (i < r) × (r ≤ to) × (r ≤ i + piece-limit) ⌝ }
+{
+    if to - i <= PIECE_LIMIT {
+        return to;
+    }
+    i + PIECE_LIMIT
+}
+
 // The sum of the terms from place from up to place to.
-pub fn sum_piece(p: Prepared, table: &Table, from: usize, to: usize) -> i64
-    requires { ⌜ Piece p (now table) from to ⌝ }
+pub fn sum_terms(p: Prepared, table: &Table, from: usize, to: usize) -> i64
+    requires { ⌜ Ready p × Sized (now table) × (from ≤ to) × (to ≤ series-limit) × BlockFits (terms-at (now table) from (to - from)) ⌝ }
     ensures { λ r. ⌜ r ≡ block-sum (p .t) (terms-at (now (table .entry)) from (to - from)) ⌝ }
 {
     let mut ea = [0i64; ROOM];
     let mut ev = [0u64; ROOM];
     let mut oa = [0i64; ROOM];
     let mut ov = [0u64; ROOM];
-    let n = part_terms(p, table, from, to, &mut ea, &mut ev, &mut oa, &mut ov);
-    let even = sum_evens(&ea, &ev, n.evens);
-    let odd = sum_odds(&oa, &ov, n.odds);
-    add(even, odd)
+    let mut sum: i64 = 0;
+    let mut at = from;
+    while at < to {
+        let end = piece_end(at, to);
+        sum = add(
+            sum,
+            sum_piece(p, table, at, end, &mut ea, &mut ev, &mut oa, &mut ov),
+        );
+        at = end;
+    }
+    sum
 }

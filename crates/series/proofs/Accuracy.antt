@@ -98,27 +98,33 @@ module _ (t : ℤ) (ht : natAbs t ≤ t-limit) (i : ℕ) where
       (sym (ap (λ c. rounded (a *ℤ c) U) (constant-cosine t) ∙ whole-rounded a))
       (close-constant u p q a (term-reference 0 (pos 0) t) q-positive (P1-constant t .positive) (constant-reference t))
 
-  other-close : (x : Term) → TermFits x → Close u (pos (tau-limit ^ i * (coarse-share * natAbs (x .a) + U))) p q (term-value (x .a) (x .b) (x .c) t) (exact-term t i x)
+  other-close : (x : Term) → TermFits x → Close u (pos (tau-limit ^ i * (coarse-share * natAbs (x .a) + U))) p q (term-value (x .a) (x .b) (x .c) t)
+      (exact-term t i x)
   unfolding term-value exact-term
   other-close x h =
       let c = term-cosine (x .b) (x .c) t in
       let z = term-reference (x .b) (x .c) t in
       let w = P1 (x .b) (x .c) t (record { b-in = h .b-below; c-in = h .c-below; t-in = ht }) in
-      close-term u (pos 7) (pos (natAbs (x .a))) (pos (tau-limit ^ i)) p q (x .a) c (rounded (x .a *ℤ c) U) z q-positive (w .positive) (nonneg 7) p-bound (bd-natAbs (x .a) (natAbs (x .a)) (omega arith))
+      close-term u (pos 7) (pos (natAbs (x .a))) (pos (tau-limit ^ i)) p q (x .a) c (rounded (x .a *ℤ c) U) z q-positive (w .positive)
+      (nonneg 7) p-bound (bd-natAbs (x .a) (natAbs (x .a)) (omega arith))
       (bd-rounded (x .a *ℤ c) U (omega arith)) (record { low = w .least; high = w .most })
 
   term-close : (x : Term) → TermFits x → Close u (pos (weight (tau-limit ^ i) (x .a) (x .b) (x .c))) p q (term-value (x .a) (x .b) (x .c) t) (exact-term t i x)
   unfolding weight exact-term
   term-close x h = go (constant (x .b) (x .c)) refl
     where
-      go : (k : Bool) → constant (x .b) (x .c) ≡ k → Close u (pos (cond k 0 (tau-limit ^ i * (coarse-share * natAbs (x .a) + U)))) p q (term-value (x .a) (x .b) (x .c) t) (exact-term t i x)
-      go true e = let h = constant-is (x .b) (x .c) e in subst₂ (λ (b : ℕ) (c : ℤ). Close u (pos 0) p q (term-value (x .a) b c t) (wholeᶠ (x .a) *ᶠ powerᶠ (tau t) i *ᶠ term-reference b c t)) (sym (h .0)) (sym (h .1)) (constant-close (x .a))
+      go : (k : Bool) → constant (x .b) (x .c) ≡ k → Close u (pos (cond k 0 (tau-limit ^ i * (coarse-share * natAbs (x .a) + U)))) p q
+          (term-value (x .a) (x .b) (x .c) t) (exact-term t i x)
+      go true e = let h = constant-is (x .b) (x .c) e in
+          subst₂ (λ (b : ℕ) (c : ℤ). Close u (pos 0) p q (term-value (x .a) b c t) (wholeᶠ (x .a) *ᶠ powerᶠ (tau t) i *ᶠ term-reference b c t))
+          (sym (h .0)) (sym (h .1)) (constant-close (x .a))
       go false e = other-close x h
 
   -- ---- a block
   block-close : (xs : List Term) → AllFit xs → Close u (pos (burden (tau-limit ^ i) xs)) p q (block-sum t xs) (exact-block t i xs)
   unfolding block-sum exact-block
-  block-close [] none = unfold burden moving-total moving-count in subst (λ (m : ℕ). Close u (pos m) p q (pos 0) (wholeᶠ (pos 0))) (no-burden (tau-limit ^ i)) (close-zero u p q)
+  block-close [] none = unfold burden moving-total moving-count in subst (λ (m : ℕ). Close u (pos m) p q (pos 0) (wholeᶠ (pos 0)))
+      (no-burden (tau-limit ^ i)) (close-zero u p q)
   block-close (x ∷ xs) (more h k) =
       rw (burden-more (tau-limit ^ i) x xs)
       (close-+ u (pos (weight (tau-limit ^ i) (x .a) (x .b) (x .c))) (pos (burden (tau-limit ^ i) xs)) p q
@@ -132,7 +138,8 @@ roundings i [] = 0
 roundings i (b ∷ []) = 0
 roundings i (b ∷ c ∷ bs) = tau-limit ^ i + roundings (suc i) (c ∷ bs)
 
-pub running-step : (t : ℤ) (b c : List Term) (bs : List (List Term)) → running-sum t (b ∷ c ∷ bs) ≡ block-sum t b +ℤ rounded (running-sum t (c ∷ bs) *ℤ t) millennium
+pub running-step : (t : ℤ) (b c : List Term) (bs : List (List Term)) → running-sum t (b ∷ c ∷ bs) ≡ block-sum t b +ℤ rounded
+    (running-sum t (c ∷ bs) *ℤ t) millennium
 unfolding running-sum
 running-step t b c bs = refl
 
@@ -141,8 +148,10 @@ unfolding running-sum
 running-one t b = refl
 
 errors-step : (i : ℕ) (b c : List Term) (bs : List (List Term))
-    → pos (burden (tau-limit ^ i) b) +ℤ pos (tau-limit ^ i) *ℤ u +ℤ pos (coarseness (suc i) (c ∷ bs) + U * roundings (suc i) (c ∷ bs)) ≡ pos (coarseness i (b ∷ c ∷ bs) + U * roundings i (b ∷ c ∷ bs))
-errors-step i b c bs = ap pos (add (burden (tau-limit ^ i) b) (tau-limit ^ i) (coarseness (suc i) (c ∷ bs)) (roundings (suc i) (c ∷ bs)) _ _ (coarse-is i b (c ∷ bs)) (roundings-is i b c bs))
+    → pos (burden (tau-limit ^ i) b) +ℤ pos (tau-limit ^ i) *ℤ u +ℤ pos (coarseness (suc i) (c ∷ bs) + U * roundings (suc i) (c ∷ bs)) ≡ pos
+    (coarseness i (b ∷ c ∷ bs) + U * roundings i (b ∷ c ∷ bs))
+errors-step i b c bs = ap pos (add (burden (tau-limit ^ i) b) (tau-limit ^ i) (coarseness (suc i) (c ∷ bs)) (roundings (suc i) (c ∷ bs)) _ _
+    (coarse-is i b (c ∷ bs)) (roundings-is i b c bs))
   where
     add : (m w k r k′ r′ : ℕ) → k′ ≡ m + k → r′ ≡ w + r → m + w * U + (k + U * r) ≡ k′ + U * r′
     add m w k r k′ r′ e f = omega arith
@@ -163,7 +172,8 @@ exact-step t i b bs = refl
 
 -- the value and the exact sum of blocks from power i on, with their error
 abbrev Sum-close : ℤ → ℕ → List (List Term) → Type 0
-Sum-close t i bs = Close u (pos (coarseness i bs + U * roundings i bs)) (powerᶠ (tau t) i .upper) (powerᶠ (tau t) i .lower) (running-sum t bs) (exact-sum t i bs)
+Sum-close t i bs = Close u (pos (coarseness i bs + U * roundings i bs)) (powerᶠ (tau t) i .upper) (powerᶠ (tau t) i .lower) (running-sum t bs)
+    (exact-sum t i bs)
 
 exact-none : (t : ℤ) (i : ℕ) → exact-sum t i [] ≡ wholeᶠ (pos 0)
 unfolding exact-sum
@@ -175,14 +185,18 @@ plus-zero x = ring! (x ∷ []) (search polys depth 60 fits 100000) tt
 one-close : (t : ℤ) → natAbs t ≤ t-limit → (i : ℕ) (b : List Term) → AllFit b → Sum-close t i (b ∷ [])
 one-close t ht i b h =
     rw (running-one t b ∙ plus-zero (block-sum t b), exact-step t i b [] ∙ ap (λ f. exact-block t i b +ᶠ f) (exact-none t (suc i)), ← errors-one i b)
-    (close-+ u (pos (burden (tau-limit ^ i) b)) (pos 0) (powerᶠ (tau t) i .upper) (powerᶠ (tau t) i .lower) (block-sum t b) (pos 0) (exact-block t i b) (wholeᶠ (pos 0)) (block-close t ht i b h) (close-zero u (powerᶠ (tau t) i .upper) (powerᶠ (tau t) i .lower)))
+    (close-+ u (pos (burden (tau-limit ^ i) b)) (pos 0) (powerᶠ (tau t) i .upper) (powerᶠ (tau t) i .lower) (block-sum t b) (pos 0)
+    (exact-block t i b) (wholeᶠ (pos 0)) (block-close t ht i b h) (close-zero u (powerᶠ (tau t) i .upper) (powerᶠ (tau t) i .lower)))
 
-more-close : (t : ℤ) → natAbs t ≤ t-limit → (i : ℕ) (b c : List Term) (bs : List (List Term)) → AllFit b → Sum-close t (suc i) (c ∷ bs) → Sum-close t i (b ∷ c ∷ bs)
+more-close : (t : ℤ) → natAbs t ≤ t-limit → (i : ℕ) (b c : List Term) (bs : List (List Term)) → AllFit b → Sum-close t (suc i) (c ∷ bs) →
+    Sum-close t i (b ∷ c ∷ bs)
 more-close t ht i b c bs h k =
     let v = running-sum t (c ∷ bs) in
     rw (running-step t b c bs, exact-step t i b (c ∷ bs), ← errors-step i b c bs)
-    (close-step u (pos (burden (tau-limit ^ i) b)) (pos (coarseness (suc i) (c ∷ bs) + U * roundings (suc i) (c ∷ bs))) (pos (tau-limit ^ i)) (powerᶠ (tau t) i .upper) (powerᶠ (tau t) i .lower) t (pos millennium)
-    (block-sum t b) v (rounded (v *ℤ t) millennium) (exact-block t i b) (exact-sum t (suc i) (c ∷ bs)) (nonneg U) (q-positive t ht i) (record { lt = tt }) (p-bound t ht i) (bd-rounded (v *ℤ t) millennium (omega arith))
+    (close-step u (pos (burden (tau-limit ^ i) b)) (pos (coarseness (suc i) (c ∷ bs) + U * roundings (suc i) (c ∷ bs))) (pos (tau-limit ^ i))
+    (powerᶠ (tau t) i .upper) (powerᶠ (tau t) i .lower) t (pos millennium)
+    (block-sum t b) v (rounded (v *ℤ t) millennium) (exact-block t i b) (exact-sum t (suc i) (c ∷ bs)) (nonneg U) (q-positive t ht i)
+    (record { lt = tt }) (p-bound t ht i) (bd-rounded (v *ℤ t) millennium (omega arith))
     (block-close t ht i b h) (power-next t i k))
   where
     power-next : (t : ℤ) (i : ℕ) {m x : ℤ} {f : Fraction} → Close u m (powerᶠ (tau t) (suc i) .upper) (powerᶠ (tau t) (suc i) .lower) x f

@@ -21,12 +21,14 @@ pub record Answered (bytes : List ℕ) (t : Instant) (c : Coordinates) : Type 0 
   pub parsed : parse bytes ≡ accepted blocks
   pub value : coordinates (t .ms) blocks ≡ c
 
-parsed-at : (t : Instant) (p : Parsed) (c : Coordinates) → of-parsed t p ≡ At c → (blocks : List (List Term)) × (p ≡ accepted blocks) × (coordinates (t .ms) blocks ≡ c)
+parsed-at : (t : Instant) (p : Parsed) (c : Coordinates) → of-parsed t p ≡ At c → (blocks : List (List Term)) × (p ≡ accepted blocks) ×
+    (coordinates (t .ms) blocks ≡ c)
 unfolding of-parsed
 parsed-at t (accepted blocks) c e = (blocks, refl, (cc))
 parsed-at t (refused r) c e = let z : _≡_ {A = ℕ} 0 1 = cc in absurd (omega arith)
 
-chosen : (b : Bool) (t : Instant) (p : Parsed) (c : Coordinates) → cond b (of-parsed t p) (NoCoordinates (PastLimit t)) ≡ At c → (b ≡ true) × (of-parsed t p ≡ At c)
+chosen : (b : Bool) (t : Instant) (p : Parsed) (c : Coordinates) → cond b (of-parsed t p) (NoCoordinates (PastLimit t)) ≡ At c → (b ≡ true) ×
+    (of-parsed t p ≡ At c)
 chosen true t p c e = (refl, e)
 chosen false t p c e = let z : _≡_ {A = ℕ} 0 1 = cc in absurd (omega arith)
 

@@ -37,7 +37,8 @@ pub answers-parsed : (bytes : List ℕ) (t : Instant) (p : Parsed) → in-limit 
 unfolding coordinates-answer
 answers-parsed bytes t p e f = sym (ap₂ (λ (c : Bool) (q : Parsed). cond c (of-parsed t q) (NoCoordinates (PastLimit t))) e f)
 
-pub answers-refused : (bytes : List ℕ) (t : Instant) (b : Bool) (k : Checked) (r : Refusal) → b ≡ in-limit (t .ms) → not b ≡ false → k ≡ NoSeries r → k ≡ checked (parse bytes)
+pub answers-refused : (bytes : List ℕ) (t : Instant) (b : Bool) (k : Checked) (r : Refusal) → b ≡ in-limit (t .ms) → not b ≡ false → k ≡ NoSeries r →
+    k ≡ checked (parse bytes)
     → NoCoordinates r ≡ coordinates-answer bytes t
 unfolding of-parsed
 answers-refused bytes t b k r e f g h = answers-parsed bytes t (refused r) (no-turn (t .ms) b e f) (refused-of (parse bytes) k r g h)

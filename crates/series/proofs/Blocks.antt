@@ -33,7 +33,9 @@ running-none t = refl
 
 -- a step, at the highest power too: there 0 is carried
 running-cons : (t : ℤ) (b : List Term) (bs : List (List Term)) → running-sum t (b ∷ bs) ≡ block-sum t b +ℤ rounded (running-sum t bs *ℤ t) millennium
-running-cons t b [] = running-one t b ∙ sym (ap (λ (z : ℤ). block-sum t b +ℤ z) (ap (λ (v : ℤ). rounded (v *ℤ t) millennium) (running-none t) ∙ no-share t millennium (omega arith)) ∙ +ℤ-idr (block-sum t b))
+running-cons t b [] = running-one t b ∙
+    sym (ap (λ (z : ℤ). block-sum t b +ℤ z) (ap (λ (v : ℤ). rounded (v *ℤ t) millennium) (running-none t) ∙ no-share t millennium (omega arith)) ∙
+    +ℤ-idr (block-sum t b))
 running-cons t b (c ∷ bs) = running-step t b c bs
 
 abbrev pub six : List (List Term) → ℕ → List (List Term)
@@ -61,12 +63,14 @@ module _ (t : ℤ) (bs : List (List Term)) (first : ℕ) (enough : first + 6 ≤
           drop-all [] = refl
           drop-all (x ∷ l) = drop-all l
 
-  pub running-more : (v w : ℤ) (k : ℕ) → Running t bs first v (suc k) → w ≡ block-sum t (getD bs (first + k) []) +ℤ rounded (v *ℤ t) millennium → Running t bs first w k
+  pub running-more : (v w : ℤ) (k : ℕ) → Running t bs first v (suc k) → w ≡ block-sum t (getD bs (first + k) []) +ℤ rounded (v *ℤ t) millennium →
+      Running t bs first w k
   running-more v w k r e = record {
     few = let h = r .few in omega arith;
     is =
         e ∙ ap₂ (λ (x : List Term) (z : ℤ). block-sum t x +ℤ rounded (z *ℤ t) millennium) (sym (six-at k (let h = r .few in omega arith))) (r .is)
-        ∙ sym (ap (running-sum t) (drop-cons (six bs first) k [] (let h = r .few in let l = six-long in omega arith)) ∙ running-cons t (getD (six bs first) k []) (drop (suc k) (six bs first)));
+        ∙ sym (ap (running-sum t) (drop-cons (six bs first) k [] (let h = r .few in let l = six-long in omega arith)) ∙
+        running-cons t (getD (six bs first) k []) (drop (suc k) (six bs first)));
   }
 
   pub running-whole : (v : ℤ) (k : ℕ) → Running t bs first v k → k ≤ 0 → v ≡ running-sum t (six bs first)
@@ -80,7 +84,8 @@ module _ (t : ℤ) (bs : List (List Term)) (first : ℕ) (enough : first + 6 ≤
   running-small ht b v k r =
       let l = running-size t ht (drop (suc k) (six bs first)) (in-drop (suc k) (six bs first) (in-take 6 (drop first bs) (in-drop first bs b))) in
       let n : length (drop (suc k) (six bs first)) ≤ 5 = simp length-drop (let s = six-long in omega arith) in
-      subst (λ (z : ℤ). natAbs z ≤ 31 * total-limit) (sym (r .is)) (few-blocks (natAbs (running-sum t (drop (suc k) (six bs first)))) (length (drop (suc k) (six bs first))) n l)
+      subst (λ (z : ℤ). natAbs z ≤ 31 * total-limit) (sym (r .is))
+      (few-blocks (natAbs (running-sum t (drop (suc k) (six bs first)))) (length (drop (suc k) (six bs first))) n l)
     where
       few-blocks : (m n : ℕ) → n ≤ 5 → m + total-limit ≤ total-limit * 2 ^ n → m ≤ 31 * total-limit
       few-blocks m n h l = let p : 2 ^ n ≤ 2 ^ 5 = pow-le-pow-right (omega arith) h in omega arith
@@ -89,7 +94,8 @@ module _ (t : ℤ) (bs : List (List Term)) (first : ℕ) (enough : first + 6 ≤
   powered : (k : ℕ) → 0 < k → k ≡ suc (k - 1)
   powered k h = omega arith
 
-  pub running-next : (v w : ℤ) (k : ℕ) → 0 < k → Running t bs first v k → w ≡ block-sum t (getD bs (first + (k - 1)) []) +ℤ rounded (v *ℤ t) millennium → Running t bs first w (k - 1)
+  pub running-next : (v w : ℤ) (k : ℕ) → 0 < k → Running t bs first v k → w ≡ block-sum t (getD bs (first + (k - 1)) []) +ℤ rounded
+      (v *ℤ t) millennium → Running t bs first w (k - 1)
   running-next v w k h r e = running-more v w (k - 1) (subst (λ (n : ℕ). Running t bs first v n) (powered k h) r) e
 
   pub running-within : natAbs t ≤ t-limit → Blocks-in bs → (v : ℤ) (k : ℕ) → 0 < k → Running t bs first v k → natAbs v ≤ 31 * total-limit

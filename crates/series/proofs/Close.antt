@@ -47,7 +47,8 @@ pub close-term : (U N A w p q a c x : ℤ) (z : Fraction) → pos 0 ≺ q → po
     → Close U (w *ℤ (pos 2 *ℤ N *ℤ A +ℤ U)) p q x (wholeᶠ a *ᶠ record { upper = p; lower = q } *ᶠ z)
 unfolding _*ᶠ_
 close-term U N A w p q a c x z hq hz hN hp ha hx hc =
-    let e = bd-+ _ _ _ _ (bd-* _ (z .lower) _ (z .lower) hx (bd-self (z .lower) (≺-≼ hz))) (bd-* (pos 2) _ (pos 2) _ (bd-self (pos 2) (nonneg 2)) (bd-* A _ a _ ha hc)) in
+    let e = bd-+ _ _ _ _ (bd-* _ (z .lower) _ (z .lower) hx (bd-self (z .lower) (≺-≼ hz)))
+    (bd-* (pos 2) _ (pos 2) _ (bd-self (pos 2) (nonneg 2)) (bd-* A _ a _ ha hc)) in
     let g = bd-* _ _ _ _ (bd-* _ q _ q hp (bd-self q (≺-≼ hq))) e in
     record {
       lower = product-pos (pos 1 *ℤ q) (z .lower) (product-pos (pos 1) q (record { lt = tt }) hq) hz;
@@ -59,7 +60,8 @@ close-term U N A w p q a c x z hq hz hN hp ha hx hc =
     }
 
 -- A constant term: its value is a, and its cosine is 1
-pub close-constant : (U p q a : ℤ) (z : Fraction) → pos 0 ≺ q → pos 0 ≺ z .lower → z .upper ≡ z .lower → Close U (pos 0) p q a (wholeᶠ a *ᶠ record { upper = p; lower = q } *ᶠ z)
+pub close-constant : (U p q a : ℤ) (z : Fraction) → pos 0 ≺ q → pos 0 ≺ z .lower → z .upper ≡ z .lower →
+    Close U (pos 0) p q a (wholeᶠ a *ᶠ record { upper = p; lower = q } *ᶠ z)
 unfolding _*ᶠ_
 close-constant U p q a z hq hz e = record {
   lower = product-pos (pos 1 *ℤ q) (z .lower) (product-pos (pos 1) q (record { lt = tt }) hq) hz;
@@ -103,7 +105,8 @@ unfolding powerᶠ _*ᶠ_
 power-bound K t T zero h = subst (λ (n : ℕ). Bd (pos n *ℤ pos 1) (pos 1)) (sym (pow-zero K)) (record { low = record { le = tt }; high = record { le = tt } })
 power-bound K t T (suc i) h =
     bd-as _ _ _ _
-    (ring! (pos K ∷ pos T ∷ pos (K ^ i) ∷ powerᶠ (overᶠ t T) i .lower ∷ []) {y = pos (K * K ^ i) *ℤ (pos T *ℤ powerᶠ (overᶠ t T) i .lower)} (search polys depth 60 fits 100000) tt
+    (ring! (pos K ∷ pos T ∷ pos (K ^ i) ∷ powerᶠ (overᶠ t T) i .lower ∷ []) {y = pos (K * K ^ i) *ℤ (pos T *ℤ powerᶠ (overᶠ t T) i .lower)}
+    (search polys depth 60 fits 100000) tt
     ∙ ap (λ (n : ℕ). pos n *ℤ (pos T *ℤ powerᶠ (overᶠ t T) i .lower)) (order K i))
     refl
     (bd-* _ _ _ _ h (power-bound K t T i h))

@@ -10,8 +10,10 @@ use Rattle.pieces.specs.Sums.{block-sum}
 use Rattle.series.specs.Sums.{running-sum, longitude-blocks, latitude-blocks, radius-blocks, coordinates}
 
 unfoldable pub constant-rate : List (List Term)
-constant-rate = [] ∷ (record { a = pos 300000000000; b = 0; c = pos 0 } ∷ []) ∷ [] ∷ [] ∷ [] ∷ [] ∷ [] ∷ [] ∷ [] ∷ [] ∷ [] ∷ [] ∷ [] ∷ [] ∷ [] ∷ [] ∷ [] ∷ [] ∷ []
+constant-rate = [] ∷ (record { a = pos 300000000000; b = 0; c = pos 0 } ∷ [])
+    ∷ [] ∷ [] ∷ [] ∷ [] ∷ [] ∷ [] ∷ [] ∷ [] ∷ [] ∷ [] ∷ [] ∷ [] ∷ [] ∷ [] ∷ [] ∷ [] ∷ []
 
 pub figures : coordinates (negℤ (pos 15778800000000)) constant-rate ≡ record { longitude = negℤ (pos 150000000000); latitude = pos 0; radius = pos 0 }
-unfolding constant-rate coordinates longitude-blocks latitude-blocks radius-blocks running-sum block-sum term-value term-cosine term-angle cosine working-cosine cosine-by q-of r-of w-of rounded floor modulo even-part odd-part horner y-of
+unfolding constant-rate coordinates longitude-blocks latitude-blocks radius-blocks running-sum block-sum term-value term-cosine term-angle cosine
+    working-cosine cosine-by q-of r-of w-of rounded floor modulo even-part odd-part horner y-of
 figures = refl

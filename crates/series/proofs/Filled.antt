@@ -44,7 +44,8 @@ unfolding checked
 accepted-of (accepted bs) n e = (bs, refl)
 accepted-of (refused r) n e = let z : _≡_ {A = ℕ} 0 1 = cc in absurd (omega arith)
 
-pub series-in : (bytes : List ℕ) (rows : List (List ℕ)) (k : Checked) (n : ℕ) → k ≡ Terms n → k ≡ checked (parse bytes) → filled (parse bytes) rows → Series-in bytes rows
+pub series-in : (bytes : List ℕ) (rows : List (List ℕ)) (k : Checked) (n : ℕ) → k ≡ Terms n → k ≡ checked (parse bytes) → filled (parse bytes) rows →
+    Series-in bytes rows
 series-in bytes rows k n e f u =
     let p = accepted-of (parse bytes) n (sym f ∙ e) in
     let h : TableOf rows (p .0) = held (parse bytes) (p .0) (p .1) u in

@@ -24,7 +24,8 @@ carried-size v t h =
     (let e = natAbs-* v t in let m : natAbs v * natAbs t ≤ natAbs v * t-limit = mul-le-mul-left (natAbs v) h in omega arith)
 
 -- |V| is at most total-limit·(2^n − 1) after n blocks
-pub running-size : (t : ℤ) → natAbs t ≤ t-limit → (bs : List (List Term)) → Blocks-in bs → natAbs (running-sum t bs) + total-limit ≤ total-limit * tau-limit ^ length bs
+pub running-size : (t : ℤ) → natAbs t ≤ t-limit → (bs : List (List Term)) → Blocks-in bs →
+    natAbs (running-sum t bs) + total-limit ≤ total-limit * tau-limit ^ length bs
 running-size t ht [] h = unfold running-sum in omega arith
 running-size t ht (b ∷ []) h = one b (in-head b [] h .total)
   where

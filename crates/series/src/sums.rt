@@ -5,12 +5,10 @@ ghost use mathlib.Core.List.{[], _∷_};
 ghost use lib.IntN.{natAbs, _+ℤ_, _*ℤ_};
 ghost use lib.ListN.{getD, take, drop};
 ghost use Rattle.integers.specs.Division.{rounded};
-ghost use Rattle.units.specs.Units.{millennium, t-limit, in-limit as within-limit, series-limit, total-limit, powers, block-count};
+ghost use Rattle.units.specs.Units.{millennium, t-limit, in-limit as within-limit, total-limit, powers, block-count};
 ghost use Rattle.cosine.specs.machine.Prepared.{Ready};
-ghost use Rattle.packed.specs.machine.Table.{Sized, terms-at, ends, table-blocks};
-ghost use Rattle.limits.specs.Allowed.{BlockFits};
+ghost use Rattle.packed.specs.machine.Table.{Sized, ends, table-blocks};
 ghost use Rattle.pieces.specs.Sums.{block-sum};
-ghost use Rattle.pieces.specs.machine.Parted.{piece-limit};
 ghost use Rattle.series.specs.Sums.{running-sum};
 ghost use Rattle.series.specs.machine.Table.{Table};
 use arith::muldiv::mul_div_round;
@@ -19,8 +17,7 @@ use arith::signed::add;
 use cosine::term::Prepared;
 use packed::table::Table;
 use packed::table::block_end;
-use pieces::PIECE_LIMIT;
-use pieces::sum_piece;
+use pieces::sum_terms;
 use units::Instant;
 use units::MILLENNIUM;
 use units::POWERS;
@@ -28,32 +25,6 @@ use units::T_LIMIT;
 
 // The blocks of a coordinate.
 pub const COORDINATE_BLOCKS: usize = POWERS as usize;
-
-// Where the piece that starts at place i ends.
-fn piece_end(i: usize, to: usize) -> usize
-    requires { ⌜ i < to ⌝ }
-    ensures { λ r. ⌜ (i < r) × (r ≤ to) × (r ≤ i + piece-limit) ⌝ }
-{
-    if to - i <= PIECE_LIMIT {
-        return to;
-    }
-    i + PIECE_LIMIT
-}
-
-// The sum of the terms from place from up to place to.
-fn sum_of(p: Prepared, table: &Table, from: usize, to: usize) -> i64
-    requires { ⌜ Ready p × Sized (now table) × (from ≤ to) × (to ≤ series-limit) × BlockFits (terms-at (now table) from (to - from)) ⌝ }
-    ensures { λ r. ⌜ r ≡ block-sum (p .t) (terms-at (now (table .entry)) from (to - from)) ⌝ }
-{
-    let mut sum: i64 = 0;
-    let mut i = from;
-    while i < to {
-        let end = piece_end(i, to);
-        sum = add(sum, sum_piece(p, table, i, end));
-        i = end;
-    }
-    sum
-}
 
 // Where block j starts: where the one before it ends.
 fn block_start(table: &Table, j: usize) -> u64
@@ -73,7 +44,7 @@ fn with_block(p: Prepared, table: &Table, j: usize, v: i64) -> i64
 {
     let from = block_start(table, j);
     let to = block_end(table, j);
-    let sum = sum_of(p, table, from as usize, to as usize);
+    let sum = sum_terms(p, table, from as usize, to as usize);
     let carried = mul_div_round(v, p.t, MILLENNIUM);
     add(sum, carried)
 }

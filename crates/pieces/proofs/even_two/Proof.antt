@@ -39,13 +39,15 @@ even-values-requires : tie.Need-even-values-requires
 even-values-requires c κs = let s = c .before .before .before .before in two-asks even-value (s .args .ea .now) (s .args .ev .now) (s .args .i) (s .pre .0)
 
 add-requires : tie.Need-add-requires
-add-requires c κs = let s = c .before .before .before .before .before in two-fit even-value (s .args .ea .now) (s .args .ev .now) (s .args .i) (s .pre .0) (s .args .sum) (c .even-values .result) (s .pre .1) (c .even-values .ensures)
+add-requires c κs = let s = c .before .before .before .before .before in two-fit even-value (s .args .ea .now) (s .args .ev .now) (s .args .i)
+    (s .pre .0) (s .args .sum) (c .even-values .result) (s .pre .1) (c .even-values .ensures)
 
 returns : tie.Need-returns
 returns c =
     let v = c .before in
     let s = v .before .before .before .before .before in
-    two-are even-value (s .args .ea .now) (s .args .ev .now) (s .args .i) (s .pre .0) (s .args .sum) (v .even-values .result) (s .pre .1) (v .even-values .ensures) (c .add .result) (c .add .ensures)
+    two-are even-value (s .args .ea .now) (s .args .ev .now) (s .args .i) (s .pre .0) (s .args .sum) (v .even-values .result) (s .pre .1)
+    (v .even-values .ensures) (c .add .result) (c .add .ensures)
 
 pub even-two-spec : {M : Type 1} → statement M
 even-two-spec =

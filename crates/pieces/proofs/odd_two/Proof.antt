@@ -39,13 +39,15 @@ odd-values-requires : tie.Need-odd-values-requires
 odd-values-requires c κs = let s = c .before .before .before .before in two-asks odd-value (s .args .oa .now) (s .args .ov .now) (s .args .i) (s .pre .0)
 
 add-requires : tie.Need-add-requires
-add-requires c κs = let s = c .before .before .before .before .before in two-fit odd-value (s .args .oa .now) (s .args .ov .now) (s .args .i) (s .pre .0) (s .args .sum) (c .odd-values .result) (s .pre .1) (c .odd-values .ensures)
+add-requires c κs = let s = c .before .before .before .before .before in two-fit odd-value (s .args .oa .now) (s .args .ov .now) (s .args .i)
+    (s .pre .0) (s .args .sum) (c .odd-values .result) (s .pre .1) (c .odd-values .ensures)
 
 returns : tie.Need-returns
 returns c =
     let v = c .before in
     let s = v .before .before .before .before .before in
-    two-are odd-value (s .args .oa .now) (s .args .ov .now) (s .args .i) (s .pre .0) (s .args .sum) (v .odd-values .result) (s .pre .1) (v .odd-values .ensures) (c .add .result) (c .add .ensures)
+    two-are odd-value (s .args .oa .now) (s .args .ov .now) (s .args .i) (s .pre .0) (s .args .sum) (v .odd-values .result) (s .pre .1)
+    (v .odd-values .ensures) (c .add .result) (c .add .ensures)
 
 pub odd-two-spec : {M : Type 1} → statement M
 odd-two-spec =

@@ -13,7 +13,7 @@ abbrev μ-loop : tie.MeasureT-loop
 μ-loop p table from to ea₀ ev₀ oa₀ ov₀ n₀ i₀ ea ev oa ov n i = to - i
 
 loop-holds : tie.Need-loop-holds Inv-loop μ-loop
-loop-holds c = partly-none (c .pre .0) (c .pre .1) (c .pre .2) (c .pre .3) (c .pre .4)
+loop-holds c = partly-none (c .pre .0) (c .pre .1)
 
 worked-at-requires : tie.Need-worked-at-requires Inv-loop μ-loop
 worked-at-requires c κs =

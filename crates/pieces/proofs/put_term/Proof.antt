@@ -44,7 +44,13 @@ returns : tie.Need-returns
 returns c =
     let s = c .before .args in
     let e : Cell (s .w .a) ≡ s .w .a = search needs in
-    record { evens-a = ap (λ (x : ℤ). set (s .ea .now) (s .n .evens) x) e; evens-v = refl; odds-a = ap (λ (x : ℤ). set (s .oa .now) (s .n .odds) x) e; odds-v = refl; count = refl }
+    record {
+      evens-a = ap (λ (x : ℤ). set (s .ea .now) (s .n .evens) x) e;
+      evens-v = refl;
+      odds-a = ap (λ (x : ℤ). set (s .oa .now) (s .n .odds) x) e;
+      odds-v = refl;
+      count = refl;
+    }
 
 pub put-term-spec : {M : Type 1} → statement M
 put-term-spec =

@@ -40,7 +40,8 @@ returns : tie.Need-returns Inv-loop μ-loop
 returns c =
     let l = c .before in
     let s = l .before in
-    half-all even-value (s .args .ea .now) (s .args .ev .now) (s .args .n) (s .pre) (toZ w64 (l .loop .sum)) (l .loop .i) (l .loop .inv .0) (l .loop .inv .1) (c .loop-test .left)
+    half-all even-value (s .args .ea .now) (s .args .ev .now) (s .args .n) (s .pre) (toZ w64 (l .loop .sum)) (l .loop .i) (l .loop .inv .0)
+    (l .loop .inv .1) (c .loop-test .left)
 
 pub sum-evens-spec : {M : Type 1} → statement M
 sum-evens-spec =

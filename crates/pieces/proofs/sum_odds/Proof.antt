@@ -40,7 +40,8 @@ returns : tie.Need-returns Inv-loop μ-loop
 returns c =
     let l = c .before in
     let s = l .before in
-    half-all odd-value (s .args .oa .now) (s .args .ov .now) (s .args .n) (s .pre) (toZ w64 (l .loop .sum)) (l .loop .i) (l .loop .inv .0) (l .loop .inv .1) (c .loop-test .left)
+    half-all odd-value (s .args .oa .now) (s .args .ov .now) (s .args .n) (s .pre) (toZ w64 (l .loop .sum)) (l .loop .i) (l .loop .inv .0)
+    (l .loop .inv .1) (c .loop-test .left)
 
 pub sum-odds-spec : {M : Type 1} → statement M
 sum-odds-spec =

@@ -1,5 +1,5 @@
 -- `pieces::sum_piece` meets its contract. Assumes nothing.
-use Rattle.pieces.proofs.Parting.{halves-fit, halves-are}
+use Rattle.pieces.proofs.Parting.{halves-fit, halves-are, rooms-kept}
 use borrow.Author.Needs.{needs}
 use Rattle.pieces.proofs.sum_piece.Statement.{statement}
 use Rattle.pieces.proofs.sum_piece.Tie as tie
@@ -22,7 +22,10 @@ returns : tie.Need-returns
 returns c =
     let o = c .before in
     let e = o .before .before .before in
-    halves-are (e .before .before .before .part-terms .ensures) (e .sum-evens .result) (o .sum-odds .result) (e .sum-evens .ensures) (o .sum-odds .ensures) (c .add .result) (c .add .ensures)
+    let p = e .before .before .before .part-terms .ensures in (
+      halves-are p (e .sum-evens .result) (o .sum-odds .result) (e .sum-evens .ensures) (o .sum-odds .ensures) (c .add .result) (c .add .ensures),
+      rooms-kept p,
+    )
 
 pub sum-piece-spec : {M : Type 1} → statement M
 sum-piece-spec =

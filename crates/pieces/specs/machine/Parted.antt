@@ -32,6 +32,13 @@ pub record Piece (p : Prepared) (rows : List (List ℕ)) (from to : ℕ) : Type 
   pub short : to ≤ from + piece-limit
   pub limits : BlockFits (terms-at rows from (to - from))
 
+-- The tables have room for a piece.
+pub record Rooms (ea : List ℤ) (ev : List ℕ) (oa : List ℤ) (ov : List ℕ) : Type 0 where
+  pub evens-a : length ea ≡ room
+  pub evens-v : length ev ≡ room
+  pub odds-a : length oa ≡ room
+  pub odds-v : length ov ≡ room
+
 -- A term at the instant t with its angle worked out.
 pub record WorkedFor (t : ℤ) (x : Term) (w : ReducedTerm) : Type 0 where
   pub value : value-by-parity (w .odd) (w .a) (w .v) ≡ term-value (x .a) (x .b) (x .c) t

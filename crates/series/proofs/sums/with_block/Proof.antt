@@ -14,8 +14,8 @@ block-start-requires c κs = (c .pre .2 .sized, c .pre .3)
 block-end-requires : tie.Need-block-end-requires
 block-end-requires c κs = let s = c .before in (s .pre .2 .sized, s .pre .3)
 
-sum-of-requires : tie.Need-sum-of-requires
-sum-of-requires c κs =
+sum-terms-requires : tie.Need-sum-terms-requires
+sum-terms-requires c κs =
     let b = c .before in
     let s = b .before in
     let q =
@@ -29,21 +29,21 @@ mul-div-round-requires c κs =
     carried-asks (s .args .p .t) (s .args .v) (s .pre .1) (s .pre .4)
 
 -- the sum is that of block j
-sum-answer : (c : tie.After-sum-of) → let s = c .before .before .before in
-    c .sum-of .result ≡ block-sum (s .args .p .t) (getD (table-blocks (s .args .table .now)) (s .args .j) [])
+sum-answer : (c : tie.After-sum-terms) → let s = c .before .before .before in
+    c .sum-terms .result ≡ block-sum (s .args .p .t) (getD (table-blocks (s .args .table .now)) (s .args .j) [])
 sum-answer c =
     let e = c .before in
     let b = e .before in
     let s = b .before in
     sum-is (s .args .table .now) (s .pre .2) (s .args .j) (s .pre .3) (b .block-start .result) (e .block-end .result)
-    (b .block-start .ensures) (e .block-end .ensures) (s .args .p .t) (c .sum-of .result) (c .sum-of .ensures)
+    (b .block-start .ensures) (e .block-end .ensures) (s .args .p .t) (c .sum-terms .result) (c .sum-terms .ensures)
 
 add-requires : tie.Need-add-requires
 add-requires c κs =
     let m = c .before .before in
     let s = m .before .before .before in
     step-fits (s .args .p .t) (s .args .v) (s .pre .1) (s .pre .4) _ (inside (s .args .table .now) (s .pre .2) (s .args .j) (s .pre .3))
-    (m .sum-of .result) (c .mul-div-round .result) (sum-answer m) (c .mul-div-round .ensures)
+    (m .sum-terms .result) (c .mul-div-round .result) (sum-answer m) (c .mul-div-round .ensures)
 
 returns : tie.Need-returns
 returns c =
@@ -51,7 +51,7 @@ returns c =
     let m = d .before .before in
     let s = m .before .before .before in
     step-is (s .args .p .t) (s .args .v) (s .pre .1) (s .pre .4) _ (inside (s .args .table .now) (s .pre .2) (s .args .j) (s .pre .3))
-    (m .sum-of .result) (d .mul-div-round .result) (sum-answer m) (d .mul-div-round .ensures) (c .add .result) (c .add .ensures)
+    (m .sum-terms .result) (d .mul-div-round .result) (sum-answer m) (d .mul-div-round .ensures) (c .add .result) (c .add .ensures)
 
 pub with-block-spec : {M : Type 1} → statement M
 with-block-spec =
@@ -59,7 +59,7 @@ with-block-spec =
     (tie.spec
     block-start-requires
     block-end-requires
-    sum-of-requires
+    sum-terms-requires
     mul-div-round-requires
     add-requires
     returns)

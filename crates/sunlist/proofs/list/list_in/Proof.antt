@@ -1,7 +1,8 @@
 -- `sunlist::list::list_in` meets its contract. Assumes nothing.
-use mathlib.Core.Path.{ap, _∙_, subst}
+use mathlib.Core.Path.{_≡_, ap, _∙_, subst}
 use Prim.Native.Nat.{ℕ, _≤_}
-use lib.ListN.{length}
+use lib.ListN.{length, take}
+use Rattle.sunlist.specs.declared.Decision.{Decision}
 use Rattle.sunlist.specs.SunList.{answered, written}
 use Rattle.sunlist.specs.machine.Answers.{decided-at}
 use Rattle.sunlist.specs.machine.Window.{Window}
@@ -13,13 +14,20 @@ use Rattle.sunlist.proofs.list.list_in.Tie as tie
 slice-relend-prefix-flag-minutes : tie.Need-slice-relend-prefix-flag-minutes
 slice-relend-prefix-flag-minutes c = search needs
 
+-- the minutes decided, and the part of the room that the window takes
+abbrev minutes : tie.Start → ℕ → Decision
+minutes s = decided-at (s .args .planet .now) (s .args .earth .now) (s .args .t0) (s .args .k)
+
+part : (s : tie.Start) → s .args .n ≡ length (take (s .args .n) (s .args .room .now))
+part s = part-length (s .args .n) (s .args .room .now) (s .pre .1 .few) (s .pre .0)
+
 slice-aggregate-flag-minutes : tie.Need-slice-aggregate-flag-minutes
-slice-aggregate-flag-minutes c = let s = c .before .before .before in part-length (s .args .n) (s .args .room .now) (s .pre .1 .few) (s .pre .0)
+slice-aggregate-flag-minutes c = part (c .before .before .before)
 
 flag-minutes-requires : tie.Need-flag-minutes-requires
 flag-minutes-requires c κs =
     let s = c .before .before .before in
-    (subst (λ (m : ℕ). Window (s .args .t0) m (s .args .k)) (part-length (s .args .n) (s .args .room .now) (s .pre .1 .few) (s .pre .0)) (s .pre .1), s .pre .2, s .pre .3)
+    (subst (λ (m : ℕ). Window (s .args .t0) m (s .args .k)) (part s) (s .pre .1), s .pre .2, s .pre .3)
 
 same-length : tie.Need-same-length
 same-length c = search needs
@@ -28,7 +36,8 @@ returns : tie.Need-returns
 returns c =
     let f = c .before .before .before in
     let s = f .before .before .before .before in
-    part-bad (decided-at (s .args .planet .now) (s .args .earth .now) (s .args .t0) (s .args .k)) (s .args .n) _ (f .flag-minutes .result) (f .flag-minutes .last .0) (s .args .room .now) (s .args .out .now) (f .flag-minutes .ensures) (part-length (s .args .n) (s .args .room .now) (s .pre .1 .few) (s .pre .0)) (c .if1 .taken)
+    part-bad (minutes s) (s .args .n) _ (f .flag-minutes .result) (f .flag-minutes .last .0) (s .args .room .now) (s .args .out .now)
+    (f .flag-minutes .ensures) (part s) (c .if1 .taken)
 
 slice-reshare-prefix-write-runs : tie.Need-slice-reshare-prefix-write-runs
 slice-reshare-prefix-write-runs c = search needs
@@ -37,13 +46,17 @@ slice-aggregate-write-runs : tie.Need-slice-aggregate-write-runs
 slice-aggregate-write-runs c =
     let f = c .before .before .before .before in
     let s = f .before .before .before .before in
-    part-size (decided-at (s .args .planet .now) (s .args .earth .now) (s .args .t0) (s .args .k)) (s .args .n) _ (f .flag-minutes .result) (f .flag-minutes .last .0) (s .args .room .now) (s .args .out .now) (f .flag-minutes .ensures) (part-length (s .args .n) (s .args .room .now) (s .pre .1 .few) (s .pre .0)) (c .before .if1 .left)
+    part-size (minutes s) (s .args .n) _ (f .flag-minutes .result) (f .flag-minutes .last .0) (s .args .room .now) (s .args .out .now)
+    (f .flag-minutes .ensures) (part s) (c .before .if1 .left)
 
 write-runs-requires : tie.Need-write-runs-requires
 write-runs-requires c κs =
     let f = c .before .before .before .before .before in
     let s = f .before .before .before .before in
-    subst (λ (m : ℕ). m ≤ 1440) (part-size (decided-at (s .args .planet .now) (s .args .earth .now) (s .args .t0) (s .args .k)) (s .args .n) _ (f .flag-minutes .result) (f .flag-minutes .last .0) (s .args .room .now) (s .args .out .now) (f .flag-minutes .ensures) (part-length (s .args .n) (s .args .room .now) (s .pre .1 .few) (s .pre .0)) (c .before .before .if1 .left)) (s .pre .1 .few)
+    let e =
+    part-size (minutes s) (s .args .n) _ (f .flag-minutes .result) (f .flag-minutes .last .0) (s .args .room .now) (s .args .out .now)
+    (f .flag-minutes .ensures) (part s) (c .before .before .if1 .left) in
+    subst (λ (m : ℕ). m ≤ 1440) e (s .pre .1 .few)
 
 same-length-2 : tie.Need-same-length-2
 same-length-2 c = search needs
@@ -56,7 +69,9 @@ returns-2 c =
     let w = c .before .before in
     let f = c .before .before .before .before .before .before .before .before in
     let s = f .before .before .before .before in
-    let o = part-numbers (decided-at (s .args .planet .now) (s .args .earth .now) (s .args .t0) (s .args .k)) (s .args .n) _ (f .flag-minutes .result) (f .flag-minutes .last .0) (s .args .room .now) (s .args .out .now) (f .flag-minutes .ensures) (part-length (s .args .n) (s .args .room .now) (s .pre .1 .few) (s .pre .0)) (w .before .before .before .if1 .left) in
+    let o =
+    part-numbers (minutes s) (s .args .n) _ (f .flag-minutes .result) (f .flag-minutes .last .0) (s .args .room .now) (s .args .out .now)
+    (f .flag-minutes .ensures) (part s) (w .before .before .before .if1 .left) in
     (w .write-runs .ensures .0 ∙ ap (answered (length (s .args .out .now))) o, w .write-runs .ensures .1 ∙ ap (written (s .args .out .now)) o)
 
 pub list-in-spec : {M : Type 1} → statement M
