@@ -5,7 +5,7 @@ use native.Mathlib.Nat.{mul-le-mul}
 use lib.IntN.{ℤ, natAbs, _*ℤ_}
 use Rattle.integers.specs.Division.{rounded}
 use Rattle.integers.specs.Signs.{negative, near}
-use Rattle.integers.proofs.Division.{rounded-by, near-most, near-le}
+use Rattle.integers.proofs.Division.{rounded-by, near-most}
 use Rattle.integers.proofs.Order.{natAbs-*, natAbs-sgn}
 
 natAbs-rounded : (n : ℤ) (d : ℕ) → 0 < d → natAbs (rounded n d) ≡ near (negative n) (natAbs n) d

@@ -6,7 +6,7 @@ use native.Mathlib.Omega.{arith}
 use native.Mathlib.Nat.{mul-le-mul}
 use lib.IntN.{ℤ, pos, negℤ, _*ℤ_}
 use Rattle.integers.specs.Order.{_≺_}
-use Rattle.integers.specs.Fractions.{Fraction, _*ᶠ_, _+ᶠ_, overᶠ, powerᶠ, _≈ᶠ_}
+use Rattle.integers.specs.Fractions.{_*ᶠ_, overᶠ, powerᶠ, _≈ᶠ_}
 use Rattle.integers.proofs.Auto.{polys, ring! }
 use Rattle.integers.proofs.Order.{product-pos, ≺-nat}
 use Rattle.integers.proofs.Fractions.{Over, over-+}

@@ -1,11 +1,11 @@
 -- Two-sided bounds, |a| at most A, and how they add and multiply. Assumes nothing.
-use mathlib.Core.Path.{_≡_, refl, subst₂}
+use mathlib.Core.Path.{_≡_, subst₂}
 use mathlib.Core.List.{[], _∷_}
 use Prim.Native.Nat.{ℕ, _+_, _*_, _-_, _<_}
 use lib.IntN.{ℤ, pos, negℤ, _+ℤ_, _-ℤ_, _*ℤ_}
 use Rattle.integers.specs.Order.{_≼_, _≺_}
 use Rattle.integers.proofs.Pairs.{nonneg}
-use Rattle.integers.proofs.Auto.{polys, ring!, cert!, gap, gap<, _⊞_, _⊛_, _·_}
+use Rattle.integers.proofs.Auto.{polys, cert!, gap, gap<, _⊞_, _⊛_, _·_}
 use Rattle.integers.proofs.Order.{cert*! }
 use Rattle.integers.specs.Division.{rounded}
 use Rattle.integers.proofs.Division.{rounded-low, rounded-high}

@@ -5,9 +5,9 @@ use mathlib.Core.Bool.{Bool, true, false}
 use Prim.Native.Nat.{ℕ, zero, suc, _+_, _*_, _-_, _/_, _%_, _≤_, _<_}
 use native.Mathlib.Omega.{arith, by-contra, both-ways}
 use native.Mathlib.Nat.{div-add-mod, mod-lt, mul-le-mul-left}
-use lib.IntN.{ℤ, pos, negsuc, negℤ, natAbs, _+ℤ_, _-ℤ_, _*ℤ_}
+use lib.IntN.{ℤ, pos, negsuc, negℤ, natAbs, _+ℤ_, _*ℤ_}
 use lib.Signed.{_<ℤ_}
-use Rattle.integers.proofs.Pairs.{nonneg, up, dn, int, nat, _+ᵢ_, _-ᵢ_, _*ᵢ_, negᵢ, same, same⁻¹, less, less⁻¹, <ℤ-suc, suc-<ℤ}
+use Rattle.integers.proofs.Pairs.{nonneg, up, dn, int, nat, _+ᵢ_, _*ᵢ_, negᵢ, same, same⁻¹, less, less⁻¹, <ℤ-suc, suc-<ℤ}
 use Rattle.integers.specs.Order.{_≼_, _≺_}
 use Rattle.integers.specs.Division.{floor, rounded, modulo}
 use Rattle.integers.specs.Signs.{negative, sgn, near, differ}

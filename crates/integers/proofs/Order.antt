@@ -1,5 +1,5 @@
 -- The order of ℤ beyond what a certificate proves: cases, antisymmetry, cancelling a positive factor, magnitudes, and the range of an i64. Assumes nothing.
-use mathlib.Core.Path.{_≡_, refl, ap₂, subst}
+use mathlib.Core.Path.{_≡_, refl, subst}
 use mathlib.Core.Bool.{Bool, true, false}
 use mathlib.Core.List.{List, [], _∷_}
 use mathlib.Core.Logic.{_⊎_, inl, inr}
@@ -15,7 +15,7 @@ use Rattle.integers.specs.Order.{_≼_, _≺_}
 use Rattle.integers.specs.Signs.{sgn}
 use Rattle.integers.proofs.Pairs.{up, dn, int, nat, negᵢ, _+ᵢ_, _-ᵢ_, same, less, less⁻¹, suc-<ℤ}
 use Rattle.integers.proofs.Ring.{#, _⊕_, _⊖_, _⊗_, norm, nonn}
-use Rattle.integers.proofs.Auto.{Multiplied, summed, p-mul, polys, cert!, cert<!, gap, gap<, _⊞_, _⊛_, _·_}
+use Rattle.integers.proofs.Auto.{Multiplied, summed, p-mul, polys, cert!, cert<!, gap, gap<, _⊞_, _⊛_}
 
 pub ≼-or-≺ : (x y : ℤ) → (x ≼ y) ⊎ (y ≺ x)
 ≼-or-≺ x y = go (decLe (up x + dn y) (up y + dn x))

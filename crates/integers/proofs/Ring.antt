@@ -6,7 +6,7 @@ use mathlib.Core.Bool.{Bool, true, false}
 use Prim.Native.Nat.{ℕ, zero, suc, _+_, _*_, _≤_, _<_}
 use lib.Dec.{T, eqb, eqb→eq}
 use lib.IntN.{ℤ, pos, negsuc, negℤ, _+ℤ_, _-ℤ_, _*ℤ_, +ℤ-assoc, +ℤ-comm, +ℤ-idl, +ℤ-idr, *ℤ-comm, zero-*ℤ, negℤ-+ℤ, -ℤ-+ℤ-cancel}
-use lib.Signed.{_≤ℤ_, _<ℤ_, nonNeg, ≤ℤ-refl}
+use lib.Signed.{_≤ℤ_, _<ℤ_, nonNeg}
 use Rattle.integers.proofs.Pairs.{*ℤ-assoc, *ℤ-+ℤ, +ℤ-*ℤ, negℤ-*ℤ, one-*ℤ, swapℤ, ≤ℤ-of-diff, diff-of-≤ℤ, nonneg, nonneg-+, nonneg-*, nonneg-sq}
 use Rattle.integers.proofs.Pairs.{≤ℤ-trans, divided, <ℤ-suc, suc-<ℤ}
 

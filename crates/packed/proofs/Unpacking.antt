@@ -54,7 +54,8 @@ unfolding filled
 block-rows n r rows after e f = rw e at (f .rows)
 
 -- Its terms are there, and then its end is too.
-module _ (rows after : List (List ℕ)) (n m k : ℕ) (done : List (List Term)) (ts : List Term) (f : m ≤ series-limit) (p : m ≡ n + length ts) (z : Sized rows) where
+module _ (rows after : List (List ℕ)) (n m k : ℕ) (done : List (List Term)) (ts : List Term) (f : m ≤ series-limit) (p : m ≡ n + length ts)
+    (z : Sized rows) where
   rows-block : after ≡ sets rows n (map row-of ts) → take n rows ≡ all-rows done
       → take m (set after (series-limit + k) (m ∷ 0 ∷ 0 ∷ [])) ≡ all-rows (done ++ ts ∷ [])
   rows-block stored w =

@@ -8,7 +8,6 @@ use Rattle.units.specs.declared.Coordinates.{Coordinates}
 use Rattle.arith.proofs.Cells.{Cell, cell}
 use Rattle.rectangular.specs.declared.Vector.{Vector}
 use Rattle.rectangular.specs.declared.View.{View}
-use Rattle.rectangular.specs.declared.Sight.{Sight}
 use Rattle.rectangular.specs.declared.Sight.the-variants.{Usable, Unusable}
 use Rattle.rectangular.specs.Vectors.{geocentric, length}
 use Rattle.rectangular.specs.Rectangular.{place}

@@ -1,6 +1,6 @@
 // Rectangular places from L, B and R, vectors, and a planet seen from Earth: RULES, "Places".
 ghost use mathlib.Core.Path.{_≡_};
-ghost use Prim.Native.Nat.{_*_, _<_, _^_};
+ghost use Prim.Native.Nat.{_<_, _^_};
 ghost use lib.IntN.{pos, natAbs};
 ghost use Rattle.rectangular.specs.Rectangular.{rectangular, place as place-of};
 ghost use Rattle.rectangular.specs.Vectors.{geocentric as geocentric-of, sun as sun-of, length as length-of, unit as unit-of};

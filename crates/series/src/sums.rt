@@ -5,23 +5,20 @@ ghost use mathlib.Core.List.{[], _∷_};
 ghost use lib.IntN.{natAbs, _+ℤ_, _*ℤ_};
 ghost use lib.ListN.{getD, take, drop};
 ghost use Rattle.integers.specs.Division.{rounded};
-ghost use Rattle.units.specs.Units.{millennium, t-limit, in-limit as within-limit, total-limit, powers, block-count};
+ghost use Rattle.units.specs.Units.{millennium, t-limit, total-limit, powers, block-count};
 ghost use Rattle.cosine.specs.machine.Prepared.{Ready};
 ghost use Rattle.packed.specs.machine.Table.{Sized, ends, table-blocks};
 ghost use Rattle.pieces.specs.Sums.{block-sum};
 ghost use Rattle.series.specs.Sums.{running-sum};
 ghost use Rattle.series.specs.machine.Table.{Table};
 use arith::muldiv::mul_div_round;
-use arith::signed::abs;
 use arith::signed::add;
 use cosine::term::Prepared;
 use packed::table::Table;
 use packed::table::block_end;
 use pieces::sum_terms;
-use units::Instant;
 use units::MILLENNIUM;
 use units::POWERS;
-use units::T_LIMIT;
 
 // The blocks of a coordinate.
 pub const COORDINATE_BLOCKS: usize = POWERS as usize;

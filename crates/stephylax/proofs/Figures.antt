@@ -16,7 +16,7 @@ use Rattle.series.specs.declared.CoordinatesAnswer.the-variants.{At as AtCoordi
 use Rattle.series.proofs.Answering.{answers-parsed}
 use Rattle.series.proofs.Figures.{constant-rate, figures as rate-figures}
 use Rattle.place.proofs.Light.{light-times}
-use Rattle.stephylax.specs.Marked.{Case, All-right, rate-bytes, rate-instant, rate-coordinates, marked}
+use Rattle.stephylax.specs.Marked.{All-right, rate-bytes, rate-instant, rate-coordinates, marked}
 
 -- The three cosines one by one.
 nth-of : ℕ → List ℤ → ℤ

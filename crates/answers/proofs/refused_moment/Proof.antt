@@ -1,5 +1,4 @@
 -- `answers::refused_moment` meets its contract. Assumes nothing.
-use mathlib.Core.Path.{_∙_}
 use Rattle.arith.proofs.Signs.{back, ok}
 use Rattle.answers.specs.Answers.{moment-refused}
 use borrow.Author.Needs.{needs}

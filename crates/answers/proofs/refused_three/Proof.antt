@@ -1,5 +1,4 @@
 -- `answers::refused_three` meets its contract. Assumes nothing.
-use mathlib.Core.Path.{_∙_}
 use Rattle.arith.proofs.Signs.{back, ok}
 use Rattle.answers.specs.Answers.{three-refused}
 use borrow.Author.Needs.{needs}
