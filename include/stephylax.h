@@ -33,7 +33,7 @@
  * the line; that of a packed series is that of the number's last byte (of the ninth, if the number goes past nine groups).
  *
  * Units: t is in whole milliseconds of TD from 2000-01-01 12h, negative before, and at most 63,115,200,000,000 (two
- * millennia) from 0. Parts are 10^-11 radian or AU. "01" is the paper of rules; its section stands with each function.
+ * millennia) from 0. Parts are 10^-11 radian or AU. "Rules" names the section of docs/RULES.md.
  */
 #ifndef STEPHYLAX_H
 #define STEPHYLAX_H
@@ -63,7 +63,7 @@ typedef struct { uint64_t words[17]; } stephylax_text;
  *   Returned  day_number            0 to 5,373,484
  *   Refused   1
  *   Range     years -4712 to 9999
- *   Rules     01, Calendar
+ *   Rules     Calendar
  */
 stephylax_day stephylax_day_of_date(int64_t year, int64_t month, int64_t day);
 
@@ -73,7 +73,7 @@ stephylax_day stephylax_day_of_date(int64_t year, int64_t month, int64_t day);
  *   Returned  year, month, day      the one date that has this number; ms is 0
  *   Refused   1 (figure 5)
  *   Range     0 to 5,373,484
- *   Rules     01, Calendar
+ *   Rules     Calendar
  */
 stephylax_date stephylax_date_of_day(int64_t day_number);
 
@@ -83,7 +83,7 @@ stephylax_date stephylax_date_of_day(int64_t day_number);
  *   Returned  t
  *   Refused   1, then 2
  *   Range     -1-12-19 12h to 4000-01-16 12h
- *   Rules     01, Calendar
+ *   Rules     Calendar
  */
 stephylax_instant stephylax_instant_of_date(int64_t year, int64_t month, int64_t day, int64_t ms);
 
@@ -93,7 +93,7 @@ stephylax_instant stephylax_instant_of_date(int64_t year, int64_t month, int64_t
  *   Returned  year, month, day, ms
  *   Refused   2
  *   Range     |t| at most 63,115,200,000,000
- *   Rules     01, Calendar
+ *   Rules     Calendar
  */
 stephylax_date stephylax_date_of_instant(int64_t t);
 
@@ -104,7 +104,7 @@ stephylax_date stephylax_date_of_instant(int64_t t);
  *   Returned  length                bytes of the packed form, which stands at the beginning of `packed`
  *   Refused   the first of 3, 4, 5, 6, 7, 8, 9, with its offset; `packed` then holds the packed form of all lines before
  *   Range     4,096 terms a block, 8,192 a series; the packed form is shorter than the text
- *   Rules     01, Series, as text and packed; Refusals and what they leave
+ *   Rules     Series, as text and packed; Refusals and what they leave
  */
 stephylax_written stephylax_read_text(const uint8_t *text, size_t n, uint8_t *packed, size_t room);
 
@@ -119,7 +119,7 @@ stephylax_written stephylax_read_text(const uint8_t *text, size_t n, uint8_t *pa
  *             the end repeat the answer and write nothing
  *   Range     any number of bytes that a size_t counts. A state that no call gave, another buffer or altered packed
  *             bytes are safe, but their answer is undecided
- *   Rules     01, Series, as text and packed; Refusals and what they leave
+ *   Rules     Series, as text and packed; Refusals and what they leave
  */
 stephylax_text stephylax_text_start(void);
 stephylax_text stephylax_text_piece(stephylax_text state, const uint8_t *text, size_t n, uint8_t *packed, size_t room);
@@ -131,7 +131,7 @@ stephylax_written stephylax_text_answer(stephylax_text state);
  *   Given     packed, n
  *   Returned  terms                 how many terms the series has
  *   Refused   the first of 4, 5, 6, 8, 9, 10
- *   Rules     01, Series, as text and packed; Refusals and what they leave
+ *   Rules     Series, as text and packed; Refusals and what they leave
  */
 stephylax_checked stephylax_check(const uint8_t *packed, size_t n);
 
@@ -141,7 +141,7 @@ stephylax_checked stephylax_check(const uint8_t *packed, size_t n);
  *             text, room            output
  *   Returned  length                bytes of the text
  *   Refused   as stephylax_check, then 7 with the length of the whole text
- *   Rules     01, Series, as text and packed
+ *   Rules     Series, as text and packed
  */
 stephylax_written stephylax_print(const uint8_t *packed, size_t n, uint8_t *text, size_t room);
 
@@ -152,7 +152,7 @@ stephylax_written stephylax_print(const uint8_t *packed, size_t n, uint8_t *text
  *             radius                parts of an AU
  *   Refused   2, then as stephylax_check
  *   Range     within 10^-6 (radian or AU) of the exact sum of the series
- *   Rules     01, Working cosine and sums
+ *   Rules     Working cosine and sums
  */
 stephylax_coordinates stephylax_coordinates_at(const uint8_t *packed, size_t n, int64_t t);
 
@@ -163,7 +163,7 @@ stephylax_coordinates stephylax_coordinates_at(const uint8_t *packed, size_t n, 
  *             distance                       parts of an AU, at t
  *   Refused   2, the planet's series, Earth's series, 11, then 2 and 11 at the earlier instant
  *   Range     both radii 0.1 to 64 AU, distance at least 0.1 AU and a sixteenth of the sum of both radii
- *   Rules     01, Places
+ *   Rules     Places
  */
 stephylax_place stephylax_apparent_place(const uint8_t *planet, size_t np, const uint8_t *earth, size_t ne, int64_t t);
 
@@ -173,7 +173,7 @@ stephylax_place stephylax_apparent_place(const uint8_t *planet, size_t np, const
  *   Returned  right_ascension, declination   degrees: the whole number over 360000.0, rounded once
  *             distance                       AU: the whole number over 1e11, rounded once
  *   Refused   as stephylax_apparent_place, the number alone
- *   Rules     01, Places
+ *   Rules     Places
  */
 stephylax_mount stephylax_mount_place(const uint8_t *planet, size_t np, const uint8_t *earth, size_t ne, int64_t t);
 
@@ -187,7 +187,7 @@ stephylax_mount stephylax_mount_place(const uint8_t *planet, size_t np, const ui
  *   Refused   12, 2 (first, then last minute), the planet's series, Earth's series, 11 at the first bad minute, 7 with the
  *             count of numbers it would need
  *   Range     every minute within keep_out by the exact sums is in a run, and none farther out than keep_out + 2
- *   Rules     01, Sun list
+ *   Rules     Sun list
  */
 stephylax_written stephylax_sun_list(const uint8_t *planet, size_t np, const uint8_t *earth, size_t ne,
                                      int64_t t0, int64_t minutes, int64_t keep_out, uint64_t *runs, size_t room);
