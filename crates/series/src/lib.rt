@@ -6,11 +6,11 @@ pub mod sums;
 pub mod table;
 
 use crate::sums::in_limit;
+use crate::table::Checked;
 use crate::table::TABLE_ROWS;
 use crate::table::Table;
 use crate::table::coordinates;
 use crate::table::fill;
-use packed::Checked;
 use units::Coordinates;
 use units::Instant;
 use units::Refusal;
