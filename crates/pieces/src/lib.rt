@@ -1,4 +1,4 @@
-// The sum of a block of a term table, in pieces of up to 256 terms. The angles of a piece are worked out first, and each term is put
+// The sum of a block of a term table, in pieces of up to 128 terms. The angles of a piece are worked out first, and each term is put
 // into one of two tables by the parity of its quarter; then each table is summed. So no jump hangs on a quarter, which is as good as
 // random from term to term. A table has one place more than a piece has terms: a term of amplitude 0 stands past the last one, for a
 // last pair to end with. Of a term, ea and ev (at an even quarter) or oa and ov (at an odd one) hold the a and the v of
@@ -24,7 +24,7 @@ use pairs::odd_values;
 use units::U;
 
 // The terms of a piece are at most so many; a table has one place more.
-const PIECE_LIMIT: usize = 256;
+const PIECE_LIMIT: usize = 128;
 
 const ROOM: usize = PIECE_LIMIT + 1;
 

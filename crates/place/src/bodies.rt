@@ -10,9 +10,9 @@ ghost use Rattle.place.specs.Place.{sight-at, taken-again, taken as take
 use crate::Geocentric;
 use crate::Sighting;
 use crate::steps::earlier;
-use packed::Checked;
 use rectangular::Sight;
 use rectangular::from_earth::sight;
+use series::table::Checked;
 use series::table::TABLE_ROWS;
 use series::table::Table;
 use series::table::coordinates;

@@ -2,14 +2,14 @@
 ghost use mathlib.Core.Path.{_≡_};
 ghost use Rattle.series.specs.Sums.{coordinates-answer};
 
-pub mod sums;
+mod sums;
 pub mod table;
 
+use crate::table::Checked;
 use crate::table::TABLE_ROWS;
 use crate::table::Table;
 use crate::table::coordinates;
 use crate::table::fill;
-use packed::Checked;
 use units::Coordinates;
 use units::Instant;
 use units::Refusal;

@@ -10,10 +10,11 @@ ghost use Rattle.series.specs.machine.Table.{Table, filled};
 use crate::sums::COORDINATE_BLOCKS;
 use crate::sums::coordinate;
 use cosine::term::prepare;
-use packed::Checked;
 use packed::table::unpack;
 use units::Coordinates;
 use units::Instant;
+
+pub type Checked = packed::Checked;
 
 pub type Table = packed::table::Table;
 

@@ -14,7 +14,7 @@ use crate::one_minute::decide;
 use crate::window::flag;
 use crate::window::minute;
 use crate::window::write_runs;
-use packed::Checked;
+use series::table::Checked;
 use series::table::TABLE_ROWS;
 use series::table::Table;
 use series::table::coordinates;

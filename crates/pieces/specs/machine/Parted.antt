@@ -18,7 +18,7 @@ use Rattle.pieces.specs.Sums.{block-sum}
 
 -- The terms of a piece are at most so many; a table has one place more.
 abbrev pub piece-limit : ℕ
-piece-limit = 256
+piece-limit = 128
 
 abbrev pub room : ℕ
 room = piece-limit + 1
