@@ -5,7 +5,7 @@ use mathlib.Core.List.{List, [], _∷_}
 use Prim.Native.Nat.{ℕ, suc, _+_, _*_, _^_, _≤_, _<_}
 use lib.IntN.{natAbs}
 use lib.ListN.{length, getD, take, drop}
-use Rattle.units.specs.Units.{U, tau-limit, a-limit, b-limit, c-limit, block-limit, series-limit, total-limit, powers, block-count}
+use Rattle.units.specs.Units.{U, coarse-tau, a-limit, b-limit, c-limit, block-limit, series-limit, total-limit, powers, block-count}
 use Rattle.units.specs.Units.{coarse-share, coarse-base, coarse-limit}
 use Rattle.limits.specs.declared.Term.{Term}
 use Rattle.limits.specs.Limits.{constant}
@@ -43,7 +43,7 @@ pub record BlockFits (ts : List Term) : Type 0 where
 -- greatest |tau| to its power.
 unfoldable pub coarseness : ℕ → List (List Term) → ℕ
 coarseness i [] = 0
-coarseness i (ts ∷ blocks) = tau-limit ^ i * (coarse-share * moving-total ts + U * moving-count ts) + coarseness (suc i) blocks
+coarseness i (ts ∷ blocks) = coarse-tau ^ i * (coarse-share * moving-total ts + U * moving-count ts) + coarseness (suc i) blocks
 
 -- The six blocks of coordinate q: 0 longitude, 1 latitude, 2 radius.
 abbrev pub coordinate : ℕ → List (List Term) → List (List Term)

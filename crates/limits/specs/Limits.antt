@@ -6,14 +6,14 @@ use Prim.Native.Nat.{ℕ, _+_, _*_, _%_, _^_}
 use lib.Dec.{leb, ltb, eqb}
 use lib.IntN.{ℤ, natAbs}
 use lib.ListN.{length}
-use Rattle.units.specs.Units.{U, tau-limit, a-limit, b-limit, c-limit, block-limit, series-limit, total-limit, powers}
+use Rattle.units.specs.Units.{U, coarse-tau, a-limit, b-limit, c-limit, block-limit, series-limit, total-limit, powers}
 use Rattle.units.specs.Units.{coarse-share, coarse-base, coarse-limit}
 use Rattle.limits.specs.declared.Term.{Term}
 use Rattle.limits.specs.declared.Tally.{Tally}
 
--- The factor of block number k, counted from 0: the greatest |tau| to the block's power, which is k mod 6.
+-- The factor of block number k, counted from 0: coarse-tau to the block's power, which is k mod 6.
 unfoldable pub factor : ℕ → ℕ
-factor k = tau-limit ^ (k % powers)
+factor k = coarse-tau ^ (k % powers)
 
 -- A term counts as constant where b and c are both 0.
 unfoldable pub constant : ℕ → ℤ → Bool

@@ -9,7 +9,7 @@ use units::COARSE_LIMIT;
 use units::COARSE_SHARE;
 use units::POWERS;
 use units::SERIES_LIMIT;
-use units::TAU_LIMIT;
+use units::COARSE_TAU;
 use units::TOTAL_LIMIT;
 use units::U;
 ghost use mathlib.Core.Path.{_≡_};
@@ -48,15 +48,15 @@ pub fn empty_tally() -> Tally
 }
 
 // The factor of each power in the coarseness sum.
-const SQUARE: u64 = TAU_LIMIT * TAU_LIMIT;
+const SQUARE: u64 = COARSE_TAU * COARSE_TAU;
 
 const FACTORS: [u64; POWERS as usize] = [
     1,
-    TAU_LIMIT,
+    COARSE_TAU,
     SQUARE,
-    SQUARE * TAU_LIMIT,
+    SQUARE * COARSE_TAU,
     SQUARE * SQUARE,
-    SQUARE * SQUARE * TAU_LIMIT,
+    SQUARE * SQUARE * COARSE_TAU,
 ];
 
 // The factor of block number k, counted from 0.

@@ -67,8 +67,12 @@ powers = 6
 abbrev pub block-count : ℕ
 block-count = 3 * powers
 
--- The coarseness of a coordinate: a term that is not constant weighs `coarse-share` for each part of |a| and U, doubled with each power;
--- a coordinate begins with `coarse-base`, and the sum is at most `coarse-limit`.
+-- The coarseness of a coordinate: a term that is not constant weighs `coarse-share` for each part of |a| and U, times `coarse-tau` for
+-- each power; a coordinate begins with `coarse-base`, and the sum is at most `coarse-limit`. The rule has a |tau| of its own, so that
+-- what is accepted does not hang on the limit of t.
+abbrev pub coarse-tau : ℕ
+coarse-tau = 2
+
 abbrev pub coarse-share : ℕ
 coarse-share = 14
 

@@ -54,7 +54,9 @@ pub const POWERS: u64 = 6;
 // The blocks of a series.
 pub const BLOCK_COUNT: u64 = 3 * POWERS;
 
-// The coarseness rule: the share of a part of |a|, what a coordinate begins with, and the limit.
+// The coarseness rule: the factor of a power, the share of a part of |a|, what a coordinate begins with, and the limit.
+pub const COARSE_TAU: u64 = 2;
+
 pub const COARSE_SHARE: u64 = 14;
 
 pub const COARSE_BASE: u64 = 32 * U;

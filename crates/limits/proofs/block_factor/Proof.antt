@@ -5,7 +5,7 @@ use Prim.Native.Nat.{ℕ, zero, suc, _%_, _^_, _≤_, _<_}
 use native.Mathlib.Omega.{arith}
 use lib.ListN.{getD}
 use borrow.Author.Needs.{needs}
-use Rattle.units.specs.Units.{tau-limit, powers}
+use Rattle.units.specs.Units.{coarse-tau, powers}
 use Rattle.limits.specs.Limits.{factor}
 use Rattle.limits.specs.machine.Magnitudes.{factor-limit}
 use Rattle.limits.proofs.block_factor.Statement.{statement}
@@ -18,10 +18,10 @@ array-read-result : tie.Need-array-read-result
 array-read-result c = search needs
 
 abbrev factors : List ℕ
-factors = tau-limit ^ 0 ∷ tau-limit ^ 1 ∷ tau-limit ^ 2 ∷ tau-limit ^ 3 ∷ tau-limit ^ 4 ∷ tau-limit ^ 5 ∷ []
+factors = coarse-tau ^ 0 ∷ coarse-tau ^ 1 ∷ coarse-tau ^ 2 ∷ coarse-tau ^ 3 ∷ coarse-tau ^ 4 ∷ coarse-tau ^ 5 ∷ []
 
 -- The table at a power p.
-at-power : (p : ℕ) → p < powers → (getD factors p 0 ≡ tau-limit ^ p) × (getD factors p 0 ≤ factor-limit)
+at-power : (p : ℕ) → p < powers → (getD factors p 0 ≡ coarse-tau ^ p) × (getD factors p 0 ≤ factor-limit)
 at-power zero h = (refl, omega arith)
 at-power (suc zero) h = (refl, omega arith)
 at-power (suc (suc zero)) h = (refl, omega arith)
