@@ -17,7 +17,7 @@ use units::T_LIMIT;
 mod naturals;
 mod whole;
 
-// specs/Calendar.antt has the same constants under the same names.
+// specs/Constants.antt has the same constants under the same names.
 
 // The years are from -YEARS_BEFORE_ZERO to LAST_YEAR.
 const YEARS_BEFORE_ZERO: u64 = 4712;

@@ -12,7 +12,7 @@ use Rattle.integers.proofs.Bounds.{Bd, bd-*}
 use Rattle.integers.specs.Division.{rounded, modulo, floor}
 use Rattle.integers.proofs.Division.{rounded-low, rounded-high}
 use Rattle.integers.specs.Fractions.{negᶠ}
-use Rattle.units.specs.Units.{parts, millennium as T, tau-limit, t-limit, turn as P, quarter, angle-step, angle-per-part, b-limit, c-limit}
+use Rattle.units.specs.Units.{parts, millennium as T, tau-limit, t-limit, cosine-distance, turn as P, quarter, angle-step, angle-per-part, b-limit, c-limit}
 use Rattle.cosine.specs.Cosine.{horner, y-of, cosine-by, even-part, odd-part, q-of, r-of, w-of, working-cosine, cosine}
 use Rattle.cosine.specs.Reference.{power, factorial, sum, alternate, four as F, ref-q, ref-r, even-series, odd-series, reference-cosine, Within}
 use Rattle.cosine.specs.Terms.{Allowed, term-angle, term-cosine, term-reference}
@@ -72,11 +72,12 @@ angles {b} {c} {t} h =
     }
 
 -- P1: the working and the reference cosine of every allowed term differ by at most 7/U
-pub P1 : (b : ℕ) (c t : ℤ) → Allowed b c t → Within 7 (term-cosine b c t) (term-reference b c t)
+pub P1 : (b : ℕ) (c t : ℤ) → Allowed b c t → Within cosine-distance (term-cosine b c t) (term-reference b c t)
 unfolding term-cosine term-angle term-reference cosine
 P1 b c t h =
-    subst (λ x. Within 7 x (reference-cosine (pos b *ℤ pos T +ℤ c *ℤ t) (parts * T))) (sym (cosine-mod (angle b c t)))
-    (within-any the-turn (angle b c t) (pos b *ℤ pos T +ℤ c *ℤ t) (parts * T) (pos quarter-limit) (pos F *ℤ pos (parts * T)) (angles h) 7 (record { le = tt }))
+    subst (λ x. Within cosine-distance x (reference-cosine (pos b *ℤ pos T +ℤ c *ℤ t) (parts * T))) (sym (cosine-mod (angle b c t)))
+    (within-any the-turn (angle b c t) (pos b *ℤ pos T +ℤ c *ℤ t) (parts * T) (pos quarter-limit) (pos F *ℤ pos (parts * T)) (angles h)
+    cosine-distance (record { le = tt }))
 
 -- ---- a constant term
 zero-angle : (t : ℤ) → term-angle 0 (pos 0) t ≡ 0

@@ -16,7 +16,7 @@ use Rattle.integers.proofs.Order.{natAbs-low, natAbs-high, ≼-antisym}
 use Rattle.integers.proofs.Division.{rounded-add}
 use Rattle.integers.proofs.Tests.{both}
 use Rattle.integers.proofs.Bounds.{Bd, bd-rounded}
-use Rattle.units.specs.Units.{U, millennium, t-limit, tau-limit, turn, coarse-share}
+use Rattle.units.specs.Units.{U, millennium, t-limit, tau-limit, turn, cosine-distance, coarse-share}
 use Rattle.cosine.specs.Cosine.{cosine}
 use Rattle.cosine.specs.Reference.{Within}
 use Rattle.cosine.specs.Terms.{term-angle, term-cosine, term-value, term-reference}
@@ -105,8 +105,8 @@ module _ (t : ℤ) (ht : natAbs t ≤ t-limit) (i : ℕ) where
       let c = term-cosine (x .b) (x .c) t in
       let z = term-reference (x .b) (x .c) t in
       let w = P1 (x .b) (x .c) t (record { b-in = h .b-below; c-in = h .c-below; t-in = ht }) in
-      close-term u (pos 7) (pos (natAbs (x .a))) (pos (tau-limit ^ i)) p q (x .a) c (rounded (x .a *ℤ c) U) z q-positive (w .positive)
-      (nonneg 7) p-bound (bd-natAbs (x .a) (natAbs (x .a)) (omega arith))
+      close-term u (pos cosine-distance) (pos (natAbs (x .a))) (pos (tau-limit ^ i)) p q (x .a) c (rounded (x .a *ℤ c) U) z q-positive (w .positive)
+      (nonneg cosine-distance) p-bound (bd-natAbs (x .a) (natAbs (x .a)) (omega arith))
       (bd-rounded (x .a *ℤ c) U (omega arith)) (record { low = w .least; high = w .most })
 
   term-close : (x : Term) → TermFits x → Close u (pos (weight (tau-limit ^ i) (x .a) (x .b) (x .c))) p q (term-value (x .a) (x .b) (x .c) t) (exact-term t i x)

@@ -67,6 +67,10 @@ powers = 6
 abbrev pub block-count : ℕ
 block-count = 3 * powers
 
+-- The promise on the cosine: the working one of a term is at most so many 1/U from the reference.
+abbrev pub cosine-distance : ℕ
+cosine-distance = 7
+
 -- The coarseness of a coordinate: a term that is not constant weighs `coarse-share` for each part of |a| and U, times `coarse-tau` for
 -- each power; a coordinate begins with `coarse-base`, and the sum is at most `coarse-limit`. The rule has a |tau| of its own, so that
 -- what is accepted does not hang on the limit of t.
@@ -74,7 +78,7 @@ abbrev pub coarse-tau : ℕ
 coarse-tau = 2
 
 abbrev pub coarse-share : ℕ
-coarse-share = 14
+coarse-share = 2 * cosine-distance
 
 abbrev pub coarse-base : ℕ
 coarse-base = 32 * U

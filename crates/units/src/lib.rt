@@ -57,7 +57,8 @@ pub const BLOCK_COUNT: u64 = 3 * POWERS;
 // The coarseness rule: the factor of a power, the share of a part of |a|, what a coordinate begins with, and the limit.
 pub const COARSE_TAU: u64 = 2;
 
-pub const COARSE_SHARE: u64 = 14;
+// Twice the promised distance of a working cosine from the reference, which is 7.
+pub const COARSE_SHARE: u64 = 2 * 7;
 
 pub const COARSE_BASE: u64 = 32 * U;
 
