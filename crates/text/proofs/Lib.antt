@@ -16,6 +16,7 @@ pub mod TakenTexts
 pub mod GoodTexts
 pub mod Beginnings
 pub mod Prefixes
+pub mod Halts
 pub mod Feeds
 pub mod Output
 pub mod Acceptance
