@@ -117,7 +117,7 @@ module _ (spot at w k n : ℕ) (s : Tally) (o xs : List ℕ) where
 
 -- ---- By the kind of the line.
 
-one-more : (l : Line) (xs : List ℕ) (b : ℕ) → lexes l (xs ++ (b ∷ [])) ≡ lex (lexes l xs) b
+pub one-more : (l : Line) (xs : List ℕ) (b : ℕ) → lexes l (xs ++ (b ∷ [])) ≡ lex (lexes l xs) b
 one-more l xs b = lexes-append l xs (b ∷ []) ∙ last-one (lexes l xs) b
   where
     last-one : (l : Line) (b : ℕ) → lexes l (b ∷ []) ≡ lex l b

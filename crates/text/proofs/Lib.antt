@@ -17,6 +17,7 @@ pub mod GoodTexts
 pub mod Beginnings
 pub mod Prefixes
 pub mod Halts
+pub mod Decided
 pub mod Feeds
 pub mod Output
 pub mod Acceptance
