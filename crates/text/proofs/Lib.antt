@@ -14,6 +14,7 @@ pub mod Lines
 pub mod Verdicts
 pub mod TakenTexts
 pub mod GoodTexts
+pub mod Counted
 pub mod Beginnings
 pub mod Prefixes
 pub mod Halts
