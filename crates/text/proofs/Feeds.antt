@@ -10,7 +10,7 @@ use Rattle.text.specs.declared.Reader.{Reader}
 use Rattle.text.specs.Lexer.{fresh, lexes, whole-count, whole-term}
 use Rattle.text.specs.Judge.{Verdict, count-end, term-end, verdict}
 use Rattle.text.specs.Reader.{stopped, wrote, step}
-use Rattle.text.specs.Grammar.{CountLine, count-bytes, GoodCount, TermLine, term-bytes, GoodTerm}
+pub use Rattle.text.specs.Decided.{IsTerm, IsCount}
 use Rattle.integers.proofs.Tests.{by-cases}
 use Rattle.text.proofs.Branches.{verdict-count, verdict-term, verdict-early}
 use Rattle.text.proofs.GoodLines.{count-run, term-run}
@@ -18,18 +18,6 @@ use Rattle.text.proofs.TakenTerms.{term-in}
 use Rattle.text.proofs.TakenCounts.{count-in}
 use Rattle.text.proofs.Lines.{Going, step-feed}
 use Rattle.text.proofs.Verdicts.{not-count, not-term, is-whole, count-among, term-among, wrote-status}
-
--- Bytes that are a whole term line.
-pub record IsTerm (xs : List ℕ) : Type 0 where
-  pub t : TermLine
-  pub good : GoodTerm t
-  pub is : xs ≡ term-bytes t
-
--- Bytes that are a whole count line.
-pub record IsCount (xs : List ℕ) : Type 0 where
-  pub c : CountLine
-  pub good : GoodCount c
-  pub is : xs ≡ count-bytes c
 
 Not : ℕ → Type 0
 Not n = n ≡ 3 → ⊥

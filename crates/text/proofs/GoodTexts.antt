@@ -36,7 +36,7 @@ module _ (spot at w k n : ℕ) (s : Tally) (out xs ys : List ℕ) (L : Line)
   ready = record { status = refl; counts = λ e. omega (arith, e); inside = going }
 
 -- A term line.
-term-line : (t : TermLine) (at w k n : ℕ) (s : Tally) (out ys : List ℕ) → GoodTerm t → TermsInLimits (factor (k - 1)) s (t ∷ [])
+pub term-line : (t : TermLine) (at w k n : ℕ) (s : Tally) (out ys : List ℕ) → GoodTerm t → TermsInLimits (factor (k - 1)) s (t ∷ [])
     → at + length (term-bytes t) < last-offset
     → w + length (term-packed t) ≤ length out
     → run (sp 0 at w k n s) out (term-bytes t ++ (10 ∷ ys))
@@ -53,7 +53,7 @@ term-line t at w k n s out ys g l c h =
     ∙ (rw (v .2, v .1))
 
 -- A count line.
-count-line : (c : CountLine) (at w k : ℕ) (s : Tally) (out ys : List ℕ) → GoodCount c → k < 18 → count-fits s (count c) ≡ true
+pub count-line : (c : CountLine) (at w k : ℕ) (s : Tally) (out ys : List ℕ) → GoodCount c → k < 18 → count-fits s (count c) ≡ true
     → at + length (count-bytes c) < last-offset
     → w + length (count-packed c) ≤ length out
     → run (sp 20 at w k 0 s) out (count-bytes c ++ (10 ∷ ys))

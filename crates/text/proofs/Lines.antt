@@ -89,7 +89,7 @@ after-bad l byte e = go (lex l byte) (view l byte)
     go _ (kept i h k) = absurd (omega arith)
     go _ (negated i h k) = absurd (omega arith)
 
-not-after : (l : Line) (byte : ℕ) → (l .spot ≡ 30 → ⊥) → lex l byte .spot ≡ 30 → ⊥
+pub not-after : (l : Line) (byte : ℕ) → (l .spot ≡ 30 → ⊥) → lex l byte .spot ≡ 30 → ⊥
 not-after l byte n = go (lex l byte) (view l byte)
   where
     go : (m : Line) → Lexed l byte m → m .spot ≡ 30 → ⊥

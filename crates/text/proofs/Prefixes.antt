@@ -12,7 +12,8 @@ use lib.ListN.{length}
 use Rattle.text.specs.declared.Line.{Line}
 use Rattle.text.specs.Lexer.{fresh, lex, lexes, whole-count, whole-term}
 use Rattle.text.specs.Grammar.{digits, AllDigits, numeral, Natural, Decimal, size, decimal, GoodDecimal}
-use Rattle.text.specs.Grammar.{CountLine, count-bytes, GoodCount, TermLine, term-bytes, GoodTerm}
+use Rattle.text.specs.Grammar.{count-bytes}
+pub use Rattle.text.specs.Decided.{BeginsTerm, BeginsCount}
 use Rattle.text.proofs.Digits.{early}
 use Rattle.integers.proofs.Tests.{by-cases}
 use Rattle.text.proofs.GoodLines.{put, keep, flag, ten, lexes-append, parts-run, lex-point, lex-keep, natural-run, whole-spots}
@@ -159,12 +160,6 @@ finish l v =
     none-yet s v e h = let k : v < 10 ^ 0 = rw e at h in omega arith
 
 -- A term line.
-pub record BeginsTerm (xs : List ℕ) : Type 0 where
-  pub rest : List ℕ
-  pub t : TermLine
-  pub good : GoodTerm t
-  pub is : xs ++ rest ≡ term-bytes t
-
 pub term-begins : (xs : List ℕ) → (lexes (fresh 0) xs .spot ≡ 31 → ⊥) → BeginsTerm xs
 term-begins xs h =
     let f = finish (lexes (fresh 0) xs) (live xs (fresh 0) (record { spot = omega arith; field = omega arith; value = omega arith }) h) in
@@ -178,12 +173,6 @@ term-goes-on xs b e =
     omega (arith, s, ap (λ (l : Line). l .spot) q)
 
 -- A count line.
-pub record BeginsCount (xs : List ℕ) : Type 0 where
-  pub rest : List ℕ
-  pub c : CountLine
-  pub good : GoodCount c
-  pub is : xs ++ rest ≡ count-bytes c
-
 count-live : (l : Line) (byte : ℕ) → 21 ≤ l .spot → (lex l byte .spot ≡ 31 → ⊥) → (21 ≤ lex l byte .spot) × (lex l byte .spot < 25)
 count-live l byte h = go (lex l byte) (view l byte)
   where

@@ -3,31 +3,31 @@ use mathlib.Core.Path.{_≡_, refl, sym, ap, _∙_}
 use mathlib.Core.List.{List, [], _∷_, _++_}
 use Prim.Native.Nat.{ℕ, _+_, _≤_}
 use native.Mathlib.Omega.{arith}
-use borrow.Author.Tests.{ne-eqb}
-use lib.ListN.{length}
+use borrow.Author.Tests.{eqb-false, ne-eqb}
+use lib.Dec.{eqb}
+use lib.ListN.{length, take, length-take}
 use lib.Seq.{sets}
 use Rattle.limits.specs.Limits.{no-tally, summed}
 use Rattle.packed.specs.Series.{pack-terms, pack}
 use Rattle.text.specs.declared.Reader.{Reader}
+use Rattle.text.specs.declared.Outcome.{Outcome}
 use Rattle.text.specs.declared.Outcome.the-variants.{Accepted}
-use Rattle.text.specs.Reader.{last-offset, begun, next-spot, step, step-out, Run, run, stopped, ended, told, whole}
+use Rattle.text.specs.Reader.{last-offset, begun, next-spot, step, Run, run, stopped, ended, told, whole}
 use Rattle.text.specs.Grammar.{feed, Block, lines-bytes, terms-of-lines, blocks-bytes, blocks-of-lines, GoodText, InLimits}
+use Rattle.integers.proofs.Tests.{by-cases}
 use Rattle.text.proofs.GoodLines.{lexes-append}
 use Rattle.text.proofs.Lines.{Going, stays}
 use Rattle.text.proofs.Prefixes.{BeginsTerm, term-begins, term-goes-on, BeginsCount, count-begins, count-goes-on, refused-by}
 use Rattle.text.proofs.Feeds.{IsTerm, IsCount, feed-term, feed-count}
-use Rattle.text.proofs.Output.{Leaves, leaves}
+pub use Rattle.text.proofs.Counted.{cut}
+use Rattle.text.proofs.Counted.{counted, uncounted-out}
+use Rattle.text.proofs.Decided.{decided, decided-so-far}
+use Rattle.text.specs.Decided.{Answers, AnswersSoFar}
 use Rattle.text.specs.declared.Line.{Line}
-use Rattle.text.specs.Lexer.{spot-decimal, spot-count, fresh, lex, lexes}
+use Rattle.text.specs.Lexer.{spot-decimal, spot-count, spot-after, fresh, lex, lexes}
 use Rattle.text.proofs.TakenTexts.{rest-in}
 use Rattle.text.proofs.Acceptance.{accepted-by, nothing}
 use Rattle.text.proofs.GoodTexts.{blocks-run}
-
--- The cutting rule: two calls are one with the bytes of both.
-pub cut : (r : Reader) (out xs ys : List ℕ) → run r out (xs ++ ys) ≡ run (run r out xs .reader) (run r out xs .out) ys
-unfolding run
-cut r out [] ys = refl
-cut r out (byte ∷ xs) ys = cut (step r out byte) (step-out r out byte) xs ys
 
 -- Some calls, one after the other; each may have any bytes or none.
 unfoldable pub calls : Reader → List ℕ → List (List ℕ) → Run
@@ -58,6 +58,20 @@ pub repeats-end : (r : Reader) → (r .status ≡ 0 → ⊥) → ended r ≡ r
 unfolding ended
 repeats-end r h = rw (ne-eqb (r .status) 0 h)
 
+-- After the end it has: whatever state the last call found, later calls repeat its answer and write nothing.
+ended-stops : (r : Reader) → ended r .status ≡ 0 → ⊥
+unfolding ended
+ended-stops r =
+    by-cases (eqb (r .status) 0)
+    (λ p. by-cases (eqb (r .line .spot) spot-after) (λ q. rw (p, q) (λ e. omega (arith, e))) (λ q. rw (p, q) (λ e. omega (arith, e))))
+    (λ p. rw p (eqb-false (r .status) 0 p))
+
+pub repeats-ended : (r : Reader) (out : List ℕ) (ps : List (List ℕ)) → calls (ended r) out ps ≡ record { reader = ended r; out = out }
+repeats-ended r out ps = repeats (ended r) out ps (ended-stops r)
+
+pub ended-again : (r : Reader) → ended (ended r) ≡ ended r
+ended-again r = repeats-end (ended r) (ended-stops r)
+
 -- A text that follows the grammar within the limits, and has room, is accepted; the output holds its packed form, the rest of it untouched.
 pub read-text : (ks : List Block) (out : List ℕ) → GoodText ks → InLimits ks → length (blocks-bytes ks) ≤ last-offset
     → length (pack (blocks-of-lines ks)) ≤ length out
@@ -70,12 +84,13 @@ read-text ks out g l c h =
     let r = blocks-run ks 0 0 0 no-tally out (g .good) l (omega (arith, g .eighteen)) (omega arith) (omega arith) in
     (ap (λ (x : Run). told (ended (x .reader))) r ∙ ap (λ (i : ℕ). Accepted i) z, ap (λ (x : Run). x .out) r)
 
--- An accepted text is the lines of its numbers, and the output is exactly their packed form.
+-- An accepted text is the lines of its numbers, its bytes can be counted, and the output is exactly their packed form.
 pub record Reads (text out : List ℕ) (n : ℕ) : Type 0 where
   pub ks : List Block
   pub good : GoodText ks
   pub limits : InLimits ks
   pub is : text ≡ blocks-bytes ks
+  pub counted : length text ≤ last-offset
   pub long : n ≡ length (pack (blocks-of-lines ks))
   pub room : n ≤ length out
   pub written : whole text out .out ≡ sets out 0 (pack (blocks-of-lines ks))
@@ -94,15 +109,46 @@ accepted-text text out n e =
       good = record { eighteen = omega (arith, r .count); good = r .goods };
       limits = rw z at (r .all);
       is = rw z at (r .is);
+      counted = omega (arith, counted text begun out (omega arith) (a .0 .status) .1);
       long = w;
       room = omega arith;
       written = rw z at (r .wrote);
     }
 
--- Any text, accepted or refused, leaves in the output the packed form of its whole lines before the refusal, or before its end, and nothing
--- else; a refusal stands in the line after these, and a text that is not refused so far has no further line feed.
-pub output : (text out : List ℕ) → Leaves 0 0 out text (run begun out text)
-output = leaves
+-- So it is accepted with every other output that has room, and leaves the same packed form there.
+pub accepted-elsewhere : (text out buffer : List ℕ) (n : ℕ) (e : told (whole text out .reader) ≡ Accepted n) → n ≤ length buffer
+    → (told (whole text buffer .reader) ≡ Accepted n) × (whole text buffer .out ≡ sets buffer 0 (pack (blocks-of-lines (accepted-text text out n e .ks))))
+accepted-elsewhere text out buffer n e h =
+    let r = accepted-text text out n e in
+    let q = read-text (r .ks) buffer (r .good) (r .limits) (rw (r .is) at (r .counted)) (rw (r .long) at h) in (
+      ap (λ (t : List ℕ). told (whole t buffer .reader)) (r .is) ∙ q .0 ∙ ap (λ (i : ℕ). Accepted i) (sym (r .long)),
+      ap (λ (t : List ℕ). whole t buffer .out) (r .is) ∙ q .1,
+    )
+
+-- However a text that can be counted is cut into calls, its answer and what the output then holds are those of specs/Decided.
+pub decided-cut : (text out : List ℕ) (ps : List (List ℕ)) → joined ps ≡ text → length text ≤ last-offset
+    → Answers text out (told (ended (calls begun out ps .reader))) (calls begun out ps .out)
+decided-cut text out ps e c =
+    let q = any-cutting text out ps e in
+    let i = ap (λ (x : Run). told (x .reader)) q in
+    let j = ap (λ (x : Run). x .out) q in
+    rw (i, j) (decided text out c)
+
+-- So are the answer after some calls, and the output, where the text has not ended.
+pub decided-calls : (out : List ℕ) (ps : List (List ℕ)) → length (joined ps) ≤ last-offset
+    → AnswersSoFar (joined ps) out (told (calls begun out ps .reader)) (calls begun out ps .out)
+decided-calls out ps c =
+    let q = cutting begun out ps in
+    let i = ap (λ (x : Run). told (x .reader)) q in
+    let j = ap (λ (x : Run). x .out) q in
+    rw (i, j) (decided-so-far (joined ps) out c)
+
+-- Any text, however long, leaves in the output the packed form of the lines of a good beginning of its bytes that can be counted, and nothing
+-- else; what comes after these lines is refused at a byte, or is a line that can go on, or the series is whole.
+pub output : (text out : List ℕ) → (o : Outcome) × AnswersSoFar (take last-offset text) out o (run begun out text .out)
+output text out =
+    let t = take last-offset text in
+    (told (run begun out t .reader), rw (uncounted-out text out) (decided-so-far t out (omega (arith, length-take last-offset text))))
 
 -- Refusal 3: in a line whose bytes so far are xs, a byte other than a line feed is refused exactly when no line of the grammar begins with
 -- these bytes and it; a line feed is, exactly when they are no whole line.

@@ -170,11 +170,6 @@ unfoldable pub line-packed : AnyLine → List ℕ
 line-packed (a-count l) = encode (count l)
 line-packed (a-term l) = pack-term (term-of-line l)
 
--- It may stand in a text.
-unfoldable pub GoodLine : AnyLine → Type 0
-GoodLine (a-count l) = GoodCount l
-GoodLine (a-term l) = GoodTerm l
-
 -- The bytes of lines, each with its line feed.
 unfoldable pub any-bytes : List AnyLine → List ℕ
 any-bytes [] = []
@@ -184,16 +179,6 @@ any-bytes (l ∷ ls) = line-bytes l ++ (feed ∷ any-bytes ls)
 unfoldable pub any-packed : List AnyLine → List ℕ
 any-packed [] = []
 any-packed (l ∷ ls) = line-packed l ++ any-packed ls
-
--- Each line may stand in a text.
-unfoldable pub GoodLines : List AnyLine → Type 0
-GoodLines [] = Unit {0}
-GoodLines (l ∷ ls) = GoodLine l × GoodLines ls
-
--- No byte is a line feed.
-unfoldable pub NoFeed : List ℕ → Type 0
-NoFeed [] = Unit {0}
-NoFeed (b ∷ bs) = (b ≡ feed → ⊥) × NoFeed bs
 
 -- ---- Blocks and texts.
 
