@@ -168,6 +168,7 @@ fn places() {
     seen.all(&[0, 2, 4, 5, 6, 8, 9, 10, 11]);
 }
 
+/// Windows and bodies of any kind: every refusal, and lists that are mostly empty.
 #[test]
 fn sun_lists() {
     let mut random = Random(16);

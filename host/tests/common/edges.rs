@@ -106,6 +106,12 @@ impl Window {
         geometry(&self.planet, &self.earth, self.t0 + MINUTE * minute).map(|geometry| squared_separation(&geometry))
     }
 
+    /// How far the squared separation at a minute is from the threshold.
+    pub fn off_threshold(&self, minute: i64) -> i64 {
+        let squared = self.squared_separation(minute).expect("a list has places at all its minutes");
+        (squared - threshold(self.keep_out)).abs()
+    }
+
     /// The whole arcminutes of the separation at a minute, 0 where there is none.
     fn arcminutes(&self, minute: i64) -> i64 {
         let squared = self.squared_separation(minute).unwrap_or(0);
