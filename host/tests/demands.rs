@@ -4,10 +4,11 @@
 mod common;
 
 use common::calls::LIBRARY;
+use common::edges::Window;
 use common::generate::{bodies, instant, orbit};
 use common::{hex, published, Random};
 use stephylax::plain::exact::{exact_sum, Sight};
-use stephylax::plain::packed::{pack, parse, Series};
+use stephylax::plain::packed::{pack, parse};
 use stephylax::plain::wide::Wide;
 use stephylax::plain::PARTS;
 
@@ -59,59 +60,97 @@ fn coordinates_of_random_series() {
     }
 }
 
-/// The minutes at both ends of every run and those beside them, where a fault would be nearest, and a few others.
-fn telling_minutes(runs: &[u64], minutes: i64, random: &mut Random) -> Vec<i64> {
-    let mut telling = vec![random.between(0, minutes - 1)];
-    for pair in runs.chunks(2).take(3) {
-        let (first, last) = (pair[0] as i64, pair[1] as i64);
-        telling.extend([first - 1, first, last, last + 1]);
-    }
-    telling.retain(|minute| (0..minutes).contains(minute));
-    telling.sort();
-    telling.dedup();
-    telling
+/// Whether a minute is rightly listed or left out: listed if it is within the keep-out, not listed if it is two arcminutes
+/// farther out.
+fn minute_is_right(window: &Window, runs: &[u64], minute: i64) {
+    let Window { planet, earth, t0, keep_out, .. } = window;
+    let listed = runs.chunks(2).any(|run| (run[0]..=run[1]).contains(&(minute as u64)));
+    let sight = Sight::at(planet, earth, t0 + 60_000 * minute);
+    let series = || format!("planet {} earth {}", hex(&pack(planet)), hex(&pack(earth)));
+    let input = || format!("t0 {t0} keep-out {keep_out} minute {minute} {}", series());
+    assert!(listed || !sight.within(*keep_out), "a minute is missing: {}", input());
+    assert!(!listed || sight.within(keep_out + 2), "a minute is listed too far out: {}", input());
 }
 
-fn list_is_complete(planet: &Series, earth: &Series, window: [i64; 3], runs: &[u64], random: &mut Random) {
-    let [t0, minutes, keep_out] = window;
-    for minute in telling_minutes(runs, minutes, random) {
-        let listed = runs.chunks(2).any(|pair| (pair[0]..=pair[1]).contains(&(minute as u64)));
-        let sight = Sight::at(planet, earth, t0 + 60_000 * minute);
-        let input = || format!("{window:?} minute {minute} planet {} earth {}", hex(&pack(planet)), hex(&pack(earth)));
-        assert!(listed || !sight.within(keep_out), "a minute is missing: {}", input());
-        assert!(!listed || sight.within(keep_out + 2), "a minute is listed too far out: {}", input());
-    }
+/// The library's list, where it has one.
+fn list(window: &Window) -> Option<Vec<u64>> {
+    let mut runs = vec![0; 1440];
+    let figures = [window.t0, window.minutes, window.keep_out];
+    let count = (LIBRARY.sun_list)(&pack(&window.planet), &pack(&window.earth), figures, &mut runs).ok()?;
+    runs.truncate(count);
+    Some(runs)
 }
 
-#[test]
-fn lists_of_random_series() {
-    let mut random = Random(23);
-    let mut tried = 0;
-    while tried < rounds(30) {
-        let (planet, earth) = bodies(&mut random);
-        let window = [random.between(-1 << 45, 1 << 45), random.between(1, 400), random.between(60, 2700)];
-        let mut runs = [0; 1440];
-        let Ok(count) = (LIBRARY.sun_list)(&planet, &earth, window, &mut runs) else {
+/// The ends of runs that lie inside the window, each as the listed minute and the one beside it that is not.
+fn inner_ends(runs: &[u64], minutes: i64) -> Vec<[i64; 2]> {
+    let ends = runs.chunks(2).flat_map(|run| [[run[0] as i64, run[0] as i64 - 1], [run[1] as i64, run[1] as i64 + 1]]);
+    ends.filter(|[_, beside]| (0..minutes).contains(beside)).collect()
+}
+
+/// Tries the library's lists of such windows against the exact test, on both sides of the run's end that is nearest to the
+/// threshold. At least nine of ten windows have such an end within an arcminute of it; of the others one minute is tried.
+fn lists_are_right(windows: u64, random: &mut Random, draw: fn(&mut Random) -> Window) {
+    let (mut tried, mut near) = (0, 0);
+    while tried < windows {
+        let window = draw(random);
+        let Some(runs) = list(&window) else {
             continue;
         };
-        // Most windows show nothing; of those one in ten is tried.
-        if count == 0 && !random.one_in(10) {
-            continue;
-        }
         tried += 1;
-        list_is_complete(&parse(&planet).unwrap(), &parse(&earth).unwrap(), window, &runs[..count], &mut random);
+        near += window.shape(&runs).near as u64;
+        let off = |[listed, beside]: &[i64; 2]| window.off_threshold(*listed).min(window.off_threshold(*beside));
+        match inner_ends(&runs, window.minutes).into_iter().min_by_key(off) {
+            Some(end) => end.into_iter().for_each(|minute| minute_is_right(&window, &runs, minute)),
+            None => minute_is_right(&window, &runs, random.between(0, window.minutes - 1)),
+        }
     }
+    println!("of {windows} windows {near} have a run's end within an arcminute of the threshold");
+    assert!(9 * windows <= 10 * near, "a run's end near the threshold: {near} of {windows}");
 }
 
 #[test]
+fn lists_of_moving_bodies() {
+    lists_are_right(rounds(120), &mut Random(23), Window::of_movement);
+}
+
+#[test]
+fn lists_at_the_threshold() {
+    lists_are_right(rounds(80), &mut Random(26), Window::of_rounding);
+}
+
+/// Bodies of any kind, most of them far from the Sun: one minute of each window.
+#[test]
+fn lists_of_random_series() {
+    let mut random = Random(27);
+    let mut tried = 0;
+    while tried < rounds(20) {
+        let (planet, earth) = bodies(&mut random);
+        let (Ok(planet), Ok(earth)) = (parse(&planet), parse(&earth)) else {
+            continue;
+        };
+        let t0 = random.between(-1 << 45, 1 << 45);
+        let (minutes, keep_out) = (random.between(1, 400), random.between(60, 2700));
+        let window = Window { planet, earth, t0, minutes, keep_out };
+        let Some(runs) = list(&window) else {
+            continue;
+        };
+        tried += 1;
+        minute_is_right(&window, &runs, random.between(0, minutes - 1));
+    }
+}
+
+/// The transit of 2019: Mercury comes within a degree of the Sun and leaves it on the same day.
+#[test]
 fn list_of_mercury() {
-    let (planet, earth) = (packed("mercury"), packed("earth"));
+    let (planet, earth) = (parse(&packed("mercury")).unwrap(), parse(&packed("earth")).unwrap());
     let t0 = (LIBRARY.instant_of_date)([2019, 11, 11, 0]).unwrap();
-    let window = [t0, 1440, 60];
-    let mut runs = [0; 1440];
-    let count = (LIBRARY.sun_list)(&planet, &earth, window, &mut runs).unwrap();
-    let (planet, earth) = (parse(&planet).unwrap(), parse(&earth).unwrap());
-    list_is_complete(&planet, &earth, window, &runs[..count], &mut Random(24));
+    let window = Window { planet, earth, t0, minutes: 1440, keep_out: 60 };
+    let runs = list(&window).unwrap();
+    let ends = inner_ends(&runs, window.minutes);
+    assert!(!ends.is_empty(), "{runs:?}");
+    for minute in ends.into_iter().flatten() {
+        minute_is_right(&window, &runs, minute);
+    }
 }
 
 /// The arithmetic behind the exact figures, on products that take the halving way and the plain one.

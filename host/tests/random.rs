@@ -5,11 +5,13 @@
 mod common;
 
 use common::calls::{Calls, Outcome, LIBRARY, PLAIN};
+use common::edges::Window;
 use common::generate::{any_number, bodies, date, instant, packed, series, text};
 use common::raw::RAW;
 use common::{cut, hex, published, Random};
 use std::fmt::Debug;
 use stephylax::plain::packed::{pack, Series, Term};
+use stephylax::plain::sun_list::threshold;
 
 /// How many inputs a test tries: a hundredth where STEPHYLAX_SHORT is set, as under a memory checker.
 fn rounds(n: u64) -> u64 {
@@ -166,6 +168,7 @@ fn places() {
     seen.all(&[0, 2, 4, 5, 6, 8, 9, 10, 11]);
 }
 
+/// Windows and bodies of any kind: every refusal, and lists that are mostly empty.
 #[test]
 fn sun_lists() {
     let mut random = Random(16);
@@ -195,6 +198,89 @@ fn sun_lists() {
     }
     seen.all(&[0, 2, 4, 5, 6, 7, 8, 9, 10, 11, 12]);
     assert!(rounds(40_000) / 50 < listed, "the windows show too little: {listed}");
+}
+
+/// A window with all the room that a list may need, or now and then with as many numbers as it needs, or one less.
+fn same_list(window: &Window, random: &mut Random) -> (Outcome<usize>, Vec<u64>) {
+    let (planet, earth) = (pack(&window.planet), pack(&window.earth));
+    let figures = [window.t0, window.minutes, window.keep_out];
+    let list = |room: usize, fill: u64| {
+        let input = || format!("{figures:?} room {room} planet {} earth {}", hex(&planet), hex(&earth));
+        same_output(&vec![fill; room], |calls, runs| (calls.sun_list)(&planet, &earth, figures, runs), input)
+    };
+    let (answer, mut runs) = list(1440, random.next());
+    let count = answer.unwrap_or(0);
+    runs.truncate(count);
+    if 0 < count && random.one_in(8) {
+        assert_eq!(list(count, 0), (Ok(count), runs.clone()), "{figures:?} with room for {count} numbers");
+        assert_eq!(list(count - 1, 7), (Err((7, count as i64)), vec![7; count - 1]), "{figures:?} with one less");
+    }
+    (answer, runs)
+}
+
+/// How many windows were tried, and how their lists lay in them.
+#[derive(Debug, Default)]
+struct Lists {
+    windows: u64,
+    partial: u64,
+    several_runs: u64,
+    near_threshold: u64,
+    most_runs: usize,
+}
+
+impl Lists {
+    fn try_all(windows: u64, random: &mut Random, draw: fn(&mut Random) -> Window) -> Lists {
+        let mut lists = Lists { windows, ..Lists::default() };
+        for _ in 0..windows {
+            let window = draw(random);
+            let (answer, runs) = same_list(&window, random);
+            if answer.is_err() {
+                continue;
+            }
+            let shape = window.shape(&runs);
+            lists.partial += shape.partial as u64;
+            lists.several_runs += (1 < shape.runs) as u64;
+            lists.near_threshold += shape.near as u64;
+            lists.most_runs = lists.most_runs.max(shape.runs);
+        }
+        println!("{lists:?}");
+        lists
+    }
+}
+
+/// Bodies that move and a threshold that they pass inside the window: three lists of four are partial and end within an
+/// arcminute of the threshold, and one of three has several runs.
+#[test]
+fn sun_lists_at_their_edges() {
+    let lists = Lists::try_all(rounds(16_000), &mut Random(19), Window::of_movement);
+    assert!(3 * lists.windows < 4 * lists.partial, "{lists:?}");
+    assert!(lists.windows < 3 * lists.several_runs, "{lists:?}");
+    assert!(3 * lists.windows < 4 * lists.near_threshold, "{lists:?}");
+}
+
+/// Bodies that stay at the threshold, where the last digit of a cosine, a root or a quotient decides: three lists of four have
+/// several runs, and a long one has hundreds.
+#[test]
+fn sun_lists_that_rounding_decides() {
+    let lists = Lists::try_all(rounds(8_000), &mut Random(20), Window::of_rounding);
+    assert!(3 * lists.windows < 4 * lists.several_runs, "{lists:?}");
+    assert!(rounds(100) == 1 || 300 < lists.most_runs, "{lists:?}");
+}
+
+/// A squared separation that is the threshold itself is listed, and the minute before or after it, a billionth of a radian
+/// farther out, is not: for every keep-out there is.
+#[test]
+fn sun_lists_on_the_threshold() {
+    let mut random = Random(21);
+    let step = if rounds(100) == 1 { 100 } else { 1 };
+    for keep_out in (60..=2700).step_by(step) {
+        let sides = random.between(6, 60);
+        for (growing, runs) in [(1, [0, 4]), (-1, [4, 8])] {
+            let window = Window::at_the_threshold(keep_out, sides, 0, growing);
+            assert_eq!(window.squared_separation(4), Some(threshold(keep_out)), "keep-out {keep_out} sides {sides}");
+            assert_eq!(same_list(&window, &mut random), (Ok(2), runs.to_vec()), "keep-out {keep_out} sides {sides}");
+        }
+    }
 }
 
 /// Long input: as many terms as a block and a series can have, and one more.

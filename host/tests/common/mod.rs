@@ -2,6 +2,7 @@
 #![allow(dead_code)]
 
 pub mod calls;
+pub mod edges;
 pub mod generate;
 pub mod raw;
 
