@@ -1,2 +1,2 @@
 -- The laws of the answers as numbers.
-mod Held
+pub mod Held

@@ -1,6 +1,5 @@
 // L, B and R of a packed series at an instant: RULES, "Working cosine and sums".
-ghost use mathlib.Core.Path.{_≡_};
-ghost use Rattle.series.specs.Sums.{coordinates-answer};
+ghost use Rattle.series.specs.Call.{Coordinates-promised};
 
 mod sums;
 pub mod table;
@@ -21,9 +20,9 @@ pub enum CoordinatesAnswer {
     NoCoordinates(Refusal),
 }
 
-// L, B and R of a packed series at an instant.
+// L, B and R of a packed series at an instant, within 10^-6 of its exact sums.
 pub fn coordinates_at(packed: &[u8], t: Instant) -> CoordinatesAnswer
-    ensures { λ r. ⌜ r ≡ coordinates-answer (now (packed .entry)) t ⌝ }
+    ensures { λ r. ⌜ Coordinates-promised (now (packed .entry)) t r ⌝ }
 {
     if !in_limit(t) {
         return CoordinatesAnswer::NoCoordinates(Refusal::PastLimit(t));

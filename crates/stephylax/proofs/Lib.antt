@@ -1,2 +1,3 @@
--- The marked cases of the rules are right.
+-- The marked cases of the rules are right; promises of an answer hold of what C is shown.
 pub mod Figures
+pub mod Promises

@@ -1,18 +1,15 @@
 // The C interface: one function for each public call, with its name and its layout of `include/stephylax.h`, which explains each. A slice
-// crosses as a pointer and a length. An answer is the library's, as numbers: specs/Answers.antt of the crate answers
-// says which.
+// crosses as a pointer and a length. An answer is the library's, as numbers: answers/specs/Answers.antt says which.
 ghost use mathlib.Core.Path.{_≡_};
-ghost use lib.ListN.{length};
 ghost use Rattle.calendar.specs.Calendar.{day-of-date, date-of-day, instant-of-date, date-of-instant};
 ghost use Rattle.packed.specs.Series.{parse, checked};
 ghost use Rattle.place.specs.Mount.{mount-answer};
 ghost use Rattle.place.specs.Place.{place-answer};
 ghost use Rattle.printer.specs.Printer.{printed, printed-out};
-ghost use Rattle.series.specs.Sums.{coordinates-answer};
-ghost use Rattle.sunlist.specs.SunList.{sun-list, sun-list-out};
 ghost use Rattle.text.specs.Reader.{begun, run, ended, told, whole};
 ghost use Rattle.answers.specs.Answers.{day-shown, date-shown, instant-shown, moment-shown, checked-shown, text-shown};
-ghost use Rattle.answers.specs.Answers.{printed-shown, list-shown, coordinates-shown, place-shown, mount-shown};
+ghost use Rattle.answers.specs.Answers.{printed-shown, place-shown, mount-shown};
+ghost use Rattle.stephylax.specs.Promises.{C-coordinates-promised, C-sun-list-promised};
 use answers::Doubles;
 use answers::Moment;
 use answers::One;
@@ -114,7 +111,7 @@ pub extern "C" fn stephylax_print(packed: &[u8], text: &mut [u8]) -> One
 
 #[no_mangle]
 pub extern "C" fn stephylax_coordinates_at(packed: &[u8], t: i64) -> Three
-    ensures { λ r. ⌜ r ≡ coordinates-shown (coordinates-answer (now (packed .entry)) (record { ms = t })) ⌝ }
+    ensures { λ r. ⌜ C-coordinates-promised (now (packed .entry)) t r ⌝ }
 {
     of_coordinates(series::coordinates_at(packed, Instant { ms: t }))
 }
@@ -142,10 +139,8 @@ pub extern "C" fn stephylax_sun_list(
     keep_out: i64,
     runs: &mut [u64],
 ) -> One
-    ensures { λ r. ⌜ (r ≡ list-shown
-        (sun-list (now (planet .entry)) (now (earth .entry)) (record { ms = t0 }) minutes «keep_out» (length (now (runs .entry)))))
-        × (now (runs .exit)
-        ≡ sun-list-out (now (planet .entry)) (now (earth .entry)) (record { ms = t0 }) minutes «keep_out» (now (runs .entry))) ⌝ }
+    ensures { λ r. ⌜ C-sun-list-promised
+        (now (planet .entry)) (now (earth .entry)) t0 minutes «keep_out» (now (runs .entry)) r (now (runs .exit)) ⌝ }
 {
     of_list(sunlist::sun_list(planet, earth, Instant { ms: t0 }, minutes, keep_out, runs))
 }

@@ -18,7 +18,9 @@ use Rattle.sunlist.specs.declared.ListAnswer.{ListAnswer}
 use Rattle.sunlist.specs.declared.ListAnswer.the-variants.{NoList}
 use Rattle.sunlist.specs.SunList.{minute, most-minutes, window-fits, Outcome, no-numbers, of-series, outcome, answered, written, sun-list, sun-list-out}
 use Rattle.sunlist.specs.machine.Window.{Window}
+use Rattle.sunlist.specs.Call.{Sun-list-promised}
 use Rattle.sunlist.proofs.Limits.{fits-is, minute-in}
+use Rattle.sunlist.proofs.Call.{sun-list-promised}
 
 -- A negative number is refused as 0 is.
 fits-natural : (minutes keep-out : ℤ) → window-fits minutes keep-out ≡ window-fits (pos (natural-or minutes 0)) (pos (natural-or keep-out 0))
@@ -41,14 +43,15 @@ pub record Figures-read (minutes keep-out : ℤ) (n k : ℕ) (fit : Bool) : Type
   pub fit-is : fit ≡ window-fits (pos n) (pos k)
 
 module _ (planet earth : List ℕ) (t0 : Instant) (minutes keep-out : ℤ) (out : List ℕ) (n k : ℕ) (b : Bool) (w : Figures-read minutes keep-out n k b) where
-  -- An answer and what the output then holds are those of the definition.
+  -- An answer and what the output then holds are those that the call promises.
   abbrev Told : ListAnswer → List ℕ → Type 0
-  Told r now = (r ≡ sun-list planet earth t0 minutes keep-out (length out)) × (now ≡ sun-list-out planet earth t0 minutes keep-out out)
+  Told r now = Sun-list-promised planet earth t0 minutes keep-out out r now
 
   told : (o : Outcome) (r : ListAnswer) (now : List ℕ) → outcome planet earth t0 minutes keep-out ≡ o → r ≡ answered (length out) o → now ≡ written out o
       → Told r now
   unfolding sun-list sun-list-out
-  told o r now e p q = (p ∙ ap (answered (length out)) (sym e), q ∙ ap (written out) (sym e))
+  told o r now e p q =
+      sun-list-promised planet earth t0 minutes keep-out out r now (p ∙ ap (answered (length out)) (sym e)) (q ∙ ap (written out) (sym e))
 
   no-list : (x : Refusal) → outcome planet earth t0 minutes keep-out ≡ no-numbers x → Told (NoList x) out
   unfolding answered written

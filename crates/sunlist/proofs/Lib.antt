@@ -1,6 +1,7 @@
 -- Laws of the Sun list.
 -- Of the definitions: `Limits`, the window's figures; `Answered`, what an answered list says; `Minutes`, the decided minutes and their flags; `Near`,
--- coordinates near exact sums at each minute; `Positive`, lower numbers of fractions; `Demand`, demand 3.
+-- coordinates near exact sums at each minute; `Positive`, lower numbers of fractions; `Demand`, demand 3;
+-- `Call`, the call's promise.
 -- Of the code: `Separations` and `Deciding`, one minute; `Windows`, the window; `Filling`, `Tabled` and `Listing`, the list; `Calling`, the call.
 pub mod Limits
 pub mod Answered
@@ -8,6 +9,7 @@ pub mod Minutes
 pub mod Near
 pub mod Positive
 pub mod Demand
+pub mod Call
 pub mod Separations
 pub mod Deciding
 pub mod Windows

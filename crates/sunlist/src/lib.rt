@@ -1,7 +1,5 @@
 // The list of minutes when a planet stands too near the Sun: RULES, "Sun list".
-ghost use mathlib.Core.Path.{_≡_};
-ghost use lib.ListN.{length};
-ghost use Rattle.sunlist.specs.SunList.{sun-list, sun-list-out};
+ghost use Rattle.sunlist.specs.Call.{Sun-list-promised};
 
 mod list;
 mod one_minute;
@@ -48,8 +46,7 @@ pub fn sun_list(
     keep_out: i64,
     out: &mut [u64],
 ) -> ListAnswer
-    ensures { λ r. ⌜ (r ≡ sun-list (now (planet .entry)) (now (earth .entry)) t0 minutes «keep_out» (length (now (out .entry))))
-        × (now (out .exit) ≡ sun-list-out (now (planet .entry)) (now (earth .entry)) t0 minutes «keep_out» (now (out .entry))) ⌝ }
+    ensures { λ r. ⌜ Sun-list-promised (now (planet .entry)) (now (earth .entry)) t0 minutes «keep_out» (now (out .entry)) r (now (out .exit)) ⌝ }
 {
     let n = natural_or(minutes, 0);
     let k = natural_or(keep_out, 0);

@@ -1,6 +1,7 @@
 -- `series::coordinates_at` meets its contract. Assumes nothing.
 use Rattle.series.proofs.Filled.{Series-in, series-in}
 use Rattle.series.proofs.Answering.{within, answers-past, answers-refused, answers-at}
+use Rattle.series.proofs.Call.{coordinates-promised}
 use borrow.Author.Needs.{needs}
 use Rattle.series.proofs.coordinates_at.Statement.{statement}
 use Rattle.series.proofs.coordinates_at.Tie as tie
@@ -11,7 +12,8 @@ in-limit-requires c κs = search needs
 returns : tie.Need-returns
 returns c =
     let s = c .before .before .before in
-    answers-past (s .args .packed .now) (s .args .t) (c .before .in-limit .result) (c .before .in-limit .ensures) (c .if1 .taken)
+    coordinates-promised _ _ _
+    (answers-past (s .args .packed .now) (s .args .t) (c .before .in-limit .result) (c .before .in-limit .ensures) (c .if1 .taken))
 
 fill-requires : tie.Need-fill-requires
 fill-requires c κs = search needs
@@ -40,16 +42,18 @@ returns-2 c =
     let f = c .before .before .before in
     let e = f .before .before in
     let s = e .before .before .before in
-    answers-refused (s .args .packed .now) (s .args .t) (e .before .in-limit .result) (f .fill .result) _ (e .before .in-limit .ensures) (e .if1 .left)
-    (c .before .r .given .1) (f .fill .ensures .0)
+    coordinates-promised _ _ _
+    (answers-refused (s .args .packed .now) (s .args .t) (e .before .in-limit .result) (f .fill .result) _ (e .before .in-limit .ensures) (e .if1 .left)
+    (c .before .r .given .1) (f .fill .ensures .0))
 
 returns-3 : tie.Need-returns-3
 returns-3 c =
     let k = c .before .before in
     let e = k .before .before .before .before in
     let s = e .before .before .before in
-    answers-at (s .args .packed .now) (s .args .t) (e .before .in-limit .result) _ (c .coordinates .result) (e .before .in-limit .ensures) (e .if1 .left)
-    (table k) (c .coordinates .ensures)
+    coordinates-promised _ _ _
+    (answers-at (s .args .packed .now) (s .args .t) (e .before .in-limit .result) _ (c .coordinates .result) (e .before .in-limit .ensures) (e .if1 .left)
+    (table k) (c .coordinates .ensures))
 
 pub coordinates-at-spec : {M : Type 1} → statement M
 coordinates-at-spec =

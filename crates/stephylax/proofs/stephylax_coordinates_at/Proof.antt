@@ -1,7 +1,6 @@
 -- `stephylax::stephylax_coordinates_at` meets its contract. Assumes nothing.
-use mathlib.Core.Path.{ap, _∙_}
 use Rattle.arith.proofs.Signs.{back}
-use Rattle.answers.specs.Answers.{coordinates-shown}
+use Rattle.stephylax.proofs.Promises.{c-coordinates-promised}
 use borrow.Author.Needs.{needs}
 use Rattle.stephylax.proofs.stephylax_coordinates_at.Statement.{statement}
 use Rattle.stephylax.proofs.stephylax_coordinates_at.Tie as tie
@@ -15,8 +14,8 @@ of-coordinates-requires c κs = search needs
 returns : tie.Need-returns
 returns c =
     let s = c .before .before .before in
-    let a = rw (back (s .args .t) (s .fits .t)) at (c .before .coordinates-at .ensures) in
-    c .of-coordinates .ensures ∙ ap coordinates-shown a
+    let p = rw (back (s .args .t) (s .fits .t)) at (c .before .coordinates-at .ensures) in
+    c-coordinates-promised _ (s .args .t) _ _ p (c .of-coordinates .ensures)
 
 pub stephylax-coordinates-at-spec : {M : Type 1} → statement M
 stephylax-coordinates-at-spec =

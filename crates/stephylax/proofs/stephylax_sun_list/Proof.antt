@@ -1,7 +1,6 @@
 -- `stephylax::stephylax_sun_list` meets its contract. Assumes nothing.
-use mathlib.Core.Path.{ap, _∙_}
 use Rattle.arith.proofs.Signs.{back}
-use Rattle.answers.specs.Answers.{list-shown}
+use Rattle.stephylax.proofs.Promises.{c-sun-list-promised}
 use borrow.Author.Needs.{needs}
 use Rattle.stephylax.proofs.stephylax_sun_list.Statement.{statement}
 use Rattle.stephylax.proofs.stephylax_sun_list.Tie as tie
@@ -18,12 +17,12 @@ same-length c = search needs
 returns : tie.Need-returns
 returns c =
     let s = c .before .before .before .before .before .before .before .before in
-    let r = rw (
+    let p = rw (
       back (s .args .t0) (s .fits .t0),
       back (s .args .minutes) (s .fits .minutes),
       back (s .args .keep-out) (s .fits .keep-out),
     ) at (c .before .before .before .sun-list .ensures) in
-    (c .of-list .ensures ∙ ap list-shown (r .0), r .1)
+    c-sun-list-promised _ _ (s .args .t0) (s .args .minutes) (s .args .keep-out) _ _ _ _ p (c .of-list .ensures)
 
 pub stephylax-sun-list-spec : {M : Type 1} → statement M
 stephylax-sun-list-spec = tie.close (tie.spec sun-list-requires of-list-requires same-length returns)
