@@ -47,9 +47,9 @@ encode-few n v h = groups-few 10 n v h
 pub term-short : (t : Term) → TermFits t → ShortTerm t
 term-short t g =
     record {
-      a = encode-few 7 (folded (t .a)) (omega (arith, g .a-below, folded-natAbs (t .a)));
-      b = encode-few 5 (t .b) (omega (arith, g .b-below));
-      c = encode-few 8 (folded (t .c)) (omega (arith, g .c-below, folded-natAbs (t .c)));
+      a = encode-few (a-bytes - 1) (folded (t .a)) (omega (arith, g .a-below, folded-natAbs (t .a)));
+      b = encode-few (b-bytes - 1) (t .b) (omega (arith, g .b-below));
+      c = encode-few (c-bytes - 1) (folded (t .c)) (omega (arith, g .c-below, folded-natAbs (t .c)));
     }
 
 -- A reader that has read a value and come to an offset of which P holds, or a refusal that is 8 at most so far on.
@@ -161,13 +161,13 @@ a-bounded s at x =
     then (By (at + a-bytes)) (at + 8) (number at x) _ (omega arith) (number-bounded at x) (λ v to rest q.
     passed (a-fits (unfolded v)) OverLimit to over (λ h.
     passed (total-fits s (unfolded v)) TotalOverLimit to total (λ t.
-    within (q .few 7 (omega (arith, halves v a-limit (ltb-true _ _ h)))))))
+    within (q .few (a-bytes - 1) (omega (arith, halves v a-limit (ltb-true _ _ h)))))))
 
 b-bounded : (at : ℕ) (x : List ℕ) → Bounded (By (at + b-bytes)) (at + 8) (read-b at x)
 unfolding read-b b-fits
 b-bounded at x =
     then (By (at + b-bytes)) (at + 8) (number at x) _ (omega arith) (number-bounded at x) (λ v to rest q.
-    passed (b-fits v) OverLimit to over (λ h. within (q .few 5 (omega (arith, ltb-true v b-limit h)))))
+    passed (b-fits v) OverLimit to over (λ h. within (q .few (b-bytes - 1) (omega (arith, ltb-true v b-limit h)))))
 
 c-bounded : (f : ℕ) (s : Tally) (a : ℤ) (b at : ℕ) (x : List ℕ) → Bounded (By (at + c-bytes)) (at + 8) (read-c f s a b at x)
 unfolding read-c c-fits
@@ -175,7 +175,7 @@ c-bounded f s a b at x =
     then (By (at + c-bytes)) (at + 8) (number at x) _ (omega arith) (number-bounded at x) (λ v to rest q.
     passed (c-fits (unfolded v)) OverLimit to over (λ h.
     passed (coarse-fits f s a b (unfolded v)) TooCoarse to coarse (λ t.
-    within (q .few 8 (omega (arith, halves v c-limit (ltb-true _ _ h)))))))
+    within (q .few (c-bytes - 1) (omega (arith, halves v c-limit (ltb-true _ _ h)))))))
 
 term-bounded : (f : ℕ) (s : Tally) (at : ℕ) (x : List ℕ) → Bounded (By (at + term-bytes)) (at + term-bytes + 8) (read-term f s at x)
 unfolding read-term
@@ -217,7 +217,7 @@ block-bounded k s at x =
     then (Counted s at) (at + count-bytes + term-bytes * (series-limit - s .terms) + 8) (number at x) _ (omega arith) (number-bounded at x) (λ n to rest q.
     passed (count-fits s n) OverLimit to over (λ h.
     let c = count-passed s n h in
-    let l = q .few 1 (omega (arith, c .few)) in
+    let l = q .few (count-bytes - 1) (omega (arith, c .few)) in
     weaker (at + count-bytes + term-bytes * (series-limit - s .terms) + 8) (room n to l (c .fewer)) (counted n to l h)
     (terms-bounded n (factor k) (opened k n s) to rest)))
   where
