@@ -5,5 +5,7 @@ pub mod LeastNumber
 pub mod WrittenReplies
 -- The loop over a piece of the input, and the room that its replies take.
 pub mod PieceLoop
+-- A line that is read as three numbers is a line of these numbers.
+pub mod OnlyThree
 -- The published theorems.
 pub mod Theorems

@@ -1,8 +1,8 @@
 -- The lines' theorems: the input may be cut anywhere; each line has the reply to what it says; three numbers, written as decimals and parted by
--- single spaces, are read as these numbers; the two lines of the rules. Assumes nothing.
+-- single spaces, are read as these numbers, and no other line is read as three; the two lines of the rules. Assumes nothing.
 use mathlib.Core.Path.{_≡_, refl, sym, ap, _∙_}
 use mathlib.Core.Bool.{Bool, true, false}
-use mathlib.Core.List.{List, [], _∷_, _++_, append-assoc}
+use mathlib.Core.List.{List, [], _∷_, _++_, append-assoc, append-nil}
 use Prim.Native.Nat.{ℕ, _+_, _*_, _-_, _≤_}
 use native.Mathlib.Omega.{arith}
 use borrow.Author.Tests.{ne-eqb, le-ltb}
@@ -11,13 +11,15 @@ use Rattle.integers.specs.Division.{floor, modulo}
 use Rattle.integers.specs.Signs.{sgn}
 use Rattle.arith.specs.machine.Signed.{natural-or}
 use Rattle.calendar.specs.Calendar.{leap, month-length, first-bad, noon-number, day-of-date}
-use Rattle.date_lines.specs.Lines.{line-feed, space, minus-sign, zero-digit, nine-digit, digit-limit, fresh, greatest, at-space, at-minus, at-digit}
+use Rattle.date_lines.specs.Lines.{line-feed, space, zero-digit, fresh, greatest, at-space, at-digit}
 use Rattle.date_lines.specs.Lines.{take, reading, read}
 use Rattle.date_lines.specs.Replies.{decimal, refused, day-text, reply, after, said, line-after, replies}
-use Rattle.date_lines.specs.Written.{NoFeed, Digits, value, Decimal, written, example-lines, example-replies}
+use Rattle.date_lines.specs.Written.{NoFeed, Digits, value, Decimal, written, ThreeNumbers, Decided, three, fault, example-lines, example-replies}
 use Rattle.date_lines.specs.declared.reader.Line.{Line}
-use Rattle.date_lines.specs.declared.reader.Reading.the-variants.{Three}
+use Rattle.date_lines.specs.declared.reader.Reading.{Reading}
+use Rattle.date_lines.specs.declared.reader.Reading.the-variants.{Three, Bad}
 use Rattle.date_lines.proofs.LeastNumber.{greatest-most}
+use Rattle.date_lines.proofs.OnlyThree.{state, one-digit, minus-read, only-three}
 
 -- Two pieces are the input in one.
 pub cut-line : (s : Line) (xs ys : List ℕ) → line-after s (xs ++ ys) ≡ line-after (line-after s xs) ys
@@ -38,48 +40,27 @@ unfolding replies read after said
 one-line s [] rest h = refl
 one-line s (b ∷ l) rest h = rw (ne-eqb b line-feed (h .0)) (one-line (take s b) l rest (h .1))
 
-abbrev state : ℕ → ℤ → ℤ → Bool → Bool → ℕ → Line
-state count year month minus digits v =
-    record { fault = 0; count = count; year = year; month = month; minus = minus; digits = digits; value = v }
-
 grows : (v : ℕ) (ds : List ℕ) → v ≤ value v ds
 unfolding value
 grows v [] = omega arith
 grows v (b ∷ ds) = omega (arith, grows (10 * v + (b - zero-digit)) ds)
 
 module _ (count : ℕ) (year month : ℤ) (few : count ≤ 2) (minus : Bool) where
-  one-digit : (d : Bool) (v b : ℕ) → zero-digit ≤ b → b ≤ nine-digit → v ≤ digit-limit
-      → take (state count year month minus d v) b ≡ state count year month minus true (10 * v + (b - zero-digit))
-  unfolding take at-digit
-  one-digit d v b p q l =
-      rw (
-        ne-eqb b space (λ e. omega (arith, e)),
-        le-ltb 2 count few,
-        ne-eqb b minus-sign (λ e. omega (arith, e)),
-        le-ltb b zero-digit p,
-        le-ltb nine-digit b q,
-        le-ltb digit-limit v l,
-      )
-
   more-digits : (v : ℕ) (ds rest : List ℕ) → Digits ds → value v ds ≤ greatest minus
       → read (state count year month minus true v) (ds ++ rest) ≡ read (state count year month minus true (value v ds)) rest
   unfolding value read
   more-digits v [] rest h l = refl
   more-digits v (b ∷ ds) rest h l =
       let g = grows (10 * v + (b - zero-digit)) ds in
-      ap (λ (s : Line). read s (ds ++ rest)) (one-digit true v b (h .0) (h .1) (omega (arith, greatest-most minus)))
+      ap (λ (s : Line). read s (ds ++ rest)) (one-digit count year month few minus true v b (h .0) (h .1) (omega (arith, greatest-most minus)))
       ∙ more-digits (10 * v + (b - zero-digit)) ds rest (h .2) l
 
   all-digits : (b : ℕ) (ds rest : List ℕ) → Decimal minus b ds
       → read (state count year month minus false 0) (b ∷ (ds ++ rest)) ≡ read (state count year month minus true (value 0 (b ∷ ds))) rest
   unfolding value read
   all-digits b ds rest h =
-      ap (λ (s : Line). read s (ds ++ rest)) (one-digit false 0 b (h .digits .0) (h .digits .1) (omega arith))
+      ap (λ (s : Line). read s (ds ++ rest)) (one-digit count year month few minus false 0 b (h .digits .0) (h .digits .1) (omega arith))
       ∙ more-digits (10 * 0 + (b - zero-digit)) ds rest (h .digits .2) (h .small)
-
-minus-read : (count : ℕ) (year month : ℤ) → count ≤ 2 → take (state count year month false false 0) minus-sign ≡ state count year month true false 0
-unfolding take at-minus
-minus-read count year month few = rw (le-ltb 2 count few)
 
 number-read : (count : ℕ) (year month : ℤ) (few : count ≤ 2) (minus : Bool) (b : ℕ) (ds rest : List ℕ) → Decimal minus b ds
     → read (state count year month false false 0) (written minus (b ∷ ds) ++ rest) ≡ read (state count year month minus true (value 0 (b ∷ ds))) rest
@@ -117,6 +98,33 @@ three-numbers a b c f g h fs gs hs p q r =
     ∙ month-read b (value 0 (g ∷ gs)) (q .small) y z
     ∙ number-read 2 y m (omega arith) c h hs [] r)
     ∙ day-read c (value 0 (h ∷ hs)) (r .small) y m
+
+-- And only those: a line is read as three numbers exactly where it has these, and else as a fault.
+pub three-read : (l : List ℕ) (y m d : ℤ) → ThreeNumbers l y m d → reading (read fresh l) ≡ Three y m d
+three-read l y m d t =
+    let p = t .year in
+    let q = t .month in
+    let r = t .day in
+    let w : l ≡ written (p .minus) (p .first ∷ p .more)
+    ++ (space ∷ (written (q .minus) (q .first ∷ q .more) ++ (space ∷ (written (r .minus) (r .first ∷ r .more) ++ [])))) =
+    t .line-is ∙ rw (p .bytes-are, q .bytes-are, r .bytes-are, append-nil) in
+    ap (λ (x : List ℕ). reading (read fresh x)) w
+    ∙ three-numbers (p .minus) (q .minus) (r .minus) (p .first) (q .first) (r .first) (p .more) (q .more) (r .more)
+    (p .decimal) (q .decimal) (r .decimal)
+    ∙ rw (← p .is, ← q .is, ← r .is)
+
+pub read-three : (l : List ℕ) (y m d : ℤ) → reading (read fresh l) ≡ Three y m d → ThreeNumbers l y m d
+read-three l y m d e = only-three y m d l e
+
+pub every-line : (l : List ℕ) → Decided l (reading (read fresh l))
+every-line l = go (reading (read fresh l)) refl
+  where
+    go : (r : Reading) → reading (read fresh l) ≡ r → Decided l r
+    go (Three y m d) e = three y m d (read-three l y m d e) refl
+    go (Bad f) e = fault f (λ y m d t. other y m d (three-read l y m d t)) refl
+      where
+        other : (y m d : ℤ) → reading (read fresh l) ≡ Three y m d → ⊥
+        other y m d q = let z : _≡_ {A = ℕ} 0 1 = cc in omega arith
 
 -- The two lines of the rules: `1582 10 4` and `1582 10 10` are answered `2299160` and `refused 1`.
 pub two-lines : replies fresh example-lines ≡ example-replies

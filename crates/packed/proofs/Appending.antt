@@ -1,5 +1,5 @@
 -- What is read does not depend on what follows: a reader that accepts x with a rest accepts x ++ y with the same value, at the
--- same offset, and y after that rest. Assumes nothing.
+-- same offset, and y after that rest; and one that refuses x, but not for its end, refuses x ++ y so too. Assumes nothing.
 use mathlib.Core.Path.{_≡_}
 use mathlib.Core.Bool.{Bool, true, false, cond}
 use mathlib.Core.List.{List, [], _∷_, _++_}
@@ -8,7 +8,7 @@ use native.Mathlib.Omega.{arith}
 use lib.Dec.{leb, ltb, eqb}
 use lib.IntN.{ℤ}
 use Rattle.units.specs.declared.Refusal.{Refusal}
-use Rattle.units.specs.declared.Refusal.the-variants.{OverLimit, TotalOverLimit, TooCoarse}
+use Rattle.units.specs.declared.Refusal.the-variants.{OverLimit, TotalOverLimit, TooCoarse, EndedEarly}
 use Rattle.packed_numbers.specs.Numbers.{Read, got, bad, next, closed, groups-from, number, unfolded}
 use Rattle.units.specs.Units.{block-count}
 use Rattle.limits.specs.declared.Term.{Term}
@@ -19,7 +19,8 @@ use Rattle.packed.specs.Series.{judged, read-a, read-b, read-c, read-ter
 -- The answer on x, and that on x ++ y.
 data Longer {A : Type 0} (y : List ℕ) : Read A → Read A → Type 0 where
   same : {v : A} {to : ℕ} {rest : List ℕ} → Longer y (got v to rest) (got v to (rest ++ y))
-  none : {q : Refusal} {r : Read A} → Longer y (bad q) r
+  early : {n : ℕ} {r : Read A} → Longer y (bad (EndedEarly n)) r
+  no-more : {q : Refusal} → Longer y (bad q) (bad q)
 
 either : {A : Type 0} {y : List ℕ} {p q r s : Read A} (t : Bool) → Longer y p q → Longer y r s → Longer y (cond t p r) (cond t q s)
 either true h k = h
@@ -28,20 +29,21 @@ either false h k = k
 passed : {A : Type 0} {y : List ℕ} {p q : Read A} (t : Bool) (refusal : ℕ → Refusal) (to : ℕ) → Longer y p q
     → Longer y (judged t refusal to p) (judged t refusal to q)
 unfolding judged
-passed t refusal to h = either t h none
+passed t refusal to h = either t h no-more
 
 then : {A B : Type 0} {y : List ℕ} (p q : Read A) (f : A → ℕ → List ℕ → Read B) → Longer y p q
     → ((v : A) (to : ℕ) (rest : List ℕ) → Longer y (f v to rest) (f v to (rest ++ y))) → Longer y (next p f) (next q f)
 unfolding next
 then (got v to rest) (got v′ to′ rest′) f same k = k v to rest
-then (bad q) r f none k = none
+then (bad (EndedEarly n)) r f early k = early
+then (bad q) (bad q′) f no-more k = no-more
 
 groups-longer : (y x : List ℕ) (k acc at : ℕ) → Longer y (groups-from k acc at x) (groups-from k acc at (x ++ y))
 unfolding groups-from closed
-groups-longer y [] k acc at = none
+groups-longer y [] k acc at = early
 groups-longer y (b ∷ x) k acc at =
-    either (ltb b 128) (either (eqb b 0) (either (eqb k 0) same none) same)
-    (either (leb 8 k) none (groups-longer y x (k + 1) (acc + (b - 128) * 128 ^ k) (at + 1)))
+    either (ltb b 128) (either (eqb b 0) (either (eqb k 0) same no-more) same)
+    (either (leb 8 k) no-more (groups-longer y x (k + 1) (acc + (b - 128) * 128 ^ k) (at + 1)))
 
 number-longer : (y : List ℕ) (at : ℕ) (x : List ℕ) → Longer y (number at x) (number at (x ++ y))
 unfolding number
@@ -97,10 +99,21 @@ longer-got {y = y} {v = v} {to = to} {rest = rest} (got u i l) (got u′ i′ l�
     let b : i ≡ to = cc in
     let c : l ≡ rest = cc in
     rw (a, b, c)
-longer-got (bad q) r none e = let z : _≡_ {A = ℕ} 0 1 = cc in absurd (omega arith)
+longer-got (bad (EndedEarly n)) r early e = let z : _≡_ {A = ℕ} 0 1 = cc in absurd (omega arith)
+longer-got (bad q) (bad q′) no-more e = let z : _≡_ {A = ℕ} 0 1 = cc in absurd (omega arith)
 
 -- A series with more bytes after it.
 pub series-append : (at : ℕ) (x y : List ℕ) {blocks : List (List Term)} {to : ℕ} {rest : List ℕ} → read-series at x ≡ got blocks to rest
     → read-series at (x ++ y) ≡ got blocks to (rest ++ y)
 unfolding read-series
 series-append at x y = longer-got _ _ (blocks-longer y block-count 0 no-tally at x)
+
+longer-bad : {A : Type 0} {y : List ℕ} (p q : Read A) (r : Refusal) → ((n : ℕ) → r ≡ EndedEarly n → ⊥) → Longer y p q → p ≡ bad r → q ≡ bad r
+longer-bad (got u i l) (got u′ i′ l′) r h same e = let z : _≡_ {A = ℕ} 0 1 = cc in absurd (omega arith)
+longer-bad (bad (EndedEarly n)) q r h early e = let p : r ≡ EndedEarly n = cc in absurd (h n p)
+longer-bad (bad q) (bad q′) r h no-more e = e
+
+-- Bytes that are refused, with more bytes after them.
+pub series-bad : (at : ℕ) (x y : List ℕ) (r : Refusal) → ((n : ℕ) → r ≡ EndedEarly n → ⊥) → read-series at x ≡ bad r → read-series at (x ++ y) ≡ bad r
+unfolding read-series
+series-bad at x y r h = longer-bad _ _ r h (blocks-longer y block-count 0 no-tally at x)

@@ -9,4 +9,6 @@ pub mod Tabling
 pub mod Unpacking
 pub mod Packing
 pub mod Tabled
+pub mod Refusing
+pub mod Longest
 pub mod Theorems
