@@ -6,7 +6,8 @@
  * said otherwise below; a success leaves untouched what lies past its output. Nothing has to be checked beforehand but this:
  *
  *   Slices    A slice is a pointer and a length. The pointer must not be NULL, is aligned for its elements, and is good for
- *             that many of them; with length 0 any such pointer does. An output must not overlap another slice of the call.
+ *             that many of them; with length 0 any such pointer does (NULL does not). An output must not overlap another slice
+ *             of the call; it need not be initialised. Nobody else writes to lent memory while a call runs.
  *   Stack     Measured on x86-64, not proved: stephylax_apparent_place, _mount_place and _sun_list take 410 kB (two tables of
  *             terms of fixed size), _coordinates_at 210 kB, _check and _print 200 kB, the others less than 5 kB. 512 kB do for all.
  *   Threads   The functions keep nothing between calls and allocate nothing; any number of them may run at once.
