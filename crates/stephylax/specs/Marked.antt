@@ -5,12 +5,8 @@ use Prim.Native.Nat.{ℕ, _*_}
 use lib.IntN.{ℤ, pos, negℤ}
 use Rattle.units.specs.Units.{U, quarter}
 use Rattle.units.specs.declared.Instant.{Instant}
-use Rattle.units.specs.declared.Refusal.the-variants.{NoSuchDate, NotShortest}
-use Rattle.calendar.specs.Calendar.{day-of-date, instant-of-date}
-use Rattle.calendar.specs.declared.DayAnswer.{DayAnswer}
-use Rattle.calendar.specs.declared.DayAnswer.the-variants.{Day, NoDay}
-use Rattle.calendar.specs.declared.InstantAnswer.{InstantAnswer}
-use Rattle.calendar.specs.declared.InstantAnswer.the-variants.{At}
+use Rattle.units.specs.declared.Refusal.the-variants.{NotShortest}
+use Rattle.calendar.specs.Promises.{Figure, Right as Right-date, marked as marked-dates}
 use Rattle.cosine.specs.Cosine.{cosine}
 use Rattle.packed.specs.Series.{Parsed, refused, parse}
 use Rattle.series.specs.Sums.{coordinates-answer}
@@ -18,11 +14,10 @@ use Rattle.series.specs.declared.CoordinatesAnswer.{CoordinatesAnswer}
 use Rattle.series.specs.declared.CoordinatesAnswer.the-variants.{At as AtCoordinates}
 use Rattle.place.specs.Apparent.{light-time}
 
--- A date and its day number; a date with milliseconds and its instant; an angle and its cosine; a distance and its light time; packed bytes,
--- an instant and their coordinates; packed bytes and what they mean.
+-- A figure of the calendar (calendar/specs/Promises.antt has the nine); an angle and its cosine; a distance and its light time; packed
+-- bytes, an instant and their coordinates; packed bytes and what they mean.
 pub data Case : Type 0 where
-  day-number : (year month day : ℤ) → DayAnswer → Case
-  instant : (year month day ms : ℤ) → InstantAnswer → Case
+  date : Figure → Case
   cosine-at : ℤ → ℤ → Case
   light : ℕ → ℤ → Case
   coordinates-at : List ℕ → Instant → CoordinatesAnswer → Case
@@ -30,8 +25,7 @@ pub data Case : Type 0 where
 
 -- The definitions that the library is proved against give the case's answer.
 abbrev pub Right : Case → Type 0
-Right (day-number y m d a) = day-of-date y m d ≡ a
-Right (instant y m d ms a) = instant-of-date y m d ms ≡ a
+Right (date f) = Right-date f
 Right (cosine-at x c) = cosine x ≡ c
 Right (light d ms) = light-time d ≡ ms
 Right (coordinates-at bytes t a) = coordinates-answer bytes t ≡ a
@@ -54,21 +48,18 @@ rate-instant = record { ms = negℤ (pos 15778800000000) }
 abbrev pub rate-coordinates : CoordinatesAnswer
 rate-coordinates = AtCoordinates (record { longitude = negℤ (pos 150000000000); latitude = pos 0; radius = pos 0 })
 
+-- The calendar's figures, then other cases.
+abbrev pub after-dates : List Figure → List Case → List Case
+after-dates [] cs = cs
+after-dates (f ∷ fs) cs = date f ∷ after-dates fs cs
+
 abbrev pub marked : List Case
 marked =
-    day-number (pos 2000) (pos 1) (pos 1) (Day (pos 2451545))
-    ∷ day-number (pos 1582) (pos 10) (pos 4) (Day (pos 2299160))
-    ∷ day-number (pos 1582) (pos 10) (pos 10) (NoDay (NoSuchDate 3))
-    ∷ day-number (pos 1582) (pos 10) (pos 15) (Day (pos 2299161))
-    ∷ day-number (pos 1500) (pos 2) (pos 29) (Day (pos 2268992))
-    ∷ day-number (pos 1900) (pos 2) (pos 29) (NoDay (NoSuchDate 3))
-    ∷ day-number (negℤ (pos 4712)) (pos 1) (pos 1) (Day (pos 0))
-    ∷ day-number (pos 9999) (pos 12) (pos 31) (Day (pos 5373484))
-    ∷ instant (pos 2005) (pos 1) (pos 1) (pos 0) (At (record { ms = pos 157809600000 }))
-    ∷ cosine-at (pos 0) (pos U)
+    after-dates marked-dates
+    (cosine-at (pos 0) (pos U)
     ∷ cosine-at (pos quarter) (pos 0)
     ∷ cosine-at (pos (2 * quarter)) (negℤ (pos U))
     ∷ light 105919798623 (pos 528545)
     ∷ coordinates-at rate-bytes rate-instant rate-coordinates
     ∷ packed (128 ∷ 0 ∷ []) (refused (NotShortest 1))
-    ∷ []
+    ∷ [])

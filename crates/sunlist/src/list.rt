@@ -5,12 +5,13 @@ ghost use lib.ListN.{length};
 ghost use Rattle.packed.specs.Series.{parse, accepted};
 ghost use Rattle.packed.specs.machine.Table.{table-blocks};
 ghost use Rattle.series.specs.machine.Table.{Table};
-ghost use Rattle.sunlist.specs.SunList.{of-minutes, of-series as series-outcome};
+ghost use Rattle.sunlist.specs.SunList.{most-minutes, of-minutes, of-series as series-outcome};
 ghost use Rattle.sunlist.specs.machine.Answers.{decided-at, Answers};
 ghost use Rattle.sunlist.specs.machine.Window.{Window, Flagged};
 use crate::Decision;
 use crate::ListAnswer;
 use crate::one_minute::decide;
+use crate::window::FLAGS_ROOM;
 use crate::window::flag;
 use crate::window::minute;
 use crate::window::write_runs;
@@ -60,7 +61,7 @@ fn list_in(
     earth: &Table,
     out: &mut [u64],
 ) -> ListAnswer
-    requires { ⌜ (1440 ≤ length (now room)) × Window t0 n k × Table (now planet) × Table (now earth) ⌝ }
+    requires { ⌜ (most-minutes ≤ length (now room)) × Window t0 n k × Table (now planet) × Table (now earth) ⌝ }
     ensures { λ r. ⌜ Answers (of-minutes (decided-at (now (planet .entry)) (now (earth .entry)) t0 k) n) (now (out .entry)) r (now (out .exit)) ⌝ }
 {
     let bad = flag_minutes(&mut room[..n], t0, k, planet, earth);
@@ -82,7 +83,7 @@ fn list_of(
     requires { ⌜ Window t0 n k × Table (now planet) × Table (now earth) ⌝ }
     ensures { λ r. ⌜ Answers (of-minutes (decided-at (now (planet .entry)) (now (earth .entry)) t0 k) n) (now (out .entry)) r (now (out .exit)) ⌝ }
 {
-    let mut room = [0u8; 1440];
+    let mut room = [0u8; FLAGS_ROOM];
     list_in(&mut room, t0, n, k, planet, earth, out)
 }
 

@@ -23,6 +23,9 @@ const GREATEST_KEEP_OUT: u64 = 2700;
 // A window has at most MOST_MINUTES minutes, each of MINUTE_MS.
 const MOST_MINUTES: u64 = 1440;
 
+// The flags of a window, a byte each.
+pub const FLAGS_ROOM: usize = MOST_MINUTES as usize;
+
 const MINUTE_MS: u64 = 60000;
 
 // Whether a window of n minutes and a keep-out of k arcminutes are within their ranges.
