@@ -12,6 +12,7 @@ use Rattle.packed.specs.Series.{pack-terms, pack}
 use Rattle.text.specs.declared.Reader.{Reader}
 use Rattle.text.specs.declared.Outcome.{Outcome}
 use Rattle.text.specs.declared.Outcome.the-variants.{Accepted}
+pub use Rattle.text.specs.Reader.{calls, joined}
 use Rattle.text.specs.Reader.{last-offset, begun, next-spot, step, Run, run, stopped, ended, told, whole}
 use Rattle.text.specs.Grammar.{feed, Block, lines-bytes, terms-of-lines, blocks-bytes, blocks-of-lines, GoodText, InLimits}
 use Rattle.integers.proofs.Tests.{by-cases}
@@ -29,16 +30,7 @@ use Rattle.text.proofs.TakenTexts.{rest-in}
 use Rattle.text.proofs.Acceptance.{accepted-by, nothing}
 use Rattle.text.proofs.GoodTexts.{blocks-run}
 
--- Some calls, one after the other; each may have any bytes or none.
-unfoldable pub calls : Reader → List ℕ → List (List ℕ) → Run
-calls r out [] = record { reader = r; out = out }
-calls r out (p ∷ ps) = calls (run r out p .reader) (run r out p .out) ps
-
--- The bytes of all calls.
-unfoldable pub joined : List (List ℕ) → List ℕ
-joined [] = []
-joined (p ∷ ps) = p ++ joined ps
-
+-- Some calls are one call with the bytes of all.
 pub cutting : (r : Reader) (out : List ℕ) (ps : List (List ℕ)) → calls r out ps ≡ run r out (joined ps)
 unfolding calls joined
 cutting r out [] = unfold run in refl

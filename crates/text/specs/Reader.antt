@@ -1,7 +1,7 @@
 -- The reader of a text (RULES, "Series, as text and packed" and "Refusals and what they leave"). A call folds the step of one byte over
 -- its bytes, so how the text is cut into calls cannot matter.
 use mathlib.Core.Bool.{Bool, cond}
-use mathlib.Core.List.{List, [], _∷_}
+use mathlib.Core.List.{List, [], _∷_, _++_}
 use Prim.Native.Nat.{ℕ, _+_}
 use lib.Dec.{leb, eqb}
 use lib.ListN.{length}
@@ -181,3 +181,13 @@ told r =
 -- The whole text in one call, then its end.
 abbrev pub whole : List ℕ → List ℕ → Run
 whole text out = record { reader = ended (run begun out text .reader); out = run begun out text .out }
+
+-- Some calls, one after the other; each may have any bytes or none.
+unfoldable pub calls : Reader → List ℕ → List (List ℕ) → Run
+calls r out [] = record { reader = r; out = out }
+calls r out (p ∷ ps) = calls (run r out p .reader) (run r out p .out) ps
+
+-- The bytes of all calls.
+unfoldable pub joined : List (List ℕ) → List ℕ
+joined [] = []
+joined (p ∷ ps) = p ++ joined ps
