@@ -1,7 +1,7 @@
 -- Every text is decided over the grammar and the limits: its answer, the answer's figure, and what the output holds. Assumes nothing.
 use mathlib.Core.Path.{_≡_, refl, sym, ap, _∙_, subst}
 use mathlib.Core.Bool.{Bool, true, false}
-use mathlib.Core.List.{List, [], _∷_, _++_, append-nil}
+use mathlib.Core.List.{List, [], _∷_, _++_}
 use mathlib.Core.Logic.{_⊎_, inl, inr}
 use Prim.Native.Nat.{ℕ, zero, suc, _+_, _-_, _≤_, _<_}
 use native.Mathlib.Omega.{arith}
@@ -11,17 +11,16 @@ use lib.ListN.{length, length-append}
 use lib.Seq.{sets, length-sets}
 use Rattle.units.specs.Units.{block-count}
 use Rattle.units.specs.declared.Refusal.{Refusal}
-use Rattle.units.specs.declared.Refusal.the-variants.{EndedEarly}
 use Rattle.limits.specs.declared.Tally.{Tally}
 use Rattle.limits.specs.Limits.{factor, no-tally, opened, added, count-fits, a-fits, b-fits, c-fits, total-fits, coarse-fits}
 use Rattle.text.specs.declared.Line.{Line}
 use Rattle.text.specs.declared.Outcome.{Outcome}
-use Rattle.text.specs.declared.Outcome.the-variants.{More, Accepted, Refused}
+use Rattle.text.specs.declared.Outcome.the-variants.{More, Accepted}
 use Rattle.text.specs.Lexer.{fresh, lex, lexes, whole-count, whole-term}
 use Rattle.text.specs.Reader.{last-offset, begun, Run, run, ended, told, whole}
-use Rattle.text.specs.Grammar.{feed, size, value, CountLine, count, count-bytes, GoodCount, TermLine, term-bytes, GoodTerm, term-of-line, TermInLimits}
+use Rattle.text.specs.Grammar.{size, value, CountLine, count, count-bytes, GoodCount, TermLine, term-bytes, GoodTerm, term-of-line, TermInLimits}
 use Rattle.text.specs.Grammar.{AnyLine, a-count, a-term, line-bytes, line-packed, any-bytes, any-packed}
-use Rattle.text.specs.Decided.{Beginning, empty, with-count, with-term, Stands, Awaits, BeginsCount, BeginsTerm, CanBegin, IsCount, IsTerm, IsLine}
+use Rattle.text.specs.Decided.{Beginning, empty, with-count, with-term, Stands, Awaits, CanBegin, IsCount, IsTerm, IsLine}
 use Rattle.text.specs.Decided.{NumbersInLimits, Refuses, after-end, bad-byte, early-feed, count-over, number-over, total-over, too-coarse}
 use Rattle.text.specs.Decided.{no-room-count, no-room-term, Answers, accepts, refuses, ends-early, AnswersSoFar, complete, refused, goes-on}
 use Rattle.integers.proofs.Tests.{by-cases}
@@ -29,10 +28,10 @@ use Rattle.text.proofs.GoodLines.{count-run, line-of-term, term-run}
 use Rattle.text.proofs.OneByte.{never}
 use Rattle.text.proofs.TakenTerms.{term-in}
 use Rattle.text.proofs.TakenCounts.{count-in}
-use Rattle.text.proofs.Verdicts.{sp, st, is-whole}
+use Rattle.text.proofs.Verdicts.{sp, is-whole}
 use Rattle.text.proofs.TakenTexts.{spot-after}
 use Rattle.text.proofs.Prefixes.{term-begins, term-goes-on, count-begins, count-goes-on}
-use Rattle.text.proofs.Beginnings.{bytes-more, bytes-length, packed-length, after, runs, few}
+use Rattle.text.proofs.Beginnings.{bytes-more, packed-length, after, runs, few}
 use Rattle.text.proofs.Halts.{one-more, Halts, refusals, Open, goes}
 
 -- ---- The reader gives the answers of the definition.

@@ -11,7 +11,7 @@ use Rattle.packed_numbers.specs.Numbers.{encode}
 use Rattle.packed.specs.Series.{pack-term}
 use Rattle.units.specs.Units.{block-count}
 use Rattle.units.specs.declared.Refusal.{Refusal}
-use Rattle.units.specs.declared.Refusal.the-variants.{BadByte, OverLimit, TotalOverLimit, TooCoarse, NoRoom, EndedEarly, ByteAfterEnd}
+use Rattle.units.specs.declared.Refusal.the-variants.{BadByte, OverLimit, NoRoom, EndedEarly, ByteAfterEnd}
 use Rattle.limits.specs.declared.Tally.{Tally}
 use Rattle.limits.specs.Limits.{factor, count-fits, a-fits, b-fits, c-fits, total-fits, coarse-fits, numbers-fit, term-refusal}
 use Rattle.text.specs.declared.Line.{Line}
@@ -21,12 +21,12 @@ use Rattle.text.specs.Lexer.{fresh, lex, lexes, whole-count, whole-term}
 use Rattle.text.specs.Judge.{count-refusal, term-line-refusal, verdict}
 use Rattle.text.specs.Reader.{last-offset, stopped, fits, put-bytes, wrote, wrote-out, uncounted, step, step-out, Run, run, ended, refusal, told}
 use Rattle.text.specs.Grammar.{size, value, CountLine, count, count-bytes, GoodCount, TermLine, term-bytes, GoodTerm, term-of-line, TermInLimits}
-use Rattle.text.specs.Grammar.{a-count, a-term, line-packed}
+use Rattle.text.specs.Grammar.{line-packed}
 use Rattle.text.specs.Decided.{Awaits, BeginsCount, BeginsTerm, CanBegin, IsCount, IsTerm, IsLine, NumbersInLimits, Refuses}
 use Rattle.text.specs.Decided.{after-end, bad-byte, early-feed, count-over, number-over, total-over, too-coarse, no-room-count, no-room-term}
 use Rattle.integers.proofs.Tests.{by-cases}
 use Rattle.text.proofs.Branches.{verdict-early}
-use Rattle.text.proofs.GoodLines.{flag, lexes-append, count-run, line-of-term, term-run}
+use Rattle.text.proofs.GoodLines.{flag, lexes-append, count-run, term-run}
 use Rattle.text.proofs.TakenTerms.{term-in}
 use Rattle.text.proofs.TakenCounts.{count-in}
 use Rattle.text.proofs.Lines.{moved, Going, step-bad, step-feed, not-after, line-run, stays}

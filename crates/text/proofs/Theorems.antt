@@ -12,6 +12,7 @@ use Rattle.packed.specs.Series.{pack-terms, pack}
 use Rattle.text.specs.declared.Reader.{Reader}
 use Rattle.text.specs.declared.Outcome.{Outcome}
 use Rattle.text.specs.declared.Outcome.the-variants.{Accepted}
+pub use Rattle.text.specs.Reader.{calls, joined, Reads}
 use Rattle.text.specs.Reader.{last-offset, begun, next-spot, step, Run, run, stopped, ended, told, whole}
 use Rattle.text.specs.Grammar.{feed, Block, lines-bytes, terms-of-lines, blocks-bytes, blocks-of-lines, GoodText, InLimits}
 use Rattle.integers.proofs.Tests.{by-cases}
@@ -29,16 +30,7 @@ use Rattle.text.proofs.TakenTexts.{rest-in}
 use Rattle.text.proofs.Acceptance.{accepted-by, nothing}
 use Rattle.text.proofs.GoodTexts.{blocks-run}
 
--- Some calls, one after the other; each may have any bytes or none.
-unfoldable pub calls : Reader → List ℕ → List (List ℕ) → Run
-calls r out [] = record { reader = r; out = out }
-calls r out (p ∷ ps) = calls (run r out p .reader) (run r out p .out) ps
-
--- The bytes of all calls.
-unfoldable pub joined : List (List ℕ) → List ℕ
-joined [] = []
-joined (p ∷ ps) = p ++ joined ps
-
+-- Some calls are one call with the bytes of all.
 pub cutting : (r : Reader) (out : List ℕ) (ps : List (List ℕ)) → calls r out ps ≡ run r out (joined ps)
 unfolding calls joined
 cutting r out [] = unfold run in refl
@@ -85,16 +77,6 @@ read-text ks out g l c h =
     (ap (λ (x : Run). told (ended (x .reader))) r ∙ ap (λ (i : ℕ). Accepted i) z, ap (λ (x : Run). x .out) r)
 
 -- An accepted text is the lines of its numbers, its bytes can be counted, and the output is exactly their packed form.
-pub record Reads (text out : List ℕ) (n : ℕ) : Type 0 where
-  pub ks : List Block
-  pub good : GoodText ks
-  pub limits : InLimits ks
-  pub is : text ≡ blocks-bytes ks
-  pub counted : length text ≤ last-offset
-  pub long : n ≡ length (pack (blocks-of-lines ks))
-  pub room : n ≤ length out
-  pub written : whole text out .out ≡ sets out 0 (pack (blocks-of-lines ks))
-
 pub accepted-text : (text out : List ℕ) (n : ℕ) → told (whole text out .reader) ≡ Accepted n → Reads text out n
 unfolding next-spot lines-bytes terms-of-lines pack-terms summed
 accepted-text text out n e =

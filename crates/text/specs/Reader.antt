@@ -1,8 +1,9 @@
 -- The reader of a text (RULES, "Series, as text and packed" and "Refusals and what they leave"). A call folds the step of one byte over
 -- its bytes, so how the text is cut into calls cannot matter.
 use mathlib.Core.Bool.{Bool, cond}
-use mathlib.Core.List.{List, [], _∷_}
-use Prim.Native.Nat.{ℕ, _+_}
+use mathlib.Core.List.{List, [], _∷_, _++_}
+use mathlib.Core.Path.{_≡_}
+use Prim.Native.Nat.{ℕ, _+_, _≤_}
 use lib.Dec.{leb, eqb}
 use lib.ListN.{length}
 use lib.Seq.{sets}
@@ -15,7 +16,8 @@ use Rattle.text.specs.declared.Reader.{Reader}
 use Rattle.text.specs.declared.Outcome.{Outcome}
 use Rattle.text.specs.declared.Outcome.the-variants.{More, Accepted, Refused}
 use Rattle.text.specs.Lexer.{fresh, lex, spot-decimal, spot-count, spot-after, spot-bad}
-use Rattle.text.specs.Grammar.{feed}
+use Rattle.packed.specs.Series.{pack}
+use Rattle.text.specs.Grammar.{feed, Block, blocks-bytes, blocks-of-lines, GoodText, InLimits}
 use Rattle.text.specs.Judge.{Verdict, verdict}
 
 -- The status of a reader that reads on.
@@ -181,3 +183,24 @@ told r =
 -- The whole text in one call, then its end.
 abbrev pub whole : List ℕ → List ℕ → Run
 whole text out = record { reader = ended (run begun out text .reader); out = run begun out text .out }
+
+-- Some calls, one after the other; each may have any bytes or none.
+unfoldable pub calls : Reader → List ℕ → List (List ℕ) → Run
+calls r out [] = record { reader = r; out = out }
+calls r out (p ∷ ps) = calls (run r out p .reader) (run r out p .out) ps
+
+-- The bytes of all calls.
+unfoldable pub joined : List (List ℕ) → List ℕ
+joined [] = []
+joined (p ∷ ps) = p ++ joined ps
+
+-- What an acceptance with n bytes says: the text is lines of the grammar within the limits, and the output holds exactly their packed form.
+pub record Reads (text out : List ℕ) (n : ℕ) : Type 0 where
+  pub ks : List Block
+  pub good : GoodText ks
+  pub limits : InLimits ks
+  pub is : text ≡ blocks-bytes ks
+  pub counted : length text ≤ last-offset
+  pub long : n ≡ length (pack (blocks-of-lines ks))
+  pub room : n ≤ length out
+  pub written : whole text out .out ≡ sets out 0 (pack (blocks-of-lines ks))
