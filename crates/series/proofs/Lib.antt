@@ -1,7 +1,7 @@
--- The theorems about L, B and R. `Promise` states P2, `Call` has it of the call; on the way there, `Close` and `Accuracy` have the error of a term, a block and the
--- running sum, `Distance` the error in parts, `Accepted` what an accepted series keeps, `Answered` what an answer says of its inputs.
--- `Figures` has the marked figure, `Positive` that the exact sums are fractions. For the code: `Filled` is about the term table,
--- `Answering` about the answer, `Blocks`, `Stepping` and `Sizes` about the running sum.
+-- The theorems about L, B and R. `Promise` states P2, `Call` has it of the call; on the way there, `Close` and `Accuracy` have the error of a
+-- term, a block and the running sum, `Distance` the error in parts, `Accepted` what an accepted series keeps, `Answered` what an answer says
+-- of its inputs. `Figures` has the marked figure, `Positive` that the exact sums are fractions. For the code: `Filled` is about the term
+-- table, `Answering` about the answer, `Blocks`, `Stepping` and `Sizes` about the running sum.
 pub mod Accepted
 mod Close
 pub mod Positive
