@@ -1,8 +1,22 @@
 // Arguments that are numbers, and a clock time made of them.
+ghost use mathlib.Core.Path.{_≡_};
 ghost use Prim.Native.Nat.{_≤_};
+ghost use Rattle.command_line.specs.Clock.{ms-of-day, instant-of-clock, minute-of-day};
 use arith::signed::natural_or;
 use arith::signed::of_parts;
 use arith::signed::wide;
+use calendar::InstantAnswer;
+use calendar::instant_of_date;
+
+// The hours of a day, the minutes of an hour, the seconds of a minute.
+const HOURS: u64 = 24;
+
+const MINUTES: u64 = 60;
+
+const SECONDS: u64 = 60;
+
+// A minute in milliseconds.
+const MINUTE_MS: u64 = 60000;
 
 // An argument that is a whole number of up to nine digits, with an optional minus; or another.
 pub enum Argument {
@@ -97,18 +111,43 @@ pub fn three_arguments(i: usize) -> Three
 }
 
 // The milliseconds of a clock time, or -1, which no day has.
-pub fn ms_of_day(hour: i64, minute: i64, second: i64) -> i64 {
-    let h = natural_or(hour, 24);
-    let m = natural_or(minute, 60);
-    let s = natural_or(second, 60);
-    if 23 < h {
+pub fn ms_of_day(hour: i64, minute: i64, second: i64) -> i64
+    ensures { λ r. ⌜ r ≡ ms-of-day hour minute second ⌝ }
+{
+    let h = natural_or(hour, HOURS);
+    let m = natural_or(minute, MINUTES);
+    let s = natural_or(second, SECONDS);
+    if HOURS <= h {
         return -1;
     }
-    if 59 < m {
+    if MINUTES <= m {
         return -1;
     }
-    if 59 < s {
+    if SECONDS <= s {
         return -1;
     }
     wide((3600 * h + 60 * m + s) * 1000)
+}
+
+// The instant of a date and a clock time.
+pub fn instant_of_clock(
+    year: i64,
+    month: i64,
+    day: i64,
+    hour: i64,
+    minute: i64,
+    second: i64,
+) -> InstantAnswer
+    ensures { λ r. ⌜ r ≡ instant-of-clock year month day hour minute second ⌝ }
+{
+    let ms = ms_of_day(hour, minute, second);
+    instant_of_date(year, month, day, ms)
+}
+
+// The minute of the day of a clock time; 0 where there is no such time.
+pub fn minute_of_day(hour: i64, minute: i64) -> u64
+    ensures { λ r. ⌜ r ≡ minute-of-day hour minute ⌝ }
+{
+    let ms = ms_of_day(hour, minute, 0);
+    natural_or(ms, 0) / MINUTE_MS
 }

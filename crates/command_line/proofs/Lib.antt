@@ -1,0 +1,2 @@
+-- Laws and theorems on what the programs share.
+pub mod Clocks

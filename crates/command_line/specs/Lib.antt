@@ -1,0 +1,2 @@
+-- RULES, "Programs": what the arguments of a program mean.
+pub mod Clock
