@@ -1,9 +1,8 @@
 -- The clock rule as the code counts it, in naturals; a clock time that does not exist is refused 1, field 4. Assumes nothing.
-use mathlib.Core.Path.{_≡_, refl, sym, _∙_, ap}
-use mathlib.Core.Bool.{Bool, true, false, cond}
+use mathlib.Core.Path.{_≡_, refl, _∙_, ap}
+use mathlib.Core.Bool.{true, false}
 use Prim.Native.Nat.{ℕ, _+_, _*_, _≤_, _<_}
 use native.Mathlib.Omega.{arith}
-use lib.Dec.{ltb}
 use lib.IntN.{ℤ, pos, negsuc, _+ℤ_, _*ℤ_}
 use borrow.Author.Tests.{le-ltb, lt-ltb}
 use Rattle.arith.specs.machine.Signed.{natural-or}

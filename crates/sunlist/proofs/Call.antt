@@ -3,13 +3,13 @@ use mathlib.Core.Path.{_≡_, refl, sym, ap, _∙_, subst}
 use mathlib.Core.List.{List}
 use Prim.Native.Nat.{ℕ, zero, suc, _+_, _*_, _≤_, _<_}
 use native.Mathlib.Omega.{arith}
-use lib.IntN.{ℤ, pos, natAbs}
+use lib.IntN.{ℤ, natAbs}
 use lib.ListN.{length}
 use Rattle.units.specs.declared.Instant.{Instant}
 use Rattle.sunlist.specs.declared.ListAnswer.{ListAnswer}
 use Rattle.sunlist.specs.declared.ListAnswer.the-variants.{Runs}
 use Rattle.sunlist.specs.SunList.{most-minutes, sun-list, sun-list-out}
-use Rattle.sunlist.specs.Demand.{first-minute, last-minute, Demand-3}
+use Rattle.sunlist.specs.Demand.{first-minute, Demand-3}
 use Rattle.sunlist.specs.Call.{Sun-list-promised}
 use Rattle.sunlist.proofs.Limits.{fits-is}
 use Rattle.sunlist.proofs.Answered.{answered-is}
