@@ -64,6 +64,7 @@ fn convert(packed: &mut [u8]) {
     }
 }
 
+// There is room for every series: the theorem `always-room` of proofs/Room.antt.
 fn main() {
     let mut packed = [0u8; PACKED_ROOM];
     convert(&mut packed);

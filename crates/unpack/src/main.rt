@@ -6,16 +6,25 @@ use command_line::words::write_refusal;
 use libc::STDERR_FILENO;
 use libc::STDIN_FILENO;
 use printer::Printed;
+ghost use Rattle.unpack.specs.Input.{Roomy, AnswersAny};
 
 // Room for the text of any series: the theorem `longest` of printer/proofs/Theorems.antt.
 const TEXT_ROOM: usize = 434266;
 
-// The text of the first n packed bytes, or why there is none.
-fn convert(packed: &[u8], n: usize, text: &mut [u8]) {
-    if packed.len() < n {
-        return;
-    }
-    let printed = printer::print(&packed[..n], text);
+// The text of the input, of which the first n packed bytes are all or, where they fill the buffer, the beginning: whatever follows,
+// the whole input is then refused as they are, by the theorem `decided` of packed/proofs/Theorems.antt.
+fn text_of(packed: &[u8], n: usize, text: &mut [u8]) -> Printed
+    requires { ⌜ Roomy n (now packed) (now text) ⌝ }
+    ensures { λ r. ⌜ AnswersAny n (now (packed .entry)) (now (text .entry)) r (now (text .exit)) ⌝ }
+{
+    printer::print(&packed[..n], text)
+}
+
+// Writes the text of the input, or why there is none.
+fn convert(packed: &[u8], n: usize, text: &mut [u8])
+    requires { ⌜ Roomy n (now packed) (now text) ⌝ }
+{
+    let printed = text_of(packed, n, text);
     match printed {
         Printed::Length(k) => {
             write_first(text, k);
@@ -24,7 +33,6 @@ fn convert(packed: &[u8], n: usize, text: &mut [u8]) {
     }
 }
 
-// An input that goes on past the first buffer is refused within it.
 fn main() {
     let mut packed = [0u8; PACKED_ROOM];
     let mut text = [0u8; TEXT_ROOM];

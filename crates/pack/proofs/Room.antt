@@ -1,0 +1,21 @@
+-- The buffer of `pack` has room for the packed form of any text within the limits: with as many bytes as a packed series may have, such a text
+-- is accepted. Assumes nothing.
+use mathlib.Core.Path.{_≡_}
+use mathlib.Core.List.{List}
+use Prim.Native.Nat.{ℕ, _≤_}
+use native.Mathlib.Nat.{le-trans}
+use lib.ListN.{length}
+use lib.Seq.{sets}
+use Rattle.packed.specs.Series.{pack}
+use Rattle.packed.specs.Bounds.{packed-limit}
+use Rattle.packed.proofs.Theorems.{longest-packed}
+use Rattle.text.specs.declared.Outcome.the-variants.{Accepted}
+use Rattle.text.specs.Reader.{last-offset, told, whole}
+use Rattle.text.specs.Grammar.{Block, blocks-bytes, blocks-of-lines, GoodText, InLimits}
+use Rattle.text.proofs.Theorems.{read-text}
+use Rattle.text.proofs.Series.{text-allowed}
+
+pub always-room : (ks : List Block) (out : List ℕ) → GoodText ks → InLimits ks → length (blocks-bytes ks) ≤ last-offset → packed-limit ≤ length out
+    → (told (whole (blocks-bytes ks) out .reader) ≡ Accepted (length (pack (blocks-of-lines ks))))
+    × (whole (blocks-bytes ks) out .out ≡ sets out 0 (pack (blocks-of-lines ks)))
+always-room ks out g l c h = read-text ks out g l c (le-trans (longest-packed (blocks-of-lines ks) (text-allowed ks g l)) h)

@@ -1,0 +1,2 @@
+-- What `unpack` answers for the whole of its input.
+pub mod Input
