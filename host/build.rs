@@ -1,4 +1,5 @@
 //! Finds the proved library's archive, has it built where it is missing or older than its sources, and links it.
+//! The archive of inner rules, which only a test links, is built beside it.
 
 use std::path::{Path, PathBuf};
 use std::process::Command;
@@ -15,17 +16,17 @@ fn newest_source(folder: &Path) -> Option<SystemTime> {
     entries.flatten().filter_map(|entry| newest(entry.path())).max()
 }
 
-fn build_archive(repository: &Path) {
-    let built = Command::new("rt").args(["staticlib", "stephylax"]).current_dir(repository).status();
+fn build_archive(repository: &Path, name: &str) {
+    let built = Command::new("rt").args(["staticlib", name]).current_dir(repository).status();
     match built {
         Ok(status) if status.success() => {}
         Ok(status) => panic!(
-            "`rt staticlib stephylax` ended with {status}. Run it in {} to see why; this package links what it writes.",
+            "`rt staticlib {name}` ended with {status}. Run it in {} to see why; this package links what it writes.",
             repository.display()
         ),
         Err(error) => panic!(
             "`rt` cannot be run ({error}). It builds the proved library that this package links: put the toolchain on \
-             the path, or run `rt staticlib stephylax` in {} yourself.",
+             the path, or run `rt staticlib {name}` in {} yourself.",
             repository.display()
         ),
     }
@@ -36,16 +37,18 @@ fn main() {
     let repository = Path::new(&manifest).parent().expect("the package stands in the repository").to_path_buf();
     let crates = repository.join("crates");
     let folder = repository.join("target/staticlib");
-    let archive = folder.join("libstephylax.a");
     println!("cargo::rerun-if-changed={}", crates.display());
     println!("cargo::rerun-if-changed=build.rs");
-    if modified(&archive) < newest_source(&crates) {
-        build_archive(&repository);
+    for name in ["stephylax", "inner_rules"] {
+        let archive = folder.join(format!("lib{name}.a"));
+        if modified(&archive) < newest_source(&crates) {
+            build_archive(&repository, name);
+        }
+        if !archive.exists() {
+            panic!("{} is missing although it was built", archive.display());
+        }
+        println!("cargo::rerun-if-changed={}", archive.display());
     }
-    if !archive.exists() {
-        panic!("{} is missing although it was built", archive.display());
-    }
-    println!("cargo::rerun-if-changed={}", archive.display());
     println!("cargo::rustc-link-search=native={}", folder.display());
     println!("cargo::rustc-link-lib=static=stephylax");
 }

@@ -1,0 +1,2 @@
+-- Numbers that are held in their range.
+pub mod Ranges

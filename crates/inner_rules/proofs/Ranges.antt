@@ -1,0 +1,53 @@
+-- Numbers that are held in their range: what is answered, and what the calls ask. Assumes nothing.
+use mathlib.Core.Path.{_≡_, ap, _∙_, subst}
+use mathlib.Core.Bool.{true, false}
+use Prim.Native.Nat.{ℕ, _^_, _≤_, _<_}
+use native.Mathlib.Omega.{arith}
+use native.Mathlib.Nat.{mul-le-mul}
+use borrow.Author.Tests.{le-leb, lt-leb}
+use lib.Dec.{leb}
+use lib.IntN.{ℤ, pos, natAbs, _+ℤ_, _*ℤ_}
+use Rattle.integers.proofs.Order.{natAbs-+, natAbs-*}
+use Rattle.rectangular.specs.Vectors.{length}
+use Rattle.direction.specs.Direction.{latitude}
+use Rattle.arith.proofs.Cells.{Cell, cell}
+use Rattle.inner_rules.specs.Inner.{held, reach}
+
+pub held-in : (last m : ℕ) (x : ℤ) → m ≡ natAbs x → m ≤ last → (x ≡ held last x) × (natAbs x ≤ last)
+unfolding held
+held-in last m x e h =
+    let g : natAbs x ≤ last = subst (λ (n : ℕ). n ≤ last) e h in
+    let f : leb (natAbs x) last ≡ true = le-leb (natAbs x) last g in
+    (rw f, g)
+
+pub held-out : (last m : ℕ) (x : ℤ) → m ≡ natAbs x → last < m → (pos 0 ≡ held last x) × (natAbs (pos 0) ≤ last)
+unfolding held
+held-out last m x e h =
+    let f : leb (natAbs x) last ≡ false = lt-leb (natAbs x) last (subst (λ (n : ℕ). last < n) e h) in
+    (rw f, omega arith)
+
+pub direction-asks : (x y : ℤ) → natAbs x ≤ reach → natAbs y ≤ reach → (natAbs (Cell x) < 2 ^ 47) × (natAbs (Cell y) < 2 ^ 47)
+direction-asks x y h g = (rw (cell x (omega arith)) (omega arith), rw (cell y (omega arith)) (omega arith))
+
+flat-size : (x y : ℤ) → natAbs x ≤ reach → natAbs y ≤ reach → natAbs (x *ℤ x +ℤ y *ℤ y) < 2 ^ 92
+flat-size x y h g =
+    let s = natAbs-+ (x *ℤ x) (y *ℤ y) in
+    let a = natAbs-* x x in
+    let b = natAbs-* y y in
+    let p = mul-le-mul h h in
+    let q = mul-le-mul g g in
+    omega arith
+
+pub latitude-asks : (x y z : ℤ) → natAbs x ≤ reach → natAbs y ≤ reach → natAbs z ≤ reach
+    → (natAbs (Cell x *ℤ Cell x +ℤ Cell y *ℤ Cell y) < 2 ^ 92) × (natAbs (Cell z) < 2 ^ 47)
+latitude-asks x y z h g k = (rw (cell x (omega arith), cell y (omega arith)) (flat-size x y h g), rw (cell z (omega arith)) (omega arith))
+
+-- An answer for numbers is the answer for numbers equal to them.
+pub latitude-told : (r x y z x′ y′ z′ : ℤ) → x ≡ x′ → y ≡ y′ → z ≡ z′ → r ≡ latitude x y z → r ≡ latitude x′ y′ z′
+latitude-told r x y z x′ y′ z′ e f g h = h ∙ ap (λ t. latitude t y z) e ∙ ap (λ t. latitude x′ t z) f ∙ ap (latitude x′ y′) g
+
+pub length-told : (r : ℕ) (x y z x′ y′ z′ : ℤ) → x ≡ x′ → y ≡ y′ → z ≡ z′ → r ≡ length (record { x = x; y = y; z = z })
+    → r ≡ length (record { x = x′; y = y′; z = z′ })
+length-told r x y z x′ y′ z′ e f g h =
+    h ∙ ap (λ t. length (record { x = t; y = y; z = z })) e ∙ ap (λ t. length (record { x = x′; y = t; z = z })) f
+    ∙ ap (λ t. length (record { x = x′; y = y′; z = t })) g
