@@ -1,10 +1,10 @@
--- `list::list_of_parts` is safe. Assumes nothing.
+-- `list_lines::list_of_parts` is safe. Assumes nothing.
 use mathlib.Core.Path.{sym}
 use native.Mathlib.Omega.{arith}
 use lib.Seq.{length-take-le}
 use borrow.Author.Needs.{needs}
-use Rattle.list.proofs.list_of_parts.Statement.{statement}
-use Rattle.list.proofs.list_of_parts.Tie as tie
+use Rattle.list_lines.proofs.list_of_parts.Statement.{statement}
+use Rattle.list_lines.proofs.list_of_parts.Tie as tie
 
 slice-aggregate-list : tie.Need-slice-aggregate-list
 slice-aggregate-list c = sym (length-take-le _ _ (omega arith))

@@ -1,10 +1,10 @@
--- `list::print_runs` is safe and ends. Assumes nothing.
+-- `list_lines::print_runs` is safe and ends. Assumes nothing.
 use Prim.Native.Nat.{_+_, _-_, _≤_}
 use native.Mathlib.Omega.{arith}
 use lib.ListN.{length}
 use borrow.Author.Needs.{needs}
-use Rattle.list.proofs.print_runs.Statement.{statement}
-use Rattle.list.proofs.print_runs.Tie as tie
+use Rattle.list_lines.proofs.print_runs.Statement.{statement}
+use Rattle.list_lines.proofs.print_runs.Tie as tie
 
 abbrev Inv-loop : tie.InvT-loop
 Inv-loop start out count i₀ i = i ≤ length out + 1
