@@ -1,5 +1,4 @@
-// What the small programs share: their arguments, files of packed series, and numbers and refusals in words. The programs call the library;
-// nothing here does.
+// What the small programs share: their arguments, the clock, files of packed series, and numbers and refusals in words.
 pub mod arguments;
 pub mod files;
 pub mod words;
