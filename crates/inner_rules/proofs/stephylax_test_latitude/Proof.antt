@@ -1,5 +1,5 @@
 -- `inner_rules::stephylax_test_latitude` meets its contract. Assumes nothing.
-use mathlib.Core.Path.{_≡_, _∙_}
+use mathlib.Core.Path.{_∙_}
 use borrow.Author.Needs.{needs}
 use Rattle.arith.proofs.Signs.{back, ok}
 use Rattle.inner_rules.proofs.Ranges.{latitude-asks, latitude-told}

@@ -15,7 +15,7 @@ returns c =
     let s = c .before .before in
     let m = rw (back _ (s .fits .hour), back _ (s .fits .minute), back _ (s .fits .second)) at (c .before .ms-of-day .ensures) in
     let e = rw (back _ (s .fits .year), back _ (s .fits .month), back _ (s .fits .day), back _ (ok (c .before .ms-of-day .ok)))
-        at (c .instant-of-date .ensures) in
+    at (c .instant-of-date .ensures) in
     rw m at e
 
 pub instant-of-clock-spec : {M : Type 1} → statement M
