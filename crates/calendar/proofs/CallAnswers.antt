@@ -3,7 +3,7 @@ use mathlib.Core.Path.{_≡_, refl, sym, ap, _∙_}
 use mathlib.Core.Bool.{true, false, cond, false≢true, true≢false}
 use Prim.Native.Nat.{ℕ, zero, suc, _+_, _*_, _/_, _%_, _-_, _≤_, _<_}
 use native.Mathlib.Omega.{arith}
-use borrow.Author.Tests.{eq-eqb, ne-eqb, lt-leb, le-leb}
+use borrow.Author.Tests.{eq-eqb, ne-eqb}
 use lib.Dec.{lit<, eqb·suc-zero}
 use lib.IntN.{ℤ, pos, negsuc, natAbs, _+ℤ_, _-ℤ_}
 use mir.Syntax.{w64}
@@ -11,7 +11,7 @@ use mir.Val.{toZ, ofZ}
 use Rattle.integers.specs.Signs.{negative}
 use Rattle.integers.proofs.Pairs.{Is, nat, int, same, same⁻¹, less, suc-<ℤ, _+ᵢ_, _-ᵢ_, _*ᵢ_}
 use Rattle.integers.proofs.Division.{floor-is, modulo-is}
-use Rattle.units.specs.Units.{in-limit}
+use Rattle.units.specs.Units.{t-limit, in-limit}
 use Rattle.units.specs.declared.Instant.{Instant}
 use Rattle.units.specs.declared.Refusal.the-variants.{NoSuchDate, PastLimit}
 use Rattle.arith.specs.machine.Signed.{natural-or}
@@ -22,7 +22,6 @@ use Rattle.calendar.specs.declared.Date.{Date}
 use Rattle.calendar.specs.declared.DayAnswer.the-variants.{Day, NoDay}
 use Rattle.calendar.specs.declared.InstantAnswer.the-variants.{At, NoInstant}
 use Rattle.calendar.specs.declared.MomentAnswer.the-variants.{Moment, NoMoment}
-use Rattle.units.specs.Units.{t-limit}
 use Rattle.calendar.specs.Constants.{last-day, day-ms, last-ms, half-day-ms, epoch-day}
 use Rattle.calendar.specs.machine.Shifted.{epoch-ms}
 use Rattle.calendar.proofs.FirstBad.{is-same}
@@ -87,21 +86,20 @@ module _ (y m d ms : ℤ) (bad : ℕ) (e : bad ≡ first-bad-of-four y m d ms) w
   unfolding instant-of-date
   instant-refused h = rw (← e, ne-eqb bad 0 h)
 
-  module _ (h : bad ≡ 0) (n k : ℕ) (f : pos n ≡ noon-number y m d) (g : k ≡ natural-or ms 0) (t : ℤ) (i : t ≡ instant (pos n) (pos k)) (a : ℕ)
-      (j : a ≡ natAbs t) where
+  module _ (h : bad ≡ 0) (n k : ℕ) (f : pos n ≡ noon-number y m d) (g : k ≡ natural-or ms 0) (t : ℤ) (i : t ≡ instant (pos n) (pos k)) where
     known : t ≡ instant (noon-number y m d) ms
     known =
         let r = fields y m d ms (sym e ∙ h) in
         let z : pos k ≡ ms = ap pos (g ∙ r .natural 0) ∙ sym (r .ms-is) in
         i ∙ (λ x. instant (f x) (z x))
 
-    pub instant-past : t-limit < a → NoInstant (PastLimit (record { ms = t })) ≡ instant-of-date y m d ms
-    unfolding instant-of-date in-limit
-    instant-past l = rw (← e, eq-eqb bad 0 h, ← known, ← j, lt-leb a t-limit l)
+    pub instant-past : in-limit t ≡ false → NoInstant (PastLimit (record { ms = t })) ≡ instant-of-date y m d ms
+    unfolding instant-of-date
+    instant-past l = rw (← e, eq-eqb bad 0 h, ← known, l)
 
-    pub instant-given : a ≤ t-limit → At (record { ms = t }) ≡ instant-of-date y m d ms
-    unfolding instant-of-date in-limit
-    instant-given l = rw (← e, eq-eqb bad 0 h, ← known, ← j, le-leb a t-limit l)
+    pub instant-given : in-limit t ≡ true → At (record { ms = t }) ≡ instant-of-date y m d ms
+    unfolding instant-of-date
+    instant-given l = rw (← e, eq-eqb bad 0 h, ← known, l)
 
 -- ---- instant to date: u is the milliseconds from 0h of day number 0
 module _ (t : ℤ) (u : ℕ) (e : pos u ≡ t +ℤ pos epoch-ms) where
@@ -122,15 +120,15 @@ module _ (t : ℤ) (u : ℕ) (e : pos u ≡ t +ℤ pos epoch-ms) where
       (modulo-is (t +ℤ pos half-day-ms) (pos (u / day-ms) -ℤ pos epoch-day) day-ms (u % day-ms) (omega arith)
       (same since-noon (nat day-ms *ᵢ (nat (u / day-ms) -ᵢ nat epoch-day) +ᵢ nat (u % day-ms)) (omega arith)))
 
-pub moment-past : (t : Instant) (a : ℕ) → a ≡ natAbs (t .ms) → t-limit < a → NoMoment (PastLimit t) ≡ date-of-instant t
-unfolding date-of-instant in-limit
-moment-past t a e l = rw (← e, lt-leb a t-limit l)
+pub moment-past : (t : Instant) → in-limit (t .ms) ≡ false → NoMoment (PastLimit t) ≡ date-of-instant t
+unfolding date-of-instant
+moment-past t l = rw l
 
-pub moment-given : (t : Instant) (a u : ℕ) (d : Date) (r : ℤ) → a ≡ natAbs (t .ms) → a ≤ t-limit → pos u ≡ t .ms +ℤ pos epoch-ms
+pub moment-given : (t : Instant) (u : ℕ) (d : Date) (r : ℤ) → in-limit (t .ms) ≡ true → pos u ≡ t .ms +ℤ pos epoch-ms
     → d ≡ plain (date-at (u / day-ms)) → r ≡ pos (u % day-ms) → Moment d (toZ w64 (ofZ w64 r)) ≡ date-of-instant t
-unfolding date-of-instant in-limit
-moment-given t a u d r e l f g h =
-    rw (← e, le-leb a t-limit l, day-is (t .ms) u f)
+unfolding date-of-instant
+moment-given t u d r l f g h =
+    rw (l, day-is (t .ms) u f)
     (λ i. Moment (g i) ((natural-back r (u % day-ms) h (omega arith) ∙ sym (ms-is (t .ms) u f)) i))
 
 -- the milliseconds from 0h of day number 0, by sign and magnitude

@@ -7,7 +7,8 @@ use borrow.Author.Tests.{le-leb, leb-true, eqb-true}
 use lib.Dec.{eqb}
 use lib.IntN.{ℤ, pos, negsuc, natAbs, _+ℤ_, _-ℤ_}
 use Rattle.integers.proofs.Pairs.{Is, nat, int, same, same⁻¹, _+ᵢ_, _-ᵢ_}
-use Rattle.units.specs.Units.{in-limit}
+use Rattle.units.specs.Units.{t-limit, in-limit}
+use Rattle.units.proofs.Limit.{size-within}
 use Rattle.units.specs.declared.Instant.{Instant}
 use Rattle.units.specs.declared.Refusal.{Refusal}
 use Rattle.units.specs.declared.Refusal.the-variants.{NoSuchDate, PastLimit}
@@ -22,7 +23,6 @@ use Rattle.calendar.specs.declared.DayAnswer.the-variants.{Day, NoDay}
 use Rattle.calendar.specs.declared.DateAnswer.the-variants.{On, NoDate}
 use Rattle.calendar.specs.declared.InstantAnswer.the-variants.{At, NoInstant}
 use Rattle.calendar.specs.declared.MomentAnswer.the-variants.{Moment, NoMoment}
-use Rattle.units.specs.Units.{t-limit}
 use Rattle.calendar.specs.Constants.{year-shift, last-day, day-ms, last-ms}
 use Rattle.calendar.specs.machine.Shifted.{epoch-ms}
 use Rattle.calendar.proofs.CallAnswers.{Fields, fields, instant-is, day-is, ms-is}
@@ -103,12 +103,11 @@ pub record Since (t : ℤ) : Type 0 where
   pub small : u ≤ epoch-ms + t-limit
 
 pub since : (t : ℤ) → in-limit t ≡ true → Since t
-unfolding in-limit
 since (pos k) h =
-    let l : k ≤ t-limit = leb-true k t-limit h in
+    let l : k ≤ t-limit = size-within (pos k) h in
     record { u = epoch-ms + k; is = same (nat (epoch-ms + k)) (int (pos k) +ᵢ nat epoch-ms) (omega arith); small = omega arith }
 since (negsuc k) h =
-    let l : suc k ≤ t-limit = leb-true (suc k) t-limit h in
+    let l : suc k ≤ t-limit = size-within (negsuc k) h in
     record { u = epoch-ms - suc k; is = same (nat (epoch-ms - suc k)) (int (negsuc k) +ᵢ nat epoch-ms) (omega arith); small = omega arith }
 
 days-of : (n k : ℕ) → k < day-ms → ((day-ms * n + k) / day-ms ≡ n) × ((day-ms * n + k) % day-ms ≡ k)

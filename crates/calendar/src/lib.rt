@@ -7,12 +7,11 @@ use crate::whole::instant_at;
 use crate::whole::noon_of_date;
 use crate::whole::plain_date;
 use crate::whole::since_start;
-use arith::signed::abs;
 use arith::signed::natural_or;
 use arith::signed::wide;
 use units::Instant;
 use units::Refusal;
-use units::T_LIMIT;
+use units::in_limit;
 
 mod naturals;
 mod whole;
@@ -132,22 +131,23 @@ pub fn instant_of_date(year: i64, month: i64, day: i64, ms: i64) -> InstantAnswe
     if bad != 0 {
         return InstantAnswer::NoInstant(Refusal::NoSuchDate(bad));
     }
-    let t = instant_at(noon_of_date(year, month, day), natural_or(ms, 0));
-    if T_LIMIT < abs(t) {
-        return InstantAnswer::NoInstant(Refusal::PastLimit(Instant { ms: t }));
+    let t = Instant {
+        ms: instant_at(noon_of_date(year, month, day), natural_or(ms, 0)),
+    };
+    if !in_limit(t) {
+        return InstantAnswer::NoInstant(Refusal::PastLimit(t));
     }
-    InstantAnswer::At(Instant { ms: t })
+    InstantAnswer::At(t)
 }
 
 // The date of an instant, with the milliseconds from its 0h.
 pub fn date_of_instant(t: Instant) -> MomentAnswer
     ensures { λ r. ⌜ r ≡ date-of-instant t ⌝ }
 {
-    let ms = t.ms;
-    if T_LIMIT < abs(ms) {
+    if !in_limit(t) {
         return MomentAnswer::NoMoment(Refusal::PastLimit(t));
     }
-    let u = since_start(ms);
+    let u = since_start(t.ms);
     let date = plain_date(u / DAY_MS);
     let rest = wide(u % DAY_MS);
     MomentAnswer::Moment(date, rest)

@@ -4,9 +4,9 @@ use mathlib.Core.Bool.{Bool, true, false, cond}
 use mathlib.Core.List.{List}
 use Prim.Native.Nat.{ℕ, _^_, _≤_, _<_}
 use native.Mathlib.Omega.{arith}
-use borrow.Author.Tests.{leb-true}
 use lib.IntN.{natAbs}
 use Rattle.units.specs.Units.{t-limit, in-limit}
+use Rattle.units.proofs.Limit.{size-within}
 use Rattle.units.specs.Refusals.{number}
 use Rattle.units.specs.declared.Instant.{Instant}
 use Rattle.units.specs.declared.Refusal.{Refusal}
@@ -85,10 +85,7 @@ unfolding sighting
 seen-good planet earth t g e = either (in-limit (t .ms)) refl e
   where
     either : (b : Bool) → in-limit (t .ms) ≡ b → cond b (of-series (parse planet) (parse earth) t) (NoSight (PastLimit t)) ≡ Seen g → Good t g
-    either true h e = record { in-time = within h; clear = series-clear (parse planet) (parse earth) t g e }
-      where
-        within : in-limit (t .ms) ≡ true → natAbs (t .ms) ≤ t-limit
-        within h = unfold in-limit in leb-true _ _ h
+    either true h e = record { in-time = size-within _ h; clear = series-clear (parse planet) (parse earth) t g e }
     either false h e = absurd (not-seen _ g e)
 
 pub apparent-in : (t : Instant) (v : Vector) (a : Apparent) → Components reach v → a ≡ apparent t v → Components equator-reach (a .vector)

@@ -3,9 +3,10 @@ use mathlib.Core.Path.{_≡_, refl, sym, ap, ap₂, _∙_}
 use mathlib.Core.Bool.{Bool, true, false, not}
 use mathlib.Core.List.{List}
 use Prim.Native.Nat.{ℕ, _≤_}
-use borrow.Author.Tests.{not-true, not-false, leb-true}
+use borrow.Author.Tests.{not-true, not-false}
 use lib.IntN.{natAbs}
 use Rattle.units.specs.Units.{t-limit, in-limit}
+use Rattle.units.proofs.Limit.{told-past, told-within, told-size}
 use Rattle.units.specs.declared.Instant.{Instant}
 use Rattle.units.specs.declared.Coordinates.{Coordinates}
 use Rattle.units.specs.declared.Refusal.{Refusal}
@@ -62,8 +63,7 @@ module _ (P E : List (List Term)) (t : Instant) (s : Sight) (ps : s ≡ sight-at
       earlier-past h = let f : in-limit (earlier t (g .distance) .ms) ≡ false = limit-is ∙ not-true b h in rw (usable, f, pu)
 
       pub earlier-in : not b ≡ false → natAbs (u .ms) ≤ t-limit
-      unfolding in-limit
-      earlier-in h = leb-true _ _ (sym pb ∙ not-false b h)
+      earlier-in h = told-size _ b pb h
 
       pub second-is : not b ≡ false → (r : Sight) (z : Sighting) → r ≡ sight-at P E u → z ≡ taken-again (g .distance) r
           → z ≡ taken (sight-at P E) t (sight-at P E t)
@@ -86,15 +86,14 @@ both-accepted P E q t z e h = rw e h
 module _ (planet earth : List ℕ) (t : Instant) (b : Bool) (pb : b ≡ in-limit (t .ms)) where
   pub time-past : not b ≡ true → NoSight (PastLimit t) ≡ sighting planet earth t
   unfolding sighting
-  time-past h = let f : in-limit (t .ms) ≡ false = sym pb ∙ not-true b h in rw f
+  time-past h = let f : in-limit (t .ms) ≡ false = told-past _ b pb h in rw f
 
   pub time-in : not b ≡ false → natAbs (t .ms) ≤ t-limit
-  unfolding in-limit
-  time-in h = leb-true _ _ (sym pb ∙ not-false b h)
+  time-in h = told-size _ b pb h
 
   pub parsed-is : not b ≡ false → (p : Parsed) (z : Sighting) → parse planet ≡ p → z ≡ of-series p (parse earth) t → z ≡ sighting planet earth t
   unfolding sighting
-  parsed-is h p z e k = let f : in-limit (t .ms) ≡ true = sym pb ∙ not-false b h in rw (f, e) k
+  parsed-is h p z e k = let f : in-limit (t .ms) ≡ true = told-within _ b pb h in rw (f, e) k
 
   pub planet-refused : not b ≡ false → (r : Refusal) → parse planet ≡ refused r → NoSight r ≡ sighting planet earth t
   unfolding of-series

@@ -39,5 +39,5 @@ unfoldable pub run-numbers : List ℕ → List ℕ
 run-numbers bytes = runs 0 false (flags bytes)
 
 -- The minutes of a window are at most those of a day.
-abbrev pub window-limit : ℕ
-window-limit = 1440
+abbrev pub most-minutes : ℕ
+most-minutes = 1440

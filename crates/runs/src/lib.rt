@@ -3,10 +3,15 @@ ghost use mathlib.Core.Path.{_≡_};
 ghost use Prim.Native.Nat.{_+_, _≤_};
 ghost use lib.ListN.{length, drop};
 ghost use lib.Seq.{sets};
-ghost use Rattle.runs.specs.Runs.{first-listed, flags, run-ends, run-numbers, window-limit};
+ghost use Rattle.runs.specs.Runs.{first-listed, flags, run-ends, run-numbers, most-minutes};
 
-// The byte of a listed minute; specs/Runs.antt has the same name.
+// specs/Runs.antt has both constants under the same names.
+
+// The byte of a listed minute.
 const LISTED: u8 = 1;
+
+// A window has at most so many minutes.
+pub const MOST_MINUTES: u64 = 1440;
 
 // Whether minute i is listed; past the window's end none is.
 fn is_listed(window: &[u8], i: usize) -> bool
@@ -39,7 +44,7 @@ fn count_ends(before: bool, here: bool, after: bool) -> usize
 
 // How many numbers the runs of a window take.
 pub fn count(window: &[u8]) -> usize
-    requires { ⌜ length (now window) ≤ window-limit ⌝ }
+    requires { ⌜ length (now window) ≤ most-minutes ⌝ }
     ensures { λ r. ⌜ r ≡ length (run-numbers (now (window .entry))) ⌝ }
 {
     let mut n = 0;

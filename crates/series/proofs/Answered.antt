@@ -4,9 +4,9 @@ use mathlib.Core.Bool.{Bool, true, false, cond}
 use mathlib.Core.List.{List}
 use Prim.Native.Nat.{ℕ, _≤_}
 use native.Mathlib.Omega.{arith}
-use borrow.Author.Tests.{leb-true}
 use lib.IntN.{natAbs}
 use Rattle.units.specs.Units.{t-limit, in-limit}
+use Rattle.units.proofs.Limit.{size-within}
 use Rattle.units.specs.declared.Instant.{Instant}
 use Rattle.units.specs.declared.Coordinates.{Coordinates}
 use Rattle.units.specs.declared.Refusal.the-variants.{PastLimit}
@@ -33,8 +33,8 @@ chosen true t p c e = (refl, e)
 chosen false t p c e = let z : _≡_ {A = ℕ} 0 1 = cc in absurd (omega arith)
 
 pub answered : (bytes : List ℕ) (t : Instant) (c : Coordinates) → coordinates-answer bytes t ≡ At c → Answered bytes t c
-unfolding coordinates-answer in-limit
+unfolding coordinates-answer
 answered bytes t c e =
     let h = chosen (in-limit (t .ms)) t (parse bytes) c e in
     let p = parsed-at t (parse bytes) c (h .1) in
-    record { in-time = leb-true _ _ (h .0); blocks = p .0; parsed = p .1; value = p .2 }
+    record { in-time = size-within _ (h .0); blocks = p .0; parsed = p .1; value = p .2 }

@@ -8,7 +8,8 @@ use Rattle.units.specs.declared.Instant.{Instant}
 use Rattle.units.specs.declared.Coordinates.{Coordinates}
 use Rattle.series.specs.Sums.{coordinates-answer}
 use Rattle.series.specs.Call.{Near-series}
-use Rattle.sunlist.specs.SunList.{most-minutes, sun-list, sun-list-out}
+use Rattle.runs.specs.Runs.{most-minutes}
+use Rattle.sunlist.specs.SunList.{sun-list, sun-list-out}
 use Rattle.sunlist.specs.Demand.{Demand-3}
 use Rattle.answers.specs.declared.One.{One}
 use Rattle.answers.specs.declared.Three.{Three}

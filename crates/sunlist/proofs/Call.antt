@@ -8,7 +8,8 @@ use lib.ListN.{length}
 use Rattle.units.specs.declared.Instant.{Instant}
 use Rattle.sunlist.specs.declared.ListAnswer.{ListAnswer}
 use Rattle.sunlist.specs.declared.ListAnswer.the-variants.{Runs}
-use Rattle.sunlist.specs.SunList.{most-minutes, sun-list, sun-list-out}
+use Rattle.runs.specs.Runs.{most-minutes}
+use Rattle.sunlist.specs.SunList.{sun-list, sun-list-out}
 use Rattle.sunlist.specs.Demand.{first-minute, Demand-3}
 use Rattle.sunlist.specs.Call.{Sun-list-promised}
 use Rattle.sunlist.proofs.Limits.{fits-is}

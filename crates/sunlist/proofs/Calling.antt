@@ -3,11 +3,11 @@ use mathlib.Core.Path.{_≡_, refl, sym, ap, ap₂, _∙_}
 use mathlib.Core.Bool.{Bool, true, false}
 use mathlib.Core.List.{List}
 use Prim.Native.Nat.{ℕ, _-_, _≤_}
-use borrow.Author.Tests.{leb-true}
 use lib.IntN.{ℤ, pos, negsuc, natAbs}
 use lib.ListN.{length}
 use Rattle.arith.specs.machine.Signed.{natural-or}
-use Rattle.units.specs.Units.{t-limit, in-limit}
+use Rattle.units.specs.Units.{in-limit}
+use Rattle.units.proofs.Limit.{size-within}
 use Rattle.units.specs.declared.Instant.{Instant}
 use Rattle.units.specs.declared.Refusal.{Refusal}
 use Rattle.units.specs.declared.Refusal.the-variants.{PastLimit, BadWindow}
@@ -16,7 +16,8 @@ use Rattle.arith.proofs.Cells.{Cell}
 use Rattle.separation.specs.Arcminutes.{greatest-keep-out}
 use Rattle.sunlist.specs.declared.ListAnswer.{ListAnswer}
 use Rattle.sunlist.specs.declared.ListAnswer.the-variants.{NoList}
-use Rattle.sunlist.specs.SunList.{minute, most-minutes, window-fits, Outcome, no-numbers, of-series, outcome, answered, written, sun-list, sun-list-out}
+use Rattle.runs.specs.Runs.{most-minutes}
+use Rattle.sunlist.specs.SunList.{minute, window-fits, Outcome, no-numbers, of-series, outcome, answered, written, sun-list, sun-list-out}
 use Rattle.sunlist.specs.machine.Window.{Window}
 use Rattle.sunlist.specs.Call.{Sun-list-promised}
 use Rattle.sunlist.proofs.Limits.{fits-is, minute-in}
@@ -99,14 +100,10 @@ module _ (planet earth : List ℕ) (t0 : Instant) (minutes keep-out : ℤ) (out 
 
       module _ (g : in-limit (last .ms) ≡ true) where
         pub window : Window t0 n k
-        unfolding in-limit
         window =
             let r = in-range in
             let f : in-limit (minute t0 (n - 1) .ms) ≡ true = ap (λ (t : Instant). in-limit (t .ms)) (sym hl) ∙ g in
-            record { few = r .1; angle = r .2; start = minute-zero; within = λ j l. minute-in t0 n j h f l }
-          where
-            minute-zero : natAbs (t0 .ms) ≤ t-limit
-            minute-zero = leb-true _ _ h
+            record { few = r .1; angle = r .2; start = size-within _ h; within = λ j l. minute-in t0 n j h f l }
 
         pub series-told : (r : ListAnswer) (now : List ℕ) → r ≡ answered (length out) (of-series (parse planet) (parse earth) t0 n k)
             → now ≡ written out (of-series (parse planet) (parse earth) t0 n k)

@@ -14,9 +14,11 @@ use Rattle.integers.proofs.Tests.{both, false-true}
 use Rattle.integers.proofs.Auto.{polys, cert!, gap, _⊞_}
 use Rattle.integers.proofs.Order.{natAbs-low, natAbs-high, natAbs-le}
 use Rattle.units.specs.Units.{t-limit, in-limit}
+use Rattle.units.proofs.Limit.{size-within}
 use Rattle.units.specs.declared.Instant.{Instant}
 use Rattle.separation.specs.Arcminutes.{least-keep-out, greatest-keep-out}
-use Rattle.sunlist.specs.SunList.{minute-ms, minute, most-minutes, window-fits}
+use Rattle.runs.specs.Runs.{most-minutes}
+use Rattle.sunlist.specs.SunList.{minute-ms, minute, window-fits}
 
 -- A whole number from a to b.
 pub record From (a b : ℕ) (z : ℤ) : Type 0 where
@@ -51,5 +53,4 @@ between t a b l h k m =
     (cert! (t ∷ pos a ∷ pos b ∷ pos l ∷ []) 0 (gap high ⊞ gap o) (search polys depth 30) tt)
 
 pub minute-in : (t0 : Instant) (n j : ℕ) → in-limit (t0 .ms) ≡ true → in-limit (minute t0 (n - 1) .ms) ≡ true → j < n → natAbs (minute t0 j .ms) ≤ t-limit
-unfolding in-limit
-minute-in t0 n j h k l = between (t0 .ms) (minute-ms * j) (minute-ms * (n - 1)) t-limit (leb-true _ _ h) (leb-true _ _ k) (omega arith)
+minute-in t0 n j h k l = between (t0 .ms) (minute-ms * j) (minute-ms * (n - 1)) t-limit (size-within _ h) (size-within _ k) (omega arith)

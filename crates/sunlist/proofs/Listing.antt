@@ -13,11 +13,11 @@ use Rattle.units.specs.declared.Coordinates.{Coordinates}
 use Rattle.units.specs.declared.Refusal.the-variants.{NotUsable}
 use Rattle.limits.specs.declared.Term.{Term}
 use Rattle.series.specs.Sums.{coordinates}
-use Rattle.runs.specs.Runs.{run-numbers}
+use Rattle.runs.specs.Runs.{run-numbers, most-minutes}
 use Rattle.sunlist.specs.declared.Decision.{Decision}
 use Rattle.sunlist.specs.declared.ListAnswer.the-variants.{NoList}
 use Rattle.sunlist.specs.Minute.{decide}
-use Rattle.sunlist.specs.SunList.{minute, most-minutes, decision-at, first-bad, window-flags, numbers, of-minutes, answered, written}
+use Rattle.sunlist.specs.SunList.{minute, decision-at, first-bad, window-flags, numbers, of-minutes, answered, written}
 use Rattle.sunlist.specs.machine.Window.{Window, Flagged}
 
 -- ---- decide_at

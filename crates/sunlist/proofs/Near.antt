@@ -4,12 +4,12 @@ use mathlib.Core.Bool.{Bool, cond}
 use mathlib.Core.List.{List}
 use Prim.Native.Nat.{ℕ, _+_, _*_, _^_, _≤_}
 use native.Mathlib.Omega.{arith}
-use borrow.Author.Tests.{le-leb}
 use lib.IntN.{ℤ, pos, natAbs}
 use lib.ListN.{length, take, drop, length-drop}
 use lib.Seq.{length-take-le}
 use Rattle.integers.specs.Order.{_≼_}
-use Rattle.units.specs.Units.{t-limit, in-limit, tau-limit, total-limit, powers}
+use Rattle.units.specs.Units.{t-limit, tau-limit, total-limit, powers}
+use Rattle.units.proofs.Limit.{within-size}
 use Rattle.units.specs.declared.Instant.{Instant}
 use Rattle.units.specs.declared.Refusal.the-variants.{PastLimit}
 use Rattle.limits.specs.declared.Term.{Term}
@@ -27,7 +27,7 @@ use Rattle.sunlist.specs.Demand.{exact-coordinates}
 -- P2 at an instant within the limit.
 near-exact : (bytes : List ℕ) (blocks : List (List Term)) (t : Instant) → parse bytes ≡ accepted blocks → natAbs (t .ms) ≤ t-limit
     → Near-exact (coordinates (t .ms) blocks) (t .ms) blocks
-unfolding coordinates-answer in-limit of-parsed
+unfolding coordinates-answer of-parsed
 near-exact bytes blocks t e h =
     let p = P2 bytes t (coordinates (t .ms) blocks) (at-blocks) in
     let same : p .0 ≡ blocks = accepted-same (p .0) blocks (sym (p .1) ∙ e) in
@@ -37,7 +37,7 @@ near-exact bytes blocks t e h =
     accepted-same a b e = cc
 
     at-blocks : coordinates-answer bytes t ≡ At (coordinates (t .ms) blocks)
-    at-blocks = ap (λ (b : Bool). cond b (of-parsed t (parse bytes)) (NoCoordinates (PastLimit t))) (le-leb (natAbs (t .ms)) t-limit h) ∙ ap (of-parsed t) e
+    at-blocks = ap (λ (b : Bool). cond b (of-parsed t (parse bytes)) (NoCoordinates (PastLimit t))) (within-size (t .ms) h) ∙ ap (of-parsed t) e
 
 -- Six blocks of an accepted series keep |V| below the limit.
 six : (t : ℤ) → natAbs t ≤ t-limit → (bs : List (List Term)) → Accepted bs → (m : ℕ) → m ≤ 12 → natAbs (running-sum t (take powers (drop m bs))) ≤ angle-limit

@@ -17,7 +17,8 @@ use Rattle.units.specs.declared.Refusal.the-variants.{NoRoom}
 use Rattle.arith.proofs.Cells.{Cell, cell}
 use Rattle.separation.specs.Arcminutes.{least-keep-out, greatest-keep-out}
 use Rattle.sunlist.specs.declared.ListAnswer.the-variants.{Runs, NoList}
-use Rattle.sunlist.specs.SunList.{minute-ms, most-minutes, window-fits, numbers, answered, written}
+use Rattle.runs.specs.Runs.{most-minutes}
+use Rattle.sunlist.specs.SunList.{minute-ms, window-fits, numbers, answered, written}
 
 -- ---- fits
 

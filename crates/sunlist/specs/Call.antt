@@ -7,7 +7,8 @@ use lib.ListN.{length}
 use Rattle.units.specs.declared.Instant.{Instant}
 use Rattle.sunlist.specs.declared.ListAnswer.{ListAnswer}
 use Rattle.sunlist.specs.declared.ListAnswer.the-variants.{Runs}
-use Rattle.sunlist.specs.SunList.{most-minutes, sun-list, sun-list-out}
+use Rattle.runs.specs.Runs.{most-minutes}
+use Rattle.sunlist.specs.SunList.{sun-list, sun-list-out}
 use Rattle.sunlist.specs.Demand.{Demand-3}
 
 -- Of the call's arguments, the output before the call, the answer r, and the output after it.

@@ -15,7 +15,7 @@ use Rattle.limits.specs.declared.Term.{Term}
 use Rattle.packed.specs.Series.{Parsed, accepted, refused, parse}
 use Rattle.series.specs.Sums.{coordinates}
 use Rattle.separation.specs.Arcminutes.{least-keep-out, greatest-keep-out}
-use Rattle.runs.specs.Runs.{run-numbers}
+use Rattle.runs.specs.Runs.{run-numbers, most-minutes}
 use Rattle.sunlist.specs.declared.Decision.{Decision}
 use Rattle.sunlist.specs.declared.Decision.the-variants.{Listed, Clear, Unusable}
 use Rattle.sunlist.specs.declared.ListAnswer.{ListAnswer}
@@ -30,9 +30,6 @@ abbrev pub minute : Instant → ℕ → Instant
 minute t0 j = record { ms = t0 .ms +ℤ pos (minute-ms * j) }
 
 -- The keep-out in arcminutes and the number of minutes are in their ranges; else the refusal is 12.
-abbrev pub most-minutes : ℕ
-most-minutes = 1440
-
 unfoldable pub window-fits : (minutes keep-out : ℤ) → Bool
 window-fits minutes keep-out =
     (leZ (pos least-keep-out) keep-out && leZ keep-out (pos greatest-keep-out)) && (leZ (pos 1) minutes && leZ minutes (pos most-minutes))

@@ -4,12 +4,13 @@ ghost use Prim.Native.Nat.{_*_, _≤_, _<_};
 ghost use lib.IntN.{pos, natAbs};
 ghost use lib.ListN.{length};
 ghost use Rattle.units.specs.Units.{t-limit};
-ghost use Rattle.runs.specs.Runs.{run-numbers};
-ghost use Rattle.sunlist.specs.SunList.{most-minutes, window-fits, minute as minute-of, flag-of, numbers, answered, written};
+ghost use Rattle.runs.specs.Runs.{run-numbers, most-minutes};
+ghost use Rattle.sunlist.specs.SunList.{window-fits, minute as minute-of, flag-of, numbers, answered, written};
 use crate::Decision;
 use crate::ListAnswer;
 use arith::signed::add;
 use arith::signed::wide;
+use runs::MOST_MINUTES;
 use units::Instant;
 use units::Refusal;
 
@@ -20,12 +21,10 @@ const LEAST_KEEP_OUT: u64 = 60;
 
 const GREATEST_KEEP_OUT: u64 = 2700;
 
-// A window has at most MOST_MINUTES minutes, each of MINUTE_MS.
-const MOST_MINUTES: u64 = 1440;
-
 // The flags of a window, a byte each.
 pub const FLAGS_ROOM: usize = MOST_MINUTES as usize;
 
+// The milliseconds of a minute.
 const MINUTE_MS: u64 = 60000;
 
 // Whether a window of n minutes and a keep-out of k arcminutes are within their ranges.

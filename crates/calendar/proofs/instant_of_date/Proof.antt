@@ -1,11 +1,12 @@
 -- `instant_of_date` meets its contract. Assumes nothing.
 use mathlib.Core.Path.{_≡_, sym, _∙_}
-use lib.IntN.{pos, natAbs}
+use lib.IntN.{pos}
 use mir.Syntax.{w64}
 use mir.Val.{toZ, ofZ}
 use native.Mathlib.Omega.{arith}
 use Rattle.arith.specs.machine.Signed.{natural-or}
 use Rattle.calendar.specs.Calendar.{first-bad-of-four, noon-number}
+use Rattle.units.proofs.Limit.{told-past, told-within}
 use Rattle.calendar.proofs.CallAnswers.{Fields, fields, instant-refused, instant-past, instant-given}
 use Rattle.arith.proofs.Signs.{back, ok}
 use borrow.Author.Needs.{needs}
@@ -28,9 +29,6 @@ ms-is c = rw (back _ (c .before .before .before .before .fits .ms)) at (c .natur
 t-back : (c : tie.After-instant-at) → toZ w64 (ofZ w64 (c .instant-at .result)) ≡ c .instant-at .result
 t-back c = back _ (ok (c .instant-at .ok))
 
-size-is : (c : tie.After-abs) → c .abs .result ≡ natAbs (c .before .instant-at .result)
-size-is c = rw (t-back (c .before)) at (c .abs .ensures)
-
 bad-of-four-requires : tie.Need-bad-of-four-requires
 bad-of-four-requires c κs = search needs
 
@@ -50,26 +48,28 @@ instant-at-requires c κs =
     let f = known (c .before .before) in
     (c .before .noon-of-date .ensures .1, omega (arith, ms-is c, f .natural 0, f .small))
 
-abs-requires : tie.Need-abs-requires
-abs-requires c κs = search needs
+in-limit-requires : tie.Need-in-limit-requires
+in-limit-requires c κs = search needs
 
 returns-2 : tie.Need-returns-2
 returns-2 c =
-    let i = c .before .before in
+    let l = c .before in
+    let i = l .before in
     let n = i .before .before in
     let e = n .before in
     rw (t-back i)
-    (instant-past _ _ _ _ _ (bad-is (e .before)) (e .if1 .left) _ _ (noon-is n) (ms-is (i .before)) _ (i .instant-at .ensures) _ (size-is (c .before))
-    (c .if2 .taken))
+    (instant-past _ _ _ _ _ (bad-is (e .before)) (e .if1 .left) _ _ (noon-is n) (ms-is (i .before)) _ (i .instant-at .ensures)
+    (told-past _ _ (rw (t-back i) at (l .in-limit .ensures)) (c .if2 .taken)))
 
 returns-3 : tie.Need-returns-3
 returns-3 c =
-    let i = c .before .before in
+    let l = c .before in
+    let i = l .before in
     let n = i .before .before in
     let e = n .before in
     rw (t-back i)
-    (instant-given _ _ _ _ _ (bad-is (e .before)) (e .if1 .left) _ _ (noon-is n) (ms-is (i .before)) _ (i .instant-at .ensures) _ (size-is (c .before))
-    (c .if2 .left))
+    (instant-given _ _ _ _ _ (bad-is (e .before)) (e .if1 .left) _ _ (noon-is n) (ms-is (i .before)) _ (i .instant-at .ensures)
+    (told-within _ _ (rw (t-back i) at (l .in-limit .ensures)) (c .if2 .left)))
 
 pub instant-of-date-spec : {M : Type 1} → statement M
 instant-of-date-spec =
@@ -80,6 +80,6 @@ instant-of-date-spec =
     noon-of-date-requires
     natural-or-requires
     instant-at-requires
-    abs-requires
+    in-limit-requires
     returns-2
     returns-3)

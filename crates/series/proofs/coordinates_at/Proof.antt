@@ -1,6 +1,7 @@
 -- `series::coordinates_at` meets its contract. Assumes nothing.
+use Rattle.units.proofs.Limit.{told-size}
 use Rattle.series.proofs.Filled.{Series-in, series-in}
-use Rattle.series.proofs.Answering.{within, answers-past, answers-refused, answers-at}
+use Rattle.series.proofs.Answering.{answers-past, answers-refused, answers-at}
 use Rattle.series.proofs.Call.{coordinates-promised}
 use borrow.Author.Needs.{needs}
 use Rattle.series.proofs.coordinates_at.Statement.{statement}
@@ -35,7 +36,7 @@ coordinates-requires : tie.Need-coordinates-requires
 coordinates-requires c κs =
     let k = c .before in
     let e = k .before .before .before .before in
-    (within _ (e .before .in-limit .result) (e .before .in-limit .ensures) (e .if1 .left), table k .table)
+    (told-size _ (e .before .in-limit .result) (e .before .in-limit .ensures) (e .if1 .left), table k .table)
 
 returns-2 : tie.Need-returns-2
 returns-2 c =

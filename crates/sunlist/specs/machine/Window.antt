@@ -7,7 +7,8 @@ use Rattle.units.specs.Units.{t-limit}
 use Rattle.units.specs.declared.Instant.{Instant}
 use Rattle.separation.specs.Arcminutes.{greatest-keep-out}
 use Rattle.sunlist.specs.declared.Decision.{Decision}
-use Rattle.sunlist.specs.SunList.{minute, most-minutes, first-bad, window-flags}
+use Rattle.runs.specs.Runs.{most-minutes}
+use Rattle.sunlist.specs.SunList.{minute, first-bad, window-flags}
 
 -- A window of n minutes from t0, and a keep-out of k arcminutes.
 pub record Window (t0 : Instant) (n k : ℕ) : Type 0 where

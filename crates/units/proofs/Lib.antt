@@ -1,0 +1,2 @@
+-- Laws of the constants and units.
+pub mod Limit
