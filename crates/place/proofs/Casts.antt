@@ -1,13 +1,12 @@
 -- Whole numbers as doubles: the cast is exact below 2^53, and the divisors are whole numbers too. Assumes nothing.
-use mathlib.Core.Path.{_≡_, refl, sym, ap, _∙_, subst}
-use Prim.Native.Nat.{_^_, _≤_}
+use mathlib.Core.Path.{_≡_, sym, ap, _∙_, subst}
+use Prim.Native.Nat.{ℕ, _^_, _≤_}
 use native.Mathlib.Omega.{arith}
 use lib.Dec.{T, le→leb, lt→ltb}
 use lib.IntN.{ℤ, pos, negsuc, natAbs}
-use lib.Ieee.{Float, binary64, ofInt, ofBits, div, inFloat}
-use Rattle.units.specs.Units.{parts}
+use lib.Ieee.{Float, binary64, ofInt, div, inFloat}
 use Rattle.arith.proofs.Cells.{Cell, cell}
-use Rattle.place.specs.Mount.{hundredths-per-degree, degrees, astronomical-units, mount-place}
+use Rattle.place.specs.Mount.{degrees, astronomical-units, mount-place}
 use Rattle.place.specs.declared.Equatorial.{Equatorial}
 use Rattle.place.specs.declared.MountPlace.{MountPlace}
 use Rattle.place.specs.machine.Reach.{Small}
@@ -20,22 +19,10 @@ exact (negsuc n) h = lt→ltb n (2 ^ 53) (omega arith)
 pub cast-asks : (k : ℤ) → natAbs k ≤ 2 ^ 52 → T (inFloat binary64 (Cell k))
 cast-asks k h = subst (λ (z : ℤ). T (inFloat binary64 z)) (sym (cell k (omega arith))) (exact k h)
 
--- 360000.0 and 1e11, by their bits.
-divisor-of-degrees : ofBits binary64 4689928365371555840 ≡ ofInt binary64 (pos hundredths-per-degree)
-unfolding ofBits ofInt
-divisor-of-degrees = refl
-
-pub degrees-are : (k : ℤ) → natAbs k ≤ 2 ^ 52 → div binary64 (ofInt binary64 (Cell k)) (ofBits binary64 4689928365371555840) ≡ degrees k
-unfolding degrees
-degrees-are k h = rw (cell k (omega arith), divisor-of-degrees)
-
-divisor-of-distances : ofBits binary64 4771362005757984768 ≡ ofInt binary64 (pos parts)
-unfolding ofBits ofInt
-divisor-of-distances = refl
-
-pub astronomical-units-are : (k : ℤ) → natAbs k ≤ 2 ^ 52 → div binary64 (ofInt binary64 (Cell k)) (ofBits binary64 4771362005757984768) ≡ astronomical-units k
-unfolding astronomical-units
-astronomical-units-are k h = rw (cell k (omega arith), divisor-of-distances)
+-- a divisor d of the code is the whole number n
+pub divided : (k : ℤ) (n : ℕ) (d : Float) → d ≡ ofInt binary64 (pos n) → natAbs k ≤ 2 ^ 52
+    → div binary64 (ofInt binary64 (Cell k)) d ≡ div binary64 (ofInt binary64 k) (ofInt binary64 (pos n))
+divided k n d e h = rw (cell k (omega arith), e)
 
 -- The three figures, from the bits of the numbers.
 pub figures-are : (p : Equatorial) → Small p → (a b d : Float) → a ≡ degrees (Cell (p .«right_ascension»)) → b ≡ degrees (Cell (p .declination))

@@ -1,6 +1,6 @@
 -- The exact L, B and R of any blocks at any instant are fractions with positive lower numbers. Assumes nothing.
 use mathlib.Core.List.{List, [], _∷_}
-use Prim.Native.Nat.{ℕ, suc, _*_}
+use Prim.Native.Nat.{ℕ, _*_}
 use native.Mathlib.Omega.{arith}
 use lib.IntN.{ℤ, pos, _+ℤ_, _*ℤ_}
 use Rattle.integers.specs.Order.{_≺_}
@@ -33,7 +33,7 @@ block-lower t i (x ∷ xs) = product-pos (exact-term t i x .lower) (exact-block 
 sum-lower : (t : ℤ) (i : ℕ) (bs : List (List Term)) → pos 0 ≺ exact-sum t i bs .lower
 unfolding exact-sum _+ᶠ_
 sum-lower t i [] = record { lt = tt }
-sum-lower t i (b ∷ bs) = product-pos (exact-block t i b .lower) (exact-sum t (suc i) bs .lower) (block-lower t i b) (sum-lower t (suc i) bs)
+sum-lower t i (b ∷ bs) = product-pos _ _ (block-lower t i b) (sum-lower t _ bs)
 
 pub longitude-lower : (t : ℤ) (blocks : List (List Term)) → pos 0 ≺ exact-longitude t blocks .lower
 unfolding exact-longitude

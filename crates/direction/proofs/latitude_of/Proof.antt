@@ -6,6 +6,7 @@ use lib.IntN.{pos, natAbs, _+ℤ_, _*ℤ_}
 use lib.Signed.{mag}
 use borrow.Author.Needs.{needs}
 use Rattle.integers.specs.Root.{root}
+use Rattle.integers.specs.Signs.{negative}
 use Rattle.integers.proofs.Pairs.{nonneg}
 use Rattle.arith.proofs.Signs.{back, ok}
 use Rattle.direction.specs.Direction.{direction}
@@ -78,7 +79,7 @@ returns c =
     back (c .of-parts .result) (ok (c .of-parts .ok)) ∙ c .of-parts .ensures
     ∙ latitude-is (s .args .x) (s .args .y) (s .args .z) (m .length .result) (a .abs .result) (l .low .result) (n .is-neg .result) (at-length m) (at-abs a)
     (ap natAbs (at-low l ∙ at-direction d))
-    (rw (back (s .args .z) (s .fits .z)) at (n .is-neg .ensures))
+    (n .is-neg .ensures ∙ ap negative (back (s .args .z) (s .fits .z)))
 
 pub latitude-of-spec : {M : Type 1} → statement M
 latitude-of-spec =

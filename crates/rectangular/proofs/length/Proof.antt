@@ -9,7 +9,9 @@ use Rattle.rectangular.proofs.length.Statement.{statement}
 use Rattle.rectangular.proofs.length.Tie as tie
 
 length-requires : tie.Need-length-requires
-length-requires c κs = let s = c .before .before .before in rw (squared-cells (s .args .v) (s .pre)) (squared-in (s .args .v) (s .pre))
+length-requires c κs =
+    let s = c .before .before .before in
+    subst (λ (z : ℤ). natAbs z < 2 ^ 92) (sym (squared-cells (s .args .v) (s .pre))) (squared-in (s .args .v) (s .pre))
 
 returns : tie.Need-returns
 unfolding length

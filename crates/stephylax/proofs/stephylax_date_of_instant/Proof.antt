@@ -1,6 +1,8 @@
 -- `stephylax::stephylax_date_of_instant` meets its contract. Assumes nothing.
 use mathlib.Core.Path.{ap, _∙_}
+use lib.IntN.{ℤ}
 use Rattle.arith.proofs.Signs.{back}
+use Rattle.calendar.specs.Calendar.{date-of-instant}
 use Rattle.answers.specs.Answers.{moment-shown}
 use borrow.Author.Needs.{needs}
 use Rattle.stephylax.proofs.stephylax_date_of_instant.Statement.{statement}
@@ -15,7 +17,7 @@ of-moment-requires c κs = search needs
 returns : tie.Need-returns
 returns c =
     let s = c .before .before in
-    let a = rw (back (s .args .t) (s .fits .t)) at (c .before .date-of-instant .ensures) in
+    let a = c .before .date-of-instant .ensures ∙ ap (λ (z : ℤ). date-of-instant (record { ms = z })) (back (s .args .t) (s .fits .t)) in
     c .of-moment .ensures ∙ ap moment-shown a
 
 pub stephylax-date-of-instant-spec : {M : Type 1} → statement M
