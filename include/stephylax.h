@@ -50,6 +50,7 @@ typedef struct { uint64_t refusal; int64_t figure; int64_t day_number; } stephyl
 typedef struct { uint64_t refusal; int64_t figure; int64_t year, month, day, ms; } stephylax_date;
 typedef struct { uint64_t refusal; int64_t figure; int64_t t; } stephylax_instant;
 typedef struct { uint64_t refusal; int64_t figure; int64_t length; } stephylax_written;
+typedef struct { uint64_t refusal; int64_t figure; int64_t length; int64_t accepted; } stephylax_answer;
 typedef struct { uint64_t refusal; int64_t figure; int64_t terms; } stephylax_checked;
 typedef struct { uint64_t refusal; int64_t figure; int64_t longitude, latitude, radius; } stephylax_coordinates;
 typedef struct { uint64_t refusal; int64_t figure; int64_t right_ascension, declination, distance; } stephylax_place;
@@ -114,8 +115,9 @@ stephylax_written stephylax_read_text(const uint8_t *text, size_t n, uint8_t *pa
  *   Given     state                 what the call before returned, from stephylax_text_start() on
  *             text, n               the next piece
  *             packed, room          output, the same buffer in all calls, unaltered between them
- *   Returned  the next state; from stephylax_text_answer what stands: `length` is what is packed so far, and after
- *             stephylax_text_end of an accepted text the length of its packed form
+ *   Returned  the next state; from stephylax_text_answer what stands: `length` is what is packed so far, and `accepted`
+ *             is 0 as long as more may come. After stephylax_text_end of a good text `accepted` is 1 and `length` that
+ *             of its packed form. Only then is it a series: refusal 0 with accepted 0 is a text that has not ended
  *   Refused   as stephylax_read_text, with offsets from the beginning of the whole text; calls after a refusal or after
  *             the end repeat the answer and write nothing
  *   Range     any number of bytes that a size_t counts. A state that no call gave, another buffer or altered packed
@@ -125,7 +127,7 @@ stephylax_written stephylax_read_text(const uint8_t *text, size_t n, uint8_t *pa
 stephylax_text stephylax_text_start(void);
 stephylax_text stephylax_text_piece(stephylax_text state, const uint8_t *text, size_t n, uint8_t *packed, size_t room);
 stephylax_text stephylax_text_end(stephylax_text state, uint8_t *packed, size_t room);
-stephylax_written stephylax_text_answer(stephylax_text state);
+stephylax_answer stephylax_text_answer(stephylax_text state);
 
 /*
  * stephylax_check: whether packed bytes are a good series.
