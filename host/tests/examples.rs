@@ -1,5 +1,5 @@
-//! A C program against include/stephylax.h: it compiles without a warning and runs, looks at every refusal, and the README
-//! shows it.
+//! The programs that the README shows: the one in C compiles without a warning, runs, and looks at every refusal; the one in
+//! Rust answers the same.
 
 mod common;
 
@@ -67,9 +67,23 @@ fn refused_files() {
     std::fs::remove_dir_all(&folder).unwrap();
 }
 
+/// The program in Rust prints the same.
+#[test]
+fn in_rust() {
+    let mut cargo = Command::new(env!("CARGO"));
+    cargo
+        .args(["run", "--offline", "--quiet", "--example", "sun_list", "--manifest-path"])
+        .arg(repository("host/Cargo.toml"));
+    let run = cargo.current_dir(repository("")).output().expect("cargo runs");
+    assert_eq!(String::from_utf8_lossy(&run.stdout), "shut from minute 296 to 1439\n");
+    assert!(run.status.success(), "{}", String::from_utf8_lossy(&run.stderr));
+}
+
 #[test]
 fn shown_in_the_readme() {
-    let [readme, program] =
-        ["README.md", "host/tests/c/example.c"].map(|name| std::fs::read_to_string(repository(name)).unwrap());
-    assert!(readme.contains(&program));
+    let read = |name| std::fs::read_to_string(repository(name)).unwrap();
+    let readme = read("README.md");
+    for program in ["host/tests/c/example.c", "host/examples/sun_list.rs"] {
+        assert!(readme.contains(&read(program)), "{program}");
+    }
 }
