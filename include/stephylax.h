@@ -3,7 +3,8 @@
  *
  * Every function takes every input and comes to an end. An answer has `refusal` 0; a refusal has its number there and what
  * comes with it in `figure`. Fields that an answer does not use are 0. A refusal leaves the lent memory as it was, unless
- * said otherwise below; a success leaves untouched what lies past its output. Nothing has to be checked beforehand but this:
+ * said otherwise below; a success leaves untouched what lies past its output. Every function is marked so that a
+ * compiler warns where its answer is dropped. Nothing has to be checked beforehand but this:
  *
  *   Slices    A slice is a pointer and a length. The pointer must not be NULL, is aligned for its elements, and is good for
  *             that many of them; with length 0 any such pointer does (NULL does not). An output must not overlap another slice
@@ -12,7 +13,7 @@
  *             terms of fixed size), _coordinates_at 210 kB, _check and _print 200 kB, the others less than 5 kB. 512 kB do for all.
  *   Threads   The functions keep nothing between calls and allocate nothing; any number of them may run at once.
  *
- *   no.  given exactly when                                                   figure
+ *   no.  given exactly when (enum stephylax_refusal names each)               figure
  *    1   year, month, day (the skipped days of 1582 too), ms or a day         first bad field, 1 to 4 in that order;
  *        number does not exist                                                5 for a day number
  *    2   t, or the light-time instant, passes its limit                       that instant
@@ -46,10 +47,48 @@
 extern "C" {
 #endif
 
+/* Before each function: who drops its answer is warned, by GCC, Clang, C++17 and C23. */
+#if defined(__cplusplus) && __cplusplus >= 201703L
+#define STEPHYLAX_MUST_USE [[nodiscard]]
+#elif defined(__STDC_VERSION__) && __STDC_VERSION__ >= 202311L
+#define STEPHYLAX_MUST_USE [[nodiscard]]
+#elif defined(__GNUC__)
+#define STEPHYLAX_MUST_USE __attribute__((warn_unused_result))
+#else
+#define STEPHYLAX_MUST_USE
+#endif
+
+/* What a `refusal` is, by its number in the table above. */
+enum stephylax_refusal {
+    STEPHYLAX_ANSWERED = 0,
+    STEPHYLAX_NO_SUCH_DATE = 1,
+    STEPHYLAX_PAST_LIMIT = 2,
+    STEPHYLAX_BAD_BYTE = 3,
+    STEPHYLAX_OVER_LIMIT = 4,
+    STEPHYLAX_TOTAL_OVER_LIMIT = 5,
+    STEPHYLAX_TOO_COARSE = 6,
+    STEPHYLAX_NO_ROOM = 7,
+    STEPHYLAX_ENDED_EARLY = 8,
+    STEPHYLAX_BYTE_AFTER_END = 9,
+    STEPHYLAX_NOT_SHORTEST = 10,
+    STEPHYLAX_NOT_USABLE = 11,
+    STEPHYLAX_BAD_WINDOW = 12
+};
+
+/* The field of a date that does not exist: the figure of STEPHYLAX_NO_SUCH_DATE. */
+enum stephylax_field {
+    STEPHYLAX_YEAR = 1,
+    STEPHYLAX_MONTH = 2,
+    STEPHYLAX_DAY = 3,
+    STEPHYLAX_TIME_OF_DAY = 4,
+    STEPHYLAX_DAY_NUMBER = 5
+};
+
 typedef struct { uint64_t refusal; int64_t figure; int64_t day_number; } stephylax_day;
 typedef struct { uint64_t refusal; int64_t figure; int64_t year, month, day, ms; } stephylax_date;
 typedef struct { uint64_t refusal; int64_t figure; int64_t t; } stephylax_instant;
 typedef struct { uint64_t refusal; int64_t figure; int64_t length; } stephylax_written;
+typedef struct { uint64_t refusal; int64_t figure; int64_t length; int64_t accepted; } stephylax_answer;
 typedef struct { uint64_t refusal; int64_t figure; int64_t terms; } stephylax_checked;
 typedef struct { uint64_t refusal; int64_t figure; int64_t longitude, latitude, radius; } stephylax_coordinates;
 typedef struct { uint64_t refusal; int64_t figure; int64_t right_ascension, declination, distance; } stephylax_place;
@@ -66,6 +105,7 @@ typedef struct { uint64_t words[17]; } stephylax_text;
  *   Range     years -4712 to 9999
  *   Rules     Calendar
  */
+STEPHYLAX_MUST_USE
 stephylax_day stephylax_day_of_date(int64_t year, int64_t month, int64_t day);
 
 /*
@@ -76,6 +116,7 @@ stephylax_day stephylax_day_of_date(int64_t year, int64_t month, int64_t day);
  *   Range     0 to 5,373,484
  *   Rules     Calendar
  */
+STEPHYLAX_MUST_USE
 stephylax_date stephylax_date_of_day(int64_t day_number);
 
 /*
@@ -86,6 +127,7 @@ stephylax_date stephylax_date_of_day(int64_t day_number);
  *   Range     -1-12-19 12h to 4000-01-16 12h
  *   Rules     Calendar
  */
+STEPHYLAX_MUST_USE
 stephylax_instant stephylax_instant_of_date(int64_t year, int64_t month, int64_t day, int64_t ms);
 
 /*
@@ -96,6 +138,7 @@ stephylax_instant stephylax_instant_of_date(int64_t year, int64_t month, int64_t
  *   Range     |t| at most 63,115,200,000,000
  *   Rules     Calendar
  */
+STEPHYLAX_MUST_USE
 stephylax_date stephylax_date_of_instant(int64_t t);
 
 /*
@@ -107,6 +150,7 @@ stephylax_date stephylax_date_of_instant(int64_t t);
  *   Range     4,096 terms a block, 8,192 a series; the packed form is shorter than the text
  *   Rules     Series, as text and packed; Refusals and what they leave
  */
+STEPHYLAX_MUST_USE
 stephylax_written stephylax_read_text(const uint8_t *text, size_t n, uint8_t *packed, size_t room);
 
 /*
@@ -114,18 +158,23 @@ stephylax_written stephylax_read_text(const uint8_t *text, size_t n, uint8_t *pa
  *   Given     state                 what the call before returned, from stephylax_text_start() on
  *             text, n               the next piece
  *             packed, room          output, the same buffer in all calls, unaltered between them
- *   Returned  the next state; from stephylax_text_answer what stands: `length` is what is packed so far, and after
- *             stephylax_text_end of an accepted text the length of its packed form
+ *   Returned  the next state; from stephylax_text_answer what stands: `length` is what is packed so far, and `accepted`
+ *             is 0 as long as more may come. After stephylax_text_end of a good text `accepted` is 1 and `length` that
+ *             of its packed form. Only then is it a series: refusal 0 with accepted 0 is a text that has not ended
  *   Refused   as stephylax_read_text, with offsets from the beginning of the whole text; calls after a refusal or after
  *             the end repeat the answer and write nothing
  *   Range     any number of bytes that a size_t counts. A state that no call gave, another buffer or altered packed
  *             bytes are safe, but their answer is undecided
  *   Rules     Series, as text and packed; Refusals and what they leave
  */
+STEPHYLAX_MUST_USE
 stephylax_text stephylax_text_start(void);
+STEPHYLAX_MUST_USE
 stephylax_text stephylax_text_piece(stephylax_text state, const uint8_t *text, size_t n, uint8_t *packed, size_t room);
+STEPHYLAX_MUST_USE
 stephylax_text stephylax_text_end(stephylax_text state, uint8_t *packed, size_t room);
-stephylax_written stephylax_text_answer(stephylax_text state);
+STEPHYLAX_MUST_USE
+stephylax_answer stephylax_text_answer(stephylax_text state);
 
 /*
  * stephylax_check: whether packed bytes are a good series.
@@ -134,6 +183,7 @@ stephylax_written stephylax_text_answer(stephylax_text state);
  *   Refused   the first of 4, 5, 6, 8, 9, 10
  *   Rules     Series, as text and packed; Refusals and what they leave
  */
+STEPHYLAX_MUST_USE
 stephylax_checked stephylax_check(const uint8_t *packed, size_t n);
 
 /*
@@ -144,6 +194,7 @@ stephylax_checked stephylax_check(const uint8_t *packed, size_t n);
  *   Refused   as stephylax_check, then 7 with the length of the whole text
  *   Rules     Series, as text and packed
  */
+STEPHYLAX_MUST_USE
 stephylax_written stephylax_print(const uint8_t *packed, size_t n, uint8_t *text, size_t room);
 
 /*
@@ -155,6 +206,7 @@ stephylax_written stephylax_print(const uint8_t *packed, size_t n, uint8_t *text
  *   Range     within 10^-6 (radian or AU) of the exact sum of the series
  *   Rules     Working cosine and sums
  */
+STEPHYLAX_MUST_USE
 stephylax_coordinates stephylax_coordinates_at(const uint8_t *packed, size_t n, int64_t t);
 
 /*
@@ -166,6 +218,7 @@ stephylax_coordinates stephylax_coordinates_at(const uint8_t *packed, size_t n, 
  *   Range     both radii 0.1 to 64 AU, distance at least 0.1 AU and a sixteenth of the sum of both radii
  *   Rules     Places
  */
+STEPHYLAX_MUST_USE
 stephylax_place stephylax_apparent_place(const uint8_t *planet, size_t np, const uint8_t *earth, size_t ne, int64_t t);
 
 /*
@@ -176,6 +229,7 @@ stephylax_place stephylax_apparent_place(const uint8_t *planet, size_t np, const
  *   Refused   as stephylax_apparent_place, the number alone
  *   Rules     Places
  */
+STEPHYLAX_MUST_USE
 stephylax_mount stephylax_mount_place(const uint8_t *planet, size_t np, const uint8_t *earth, size_t ne, int64_t t);
 
 /*
@@ -190,6 +244,7 @@ stephylax_mount stephylax_mount_place(const uint8_t *planet, size_t np, const ui
  *   Range     every minute within keep_out by the exact sums is in a run, and none farther out than keep_out + 2
  *   Rules     Sun list
  */
+STEPHYLAX_MUST_USE
 stephylax_written stephylax_sun_list(const uint8_t *planet, size_t np, const uint8_t *earth, size_t ne,
                                      int64_t t0, int64_t minutes, int64_t keep_out, uint64_t *runs, size_t room);
 

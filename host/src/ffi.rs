@@ -40,6 +40,16 @@ pub struct Written {
     pub length: i64,
 }
 
+/// What stands of a text in pieces: `accepted` is 1 after the end of an accepted one, else 0.
+#[repr(C)]
+#[derive(Clone, Copy, Debug, PartialEq, Eq)]
+pub struct Answer {
+    pub refusal: u64,
+    pub figure: i64,
+    pub length: i64,
+    pub accepted: i64,
+}
+
 #[repr(C)]
 #[derive(Clone, Copy, Debug, PartialEq, Eq)]
 pub struct Checked {
@@ -93,7 +103,7 @@ extern "C" {
     pub fn stephylax_text_start() -> Text;
     pub fn stephylax_text_piece(state: Text, text: *const u8, n: usize, packed: *mut u8, room: usize) -> Text;
     pub fn stephylax_text_end(state: Text, packed: *mut u8, room: usize) -> Text;
-    pub fn stephylax_text_answer(state: Text) -> Written;
+    pub fn stephylax_text_answer(state: Text) -> Answer;
     pub fn stephylax_check(packed: *const u8, n: usize) -> Checked;
     pub fn stephylax_print(packed: *const u8, n: usize, text: *mut u8, room: usize) -> Written;
     pub fn stephylax_coordinates_at(packed: *const u8, n: usize, t: i64) -> Coordinates;

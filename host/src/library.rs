@@ -79,9 +79,19 @@ impl<'a> TextReader<'a> {
         self.standing()
     }
 
+    /// Whether the text has ended and is good: only then is what is packed a series.
+    pub fn accepted(&self) -> bool {
+        self.answer().accepted == 1
+    }
+
     fn standing(&self) -> Result<usize, Refusal> {
+        let stands = self.answer();
+        answer(stands.refusal, stands.figure, stands.length as usize)
+    }
+
+    fn answer(&self) -> ffi::Answer {
         // SAFETY: the function takes every state.
-        written(unsafe { ffi::stephylax_text_answer(self.state) })
+        unsafe { ffi::stephylax_text_answer(self.state) }
     }
 }
 

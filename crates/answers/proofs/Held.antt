@@ -10,6 +10,7 @@ use Rattle.answers.specs.Answers.{greatest, clip, clipped}
 use Rattle.answers.specs.declared.One.{One}
 use Rattle.answers.specs.declared.Moment.{Moment}
 use Rattle.answers.specs.declared.Three.{Three}
+use Rattle.answers.specs.declared.Standing.{Standing}
 
 pub clip-small : (n : ℕ) → n ≤ greatest → pos n ≡ clip n
 unfolding clip
@@ -46,3 +47,11 @@ three-held x y z p q r = rw (back x p, back y q, back z r)
 pub moment-held : (x y z m : ℤ) → SFits w64 x → SFits w64 y → SFits w64 z → SFits w64 m
     → moment (stored x) (stored y) (stored z) (stored m) ≡ moment x y z m
 moment-held x y z m p q r s = rw (back x p, back y q, back z r, back m s)
+
+-- What is written, and whether it is accepted.
+abbrev standing : ℕ → ℤ → ℤ → ℤ → Standing
+standing r f n a = record { refusal = r; figure = f; length = n; accepted = a }
+
+pub standing-held : (w : One) (a : ℤ) → SFits w64 (w .figure) → SFits w64 (w .value) → SFits w64 a
+    → standing (w .refusal) (stored (w .figure)) (stored (w .value)) (stored a) ≡ standing (w .refusal) (w .figure) (w .value) a
+standing-held w a p q r = rw (back (w .figure) p, back (w .value) q, back a r)

@@ -31,6 +31,7 @@ use Rattle.answers.specs.declared.One.{One}
 use Rattle.answers.specs.declared.Moment.{Moment}
 use Rattle.answers.specs.declared.Three.{Three}
 use Rattle.answers.specs.declared.Doubles.{Doubles}
+use Rattle.answers.specs.declared.Standing.{Standing}
 
 -- The greatest signed number of 64 bits.
 abbrev pub greatest : ℕ
@@ -85,6 +86,17 @@ unfoldable pub text-shown : Outcome → One
 text-shown (More n) = one-counted n
 text-shown (Accepted n) = one-counted n
 text-shown (Refused r) = one-refused r
+
+-- stephylax_answer, what stands of a text in pieces: the same, and 1 once the text has ended and is accepted, else 0.
+unfoldable pub accepted : Outcome → ℤ
+accepted (More n) = pos 0
+accepted (Accepted n) = pos 1
+accepted (Refused r) = pos 0
+
+unfoldable pub standing-shown : Outcome → Standing
+standing-shown o =
+    let w = text-shown o in
+    record { refusal = w .refusal; figure = w .figure; length = w .value; accepted = accepted o }
 
 unfoldable pub printed-shown : Printed → One
 printed-shown (Length n) = one-counted n

@@ -4,6 +4,7 @@ ghost use mathlib.Core.Path.{_≡_};
 ghost use Rattle.units.specs.Refusals.{figure};
 ghost use Rattle.answers.specs.Answers.{clip, clipped, one-refused, one-counted, moment-refused, three-refused};
 ghost use Rattle.answers.specs.Answers.{day-shown, date-shown, instant-shown, moment-shown, checked-shown, text-shown};
+ghost use Rattle.answers.specs.Answers.{accepted, standing-shown};
 ghost use Rattle.answers.specs.Answers.{printed-shown, list-shown, coordinates-shown, place-shown, mount-shown};
 use calendar::DateAnswer;
 use calendar::DayAnswer;
@@ -25,6 +26,15 @@ pub struct One {
     pub refusal: u64,
     pub figure: i64,
     pub value: i64,
+}
+
+// stephylax_answer.
+#[repr(C)]
+pub struct Standing {
+    pub refusal: u64,
+    pub figure: i64,
+    pub length: i64,
+    pub accepted: i64,
 }
 
 // stephylax_date.
@@ -208,6 +218,31 @@ pub fn of_text(a: Outcome) -> One
         Outcome::More(n) => counted(n as u64),
         Outcome::Accepted(n) => counted(n as u64),
         Outcome::Refused(r) => refused_one(r),
+    }
+}
+
+// 1 once a text has ended and is accepted, else 0.
+fn accepted(a: Outcome) -> i64
+    ensures { λ r. ⌜ r ≡ accepted a ⌝ }
+{
+    match a {
+        Outcome::More(_) => 0,
+        Outcome::Accepted(_) => 1,
+        Outcome::Refused(_) => 0,
+    }
+}
+
+// What stands of a text that comes in pieces.
+pub fn of_standing(a: Outcome) -> Standing
+    ensures { λ r. ⌜ r ≡ standing-shown a ⌝ }
+{
+    let written = of_text(a);
+    let accepted = accepted(a);
+    Standing {
+        refusal: written.refusal,
+        figure: written.figure,
+        length: written.value,
+        accepted,
     }
 }
 

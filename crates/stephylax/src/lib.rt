@@ -8,11 +8,12 @@ ghost use Rattle.place.specs.Place.{place-answer};
 ghost use Rattle.printer.specs.Printer.{printed, printed-out};
 ghost use Rattle.text.specs.Reader.{begun, run, ended, told, whole};
 ghost use Rattle.answers.specs.Answers.{day-shown, date-shown, instant-shown, moment-shown, checked-shown, text-shown};
-ghost use Rattle.answers.specs.Answers.{printed-shown, place-shown, mount-shown};
+ghost use Rattle.answers.specs.Answers.{standing-shown, printed-shown, place-shown, mount-shown};
 ghost use Rattle.stephylax.specs.Promises.{C-coordinates-promised, C-sun-list-promised};
 use answers::Doubles;
 use answers::Moment;
 use answers::One;
+use answers::Standing;
 use answers::Three;
 use answers::of_checked;
 use answers::of_coordinates;
@@ -24,6 +25,7 @@ use answers::of_moment;
 use answers::of_mount;
 use answers::of_place;
 use answers::of_printed;
+use answers::of_standing;
 use answers::of_text;
 use text::Reader;
 use units::Instant;
@@ -88,10 +90,10 @@ pub extern "C" fn stephylax_text_end(state: Reader, packed: &mut [u8]) -> Reader
 }
 
 #[no_mangle]
-pub extern "C" fn stephylax_text_answer(state: Reader) -> One
-    ensures { λ r. ⌜ r ≡ text-shown (told state) ⌝ }
+pub extern "C" fn stephylax_text_answer(state: Reader) -> Standing
+    ensures { λ r. ⌜ r ≡ standing-shown (told state) ⌝ }
 {
-    of_text(text::answer(state))
+    of_standing(text::answer(state))
 }
 
 #[no_mangle]

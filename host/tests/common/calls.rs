@@ -85,11 +85,13 @@ fn library_pieces(pieces: &[&[u8]], packed: &mut [u8]) -> Outcome<usize> {
             let standing = refusal(reader.piece(piece));
             assert!(standing == answer || (!ended && answer.is_ok()), "a call after the end changed the answer");
             answer = standing;
+            assert_eq!(reader.accepted(), ended && answer.is_ok(), "accepted before the end, or after a refusal");
         }
         let standing = refusal(reader.end());
         assert!(standing == answer || (!ended && answer.is_ok()), "a call after the end changed the answer");
         answer = standing;
         ended = true;
+        assert_eq!(reader.accepted(), answer.is_ok(), "ended, and neither accepted nor refused");
     }
     answer
 }

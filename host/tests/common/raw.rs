@@ -30,7 +30,16 @@ fn mount(m: ffi::Mount) -> Result<[f64; 3], u64> {
     Ok(fields)
 }
 
-/// Every state that a call gives is used again, once, before the next: a state is a value.
+/// What stands of a text: its length, and whether it is accepted, which a refused one never is.
+fn standing(a: ffi::Answer) -> Outcome<(usize, bool)> {
+    flat(a.refusal, a.figure, [a.length, a.accepted]).map(|[length, accepted]| {
+        assert!(accepted == 0 || accepted == 1, "accepted is {accepted}");
+        (length as usize, accepted == 1)
+    })
+}
+
+/// Every state that a call gives is used again, once, before the next: a state is a value. A text is accepted after its
+/// end and not before.
 fn pieces(pieces: &[&[u8]], packed: &mut [u8]) -> Outcome<usize> {
     let (out, room) = (packed.as_mut_ptr(), packed.len());
     // SAFETY: the pieces and the buffer are lent for each call, with their lengths.
@@ -41,6 +50,7 @@ fn pieces(pieces: &[&[u8]], packed: &mut [u8]) -> Outcome<usize> {
             let again = ffi::stephylax_text_piece(state, piece.as_ptr(), piece.len(), out, room);
             assert_eq!(first, again, "the same state and piece gave two states");
             state = first;
+            assert_eq!(ffi::stephylax_text_answer(state).accepted, 0, "a text that has not ended is accepted");
         }
         state = ffi::stephylax_text_end(state, out, room);
         let answer = ffi::stephylax_text_answer(state);
@@ -48,7 +58,9 @@ fn pieces(pieces: &[&[u8]], packed: &mut [u8]) -> Outcome<usize> {
             state = ffi::stephylax_text_piece(state, piece.as_ptr(), piece.len(), out, room);
             assert_eq!(ffi::stephylax_text_answer(state), answer, "a call after the end changed the answer");
         }
-        written(answer)
+        let (length, accepted) = standing(answer)?;
+        assert!(accepted, "a text that has ended is neither refused nor accepted");
+        Ok(length)
     }
 }
 

@@ -1,0 +1,80 @@
+/* Calls every function of stephylax.h, in C and in C++, and prints every field of every answer. */
+#include <stdio.h>
+#include "stephylax.h"
+
+static const char zero[] = "0\n0\n0\n0\n0\n0\n0\n0\n0\n0\n0\n0\n";
+static const uint8_t *bytes(const char *text) { return (const uint8_t *)text; }
+static void line(const char *name, uint64_t refusal, int64_t figure) {
+    printf("\n%s %llu %lld", name, (unsigned long long)refusal, (long long)figure);
+}
+static void number(int64_t n) { printf(" %lld", (long long)n); }
+
+/* A body that stands still at a distance in AU, as text and packed. */
+static size_t body(const char *radius, uint8_t *packed, size_t room) {
+    char text[200];
+    int n = snprintf(text, sizeof text, "%s1\n%s 0.00000000000 0.00000000000\n0\n0\n0\n0\n0\n", zero, radius);
+    stephylax_written w = stephylax_read_text(bytes(text), (size_t)n, packed, room);
+    line("read_text", w.refusal, w.figure), number(w.length);
+    return (size_t)w.length;
+}
+
+static void calendar(int64_t year, int64_t month, int64_t day, int64_t ms) {
+    stephylax_day n = stephylax_day_of_date(year, month, day);
+    line("day_of_date", n.refusal, n.figure), number(n.day_number);
+    stephylax_date d = stephylax_date_of_day(n.day_number - 1);
+    line("date_of_day", d.refusal, d.figure), number(d.year), number(d.month), number(d.day), number(d.ms);
+    stephylax_instant i = stephylax_instant_of_date(year, month, day, ms);
+    line("instant_of_date", i.refusal, i.figure), number(i.t);
+    d = stephylax_date_of_instant(i.t);
+    line("date_of_instant", d.refusal, d.figure), number(d.year), number(d.month), number(d.day), number(d.ms);
+}
+
+static void answer(stephylax_text state) {
+    stephylax_answer a = stephylax_text_answer(state);
+    line("text_answer", a.refusal, a.figure), number(a.length), number(a.accepted);
+}
+
+static void pieces(uint8_t *packed, size_t room) {
+    stephylax_text state = stephylax_text_start();
+    answer(state);
+    state = stephylax_text_piece(state, bytes(zero), 24, packed, room);
+    state = stephylax_text_piece(state, bytes(zero), 12, packed, room);
+    answer(state);
+    answer(stephylax_text_end(state, packed, room));
+    answer(stephylax_text_end(stephylax_text_start(), packed, room));
+}
+
+static void series(const uint8_t *packed, size_t n, int64_t t) {
+    uint8_t text[200];
+    stephylax_checked c = stephylax_check(packed, n);
+    line("check", c.refusal, c.figure), number(c.terms);
+    stephylax_written w = stephylax_print(packed, n, text, sizeof text);
+    line("print", w.refusal, w.figure), number(w.length);
+    stephylax_coordinates l = stephylax_coordinates_at(packed, n, t);
+    line("coordinates_at", l.refusal, l.figure), number(l.longitude), number(l.latitude), number(l.radius);
+}
+
+static void places(const uint8_t *planet, size_t np, const uint8_t *earth, size_t ne, int64_t t) {
+    uint64_t runs[4] = {7, 7, 7, 7};
+    stephylax_place p = stephylax_apparent_place(planet, np, earth, ne, t);
+    line("apparent_place", p.refusal, p.figure), number(p.right_ascension), number(p.declination), number(p.distance);
+    stephylax_mount m = stephylax_mount_place(planet, np, earth, ne, t);
+    line("mount_place", m.refusal, 0), printf(" %.17g %.17g %.17g", m.right_ascension, m.declination, m.distance);
+    stephylax_written w = stephylax_sun_list(planet, np, earth, ne, t, 10, 60, runs, 4);
+    line("sun_list", w.refusal, w.figure), number(w.length), number((int64_t)runs[0]), number((int64_t)runs[1]);
+}
+
+int main(void) {
+    uint8_t planet[100], earth[100];
+    calendar(2019, 11, 11, 5);
+    calendar(1582, 10, 10, 5);
+    calendar(9999, 12, 31, 5);
+    pieces(planet, sizeof planet);
+    size_t np = body("0.40000000000", planet, sizeof planet);
+    size_t ne = body("1.00000000000", earth, sizeof earth);
+    series(planet, np, 1);
+    series(planet, 3, 1);
+    places(planet, np, earth, ne, 0);
+    places(earth, ne, earth, ne, 0);
+    return printf("\n") < 0;
+}

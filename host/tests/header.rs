@@ -1,0 +1,194 @@
+//! include/stephylax.h against the library: C and C++ programs read the answers that Rust reads, a dropped answer is warned of,
+//! and the refusals have the host's names and numbers.
+
+mod common;
+
+use common::repository;
+use std::fmt::Write;
+use std::path::PathBuf;
+use std::process::{Command, Output};
+use stephylax::ffi;
+use stephylax::Refusal;
+
+/// The compilers and the language that each is told: C99, C++ before and after it has the mark of its own.
+const COMPILERS: [(&str, &[&str]); 3] =
+    [("gcc", &["-std=c99", "-pedantic"]), ("g++", &["-std=c++11", "-x", "c++"]), ("g++", &["-std=c++17", "-x", "c++"])];
+
+/// Compiles a file of `tests/c` to `output`, with every warning an error.
+fn compiled(compiler: &str, language: &[&str], name: &str, more: &[&str], output: &PathBuf) -> Output {
+    let mut command = Command::new(compiler);
+    command.args(language).args(["-Wall", "-Wextra", "-Werror", "-O2"]).arg("-I").arg(repository("include"));
+    command.arg(repository("host/tests/c").join(name)).args(["-x", "none"]).args(more).arg("-o").arg(output);
+    command.output().unwrap_or_else(|error| panic!("{compiler} runs: {error}"))
+}
+
+fn temporary(name: &str) -> PathBuf {
+    PathBuf::from(env!("CARGO_TARGET_TMPDIR")).join(name)
+}
+
+/// What tests/c/every_function.c prints, by the host's own declarations.
+#[derive(Default)]
+struct Printed(String);
+
+impl Printed {
+    fn line<const N: usize>(&mut self, name: &str, refusal: u64, figure: i64, fields: [i64; N]) {
+        write!(self.0, "\n{name} {refusal} {figure}").unwrap();
+        fields.iter().for_each(|field| write!(self.0, " {field}").unwrap());
+    }
+
+    fn date(&mut self, name: &str, d: ffi::Date) {
+        self.line(name, d.refusal, d.figure, [d.year, d.month, d.day, d.ms]);
+    }
+
+    // SAFETY, here and below: every function takes every number, and every slice is lent for the call with its length.
+    fn calendar(&mut self, year: i64, month: i64, day: i64, ms: i64) {
+        unsafe {
+            let n = ffi::stephylax_day_of_date(year, month, day);
+            self.line("day_of_date", n.refusal, n.figure, [n.day_number]);
+            self.date("date_of_day", ffi::stephylax_date_of_day(n.day_number - 1));
+            let i = ffi::stephylax_instant_of_date(year, month, day, ms);
+            self.line("instant_of_date", i.refusal, i.figure, [i.t]);
+            self.date("date_of_instant", ffi::stephylax_date_of_instant(i.t));
+        }
+    }
+
+    fn pieces(&mut self) {
+        let (zero, mut packed) = ("0\n".repeat(12), [0; 100]);
+        let (zero, out, room) = (zero.as_ptr(), packed.as_mut_ptr(), packed.len());
+        unsafe {
+            let start = ffi::stephylax_text_start();
+            let most = ffi::stephylax_text_piece(start, zero, 24, out, room);
+            let all = ffi::stephylax_text_piece(most, zero, 12, out, room);
+            let ended = ffi::stephylax_text_end(all, out, room);
+            for state in [start, all, ended, ffi::stephylax_text_end(start, out, room)] {
+                let a = ffi::stephylax_text_answer(state);
+                self.line("text_answer", a.refusal, a.figure, [a.length, a.accepted]);
+            }
+        }
+    }
+
+    fn body(&mut self, radius: &str) -> Vec<u8> {
+        let (first, last) = ("0\n".repeat(12), "0\n".repeat(5));
+        let text = format!("{first}1\n{radius} 0.00000000000 0.00000000000\n{last}");
+        let mut packed = vec![0; 100];
+        let w = unsafe { ffi::stephylax_read_text(text.as_ptr(), text.len(), packed.as_mut_ptr(), packed.len()) };
+        self.line("read_text", w.refusal, w.figure, [w.length]);
+        packed.truncate(w.length as usize);
+        packed
+    }
+
+    fn series(&mut self, packed: &[u8], t: i64) {
+        let mut text = [0; 200];
+        unsafe {
+            let c = ffi::stephylax_check(packed.as_ptr(), packed.len());
+            self.line("check", c.refusal, c.figure, [c.terms]);
+            let w = ffi::stephylax_print(packed.as_ptr(), packed.len(), text.as_mut_ptr(), text.len());
+            self.line("print", w.refusal, w.figure, [w.length]);
+            let c = ffi::stephylax_coordinates_at(packed.as_ptr(), packed.len(), t);
+            self.line("coordinates_at", c.refusal, c.figure, [c.longitude, c.latitude, c.radius]);
+        }
+    }
+
+    fn places(&mut self, planet: &[u8], earth: &[u8], t: i64) {
+        let (p, np, e, ne, mut runs) = (planet.as_ptr(), planet.len(), earth.as_ptr(), earth.len(), [7; 4]);
+        unsafe {
+            let a = ffi::stephylax_apparent_place(p, np, e, ne, t);
+            self.line("apparent_place", a.refusal, a.figure, [a.right_ascension, a.declination, a.distance]);
+            let m = ffi::stephylax_mount_place(p, np, e, ne, t);
+            self.line("mount_place", m.refusal, 0, []);
+            write!(self.0, " {} {} {}", m.right_ascension, m.declination, m.distance).unwrap();
+            let w = ffi::stephylax_sun_list(p, np, e, ne, t, 10, 60, runs.as_mut_ptr(), runs.len());
+            self.line("sun_list", w.refusal, w.figure, [w.length, runs[0] as i64, runs[1] as i64]);
+        }
+    }
+}
+
+fn expected() -> String {
+    let mut printed = Printed::default();
+    printed.calendar(2019, 11, 11, 5);
+    printed.calendar(1582, 10, 10, 5);
+    printed.calendar(9999, 12, 31, 5);
+    printed.pieces();
+    let planet = printed.body("0.40000000000");
+    let earth = printed.body("1.00000000000");
+    printed.series(&planet, 1);
+    printed.series(&planet[..3], 1);
+    printed.places(&planet, &earth, 0);
+    printed.places(&earth, &earth, 0);
+    printed.0 + "\n"
+}
+
+/// The same words, and numbers with a point the same double, however it is printed.
+fn assert_same(printed: &str, expected: &str) {
+    for (line, wanted) in printed.lines().zip(expected.lines()) {
+        let double =
+            |word: &str| if word.contains('.') { word.parse::<f64>().unwrap().to_string() } else { word.into() };
+        let words: Vec<String> = line.split(' ').map(double).collect();
+        assert_eq!(words.join(" "), wanted);
+    }
+    assert_eq!(printed.lines().count(), expected.lines().count());
+}
+
+#[test]
+fn every_function() {
+    let expected = expected();
+    for wanted in ["text_answer 0 0 18 0", "text_answer 0 0 18 1", "text_answer 8 0 0 0", "sun_list 0 0 2 0 9"] {
+        assert!(expected.contains(wanted), "{wanted} is not in{expected}");
+    }
+    let archive = repository("target/staticlib/libstephylax.a");
+    for (i, (compiler, language)) in COMPILERS.iter().enumerate() {
+        let program = temporary(&format!("every_function_{i}"));
+        let built = compiled(compiler, language, "every_function.c", &[archive.to_str().unwrap()], &program);
+        assert!(built.status.success(), "{compiler} {language:?}: {}", String::from_utf8_lossy(&built.stderr));
+        let run = Command::new(&program).output().expect("the program runs");
+        assert!(run.status.success());
+        assert_same(&String::from_utf8_lossy(&run.stdout), &expected);
+    }
+}
+
+/// Each line that drops an answer is refused, and nothing else is.
+#[test]
+fn dropped_answers() {
+    let source = std::fs::read_to_string(repository("host/tests/c/dropped.c")).unwrap();
+    let calls: Vec<usize> =
+        (1..).zip(source.lines()).filter(|(_, l)| l.starts_with("    stephylax_")).map(|(i, _)| i).collect();
+    let header = std::fs::read_to_string(repository("include/stephylax.h")).unwrap();
+    assert_eq!(header.matches("\nSTEPHYLAX_MUST_USE\n").count(), calls.len(), "the file does not drop every answer");
+    for (i, (compiler, language)) in COMPILERS.iter().enumerate() {
+        let object = temporary(&format!("dropped_{i}.o"));
+        let built = compiled(compiler, language, "dropped.c", &["-c"], &object);
+        assert!(!built.status.success(), "{compiler} {language:?} takes a dropped answer");
+        let said = String::from_utf8_lossy(&built.stderr);
+        let errors = said.lines().filter(|line| line.contains(": error: "));
+        let refused: Vec<usize> = errors.map(|line| line.split(':').nth(1).unwrap().parse().unwrap()).collect();
+        assert_eq!(refused, calls, "{compiler} {language:?}: {said}");
+    }
+}
+
+/// `enum stephylax_refusal` has each case of the host's enum, with its name in capitals and its number.
+#[test]
+fn names_of_refusals() {
+    let header = std::fs::read_to_string(repository("include/stephylax.h")).unwrap();
+    let body = header.split("enum stephylax_refusal {").nth(1).expect("the enum").split("};").next().unwrap();
+    let named: Vec<(String, u64)> = body
+        .split(',')
+        .map(|item| {
+            let (name, number) = item.trim().split_once(" = ").expect("a name and a number");
+            (name.to_string(), number.parse().unwrap())
+        })
+        .collect();
+    let mut wanted = vec![("STEPHYLAX_ANSWERED".to_string(), 0)];
+    for number in 1..=12 {
+        let figure = i64::from(number == 1);
+        let case = format!("{:?}", Refusal::of(number, figure));
+        let mut name = "STEPHYLAX".to_string();
+        for letter in case.split('(').next().unwrap().chars() {
+            if letter.is_uppercase() {
+                name.push('_');
+            }
+            name.push(letter.to_ascii_uppercase());
+        }
+        wanted.push((name, number));
+    }
+    assert_eq!(named, wanted);
+}

@@ -1,0 +1,47 @@
+# Completion of the command stephylax for bash. The commands and the options are those that `stephylax --help` tells.
+
+# The options in the lines of a command, and in the lines on all commands.
+_stephylax_options() {
+    awk -v command="$1" '
+        /^Exit status/ { exit }
+        /^  stephylax / { its = ($2 == command) }
+        /^[^ ]/ { its = 1 }
+        its { while (match($0, /--[a-z][a-z-]*/)) { print substr($0, RSTART, RLENGTH); $0 = substr($0, RSTART + RLENGTH) } }'
+}
+
+# The names of the published series.
+_stephylax_names() {
+    local command folder path
+    command=$(type -P "$1") || return
+    folder=${STEPHYLAX_DATA:-$(dirname "$command")/../share/stephylax/vsop87d}
+    for path in "$folder"/*.txt; do
+        [[ -e $path ]] && basename "$path" .txt
+    done
+}
+
+_stephylax() {
+    local word=${COMP_WORDS[COMP_CWORD]} before=${COMP_WORDS[COMP_CWORD - 1]} words help
+    COMPREPLY=()
+    help=$("${COMP_WORDS[0]}" --help 2>/dev/null) || return
+    if ((COMP_CWORD == 1)); then
+        words=$(awk '/^  stephylax / { print $2 }' <<<"$help")
+        mapfile -t COMPREPLY < <(compgen -W "$words --help" -- "$word" | sort -u)
+        return
+    fi
+    case $before in
+    --days | --minutes | --keep-out | --every | --t) return ;;
+    --svg) mapfile -t COMPREPLY < <(compgen -f -- "$word") ;;
+    --data) mapfile -t COMPREPLY < <(compgen -d -- "$word") ;;
+    *)
+        if [[ $word == -* ]]; then
+            words=$(_stephylax_options "${COMP_WORDS[1]}" <<<"$help")
+            mapfile -t COMPREPLY < <(compgen -W "$words" -- "$word" | sort -u)
+        else
+            words=$(_stephylax_names "${COMP_WORDS[0]}")
+            mapfile -t COMPREPLY < <(compgen -W "$words" -- "$word"; compgen -f -- "$word")
+        fi
+        ;;
+    esac
+}
+
+complete -o filenames -F _stephylax stephylax

@@ -1,0 +1,115 @@
+#!/bin/sh
+# Installs into a fresh prefix, uses all that is installed from another folder, and removes it again.
+# Wants make, rt, cargo, gcc with its binutils and python3; pkg-config, bash and groff are used where they are.
+set -eu
+cd "$(dirname "$0")/.."
+repository=$PWD
+unset STEPHYLAX_DATA STEPHYLAX_LIBRARY PYTHONPATH LD_LIBRARY_PATH
+export PYTHONDONTWRITEBYTECODE=1 LC_ALL=C
+work=$(mktemp -d)
+trap 'rm -rf "$work"' EXIT
+prefix=$work/prefix
+
+fail() {
+    echo "packaging/test.sh: $*" >&2
+    exit 1
+}
+
+same() { # WHAT IS WANTED
+    [ "$2" = "$3" ] || fail "$1: '$2', not '$3'"
+}
+
+is_there() { # COMMAND
+    command -v "$1" >/dev/null 2>&1
+}
+
+# What the .pc says, by pkg-config or, where that is missing, by hand.
+flags() { # Cflags or Libs
+    if is_there pkg-config; then
+        PKG_CONFIG_PATH=$prefix/lib/pkgconfig pkg-config "--$(echo "$1" | tr CL cl)" stephylax
+    else
+        sed -n "s|^$1: ||p" "$prefix/lib/pkgconfig/stephylax.pc" | sed "s|\${libdir}|$prefix/lib|; s|\${includedir}|$prefix/include|"
+    fi
+}
+
+needs() { # PROGRAM: the shared libraries it names that are ours
+    readelf -d "$1" | sed -n 's/.*(NEEDED).*\[\(libstephylax.*\)\]/\1/p'
+}
+
+make --no-print-directory install PREFIX="$prefix" >"$work/log" 2>&1 || { cat "$work/log"; fail "make install"; }
+mkdir -p "$work/elsewhere/data"
+cd "$work/elsewhere"
+
+# C: the README's program, through the flags, static and shared. It reads data/vsop87d of its folder.
+ln -s "$prefix/share/stephylax/vsop87d" data/vsop87d
+for kind in static shared; do
+    libraries=$(flags Libs)
+    [ $kind = shared ] || libraries=$prefix/lib/libstephylax.a
+    # The flags are words.
+    # shellcheck disable=SC2046,SC2086
+    gcc -std=c99 -Wall -Wextra -Werror $(flags Cflags) -o $kind "$repository/host/tests/c/example.c" $libraries
+    same "the $kind program" "$(LD_LIBRARY_PATH=$prefix/lib ./$kind)" "shut from minute 296 to 1439"
+done
+same "what the static program needs" "$(needs static)" ""
+same "what the shared program needs" "$(needs shared)" libstephylax.so.0
+./static >/dev/null || fail "the static program runs only with the library beside it"
+
+# The shared library exports the functions of the header and nothing else, and has no text to relocate.
+library=$prefix/lib/libstephylax.so.0
+exported=$(nm -D --defined-only "$library" | awk '{ print $3 }' | sort)
+declared=$(sed -n 's/^stephylax_[a-z]* \(stephylax_[a-z_]*\)(.*/\1/p' "$prefix/include/stephylax.h" | sort)
+same "what is exported" "$exported" "$declared"
+readelf -d "$library" | grep -q TEXTREL && fail "the shared library is not position independent"
+readelf -lW "$library" | grep GNU_STACK | grep -q RWE && fail "the shared library wants an executable stack"
+
+# The command finds its data beside its own folder, and not in the repository: Venus under Mercury's name is counted as Venus.
+command=$prefix/bin/stephylax
+"$command" check mercury | grep -q 6827 || fail "the installed command does not know Mercury"
+cp "$prefix/share/stephylax/vsop87d/venus.txt" "$prefix/share/stephylax/vsop87d/mercury.txt"
+"$command" check mercury | grep -q 1682 || fail "the installed command has other data than those installed with it"
+cp "$repository/data/vsop87d/mercury.txt" "$prefix/share/stephylax/vsop87d/mercury.txt"
+
+# The man page has every line of the help.
+page=$prefix/share/man/man1/stephylax.1
+"$command" --help | sed 's/-/\\-/g' >help
+same "lines of the help in the man page" "$(grep -cxFf help "$page")" "$(wc -l <help | tr -d ' ')"
+if is_there groff; then
+    same "what groff says of the man page" "$(groff -man -Tascii -ww -z "$page" 2>&1)" ""
+fi
+
+# Completion: commands, options, names.
+completed() { # WORDS..: what they become
+    PATH="$prefix/bin:$PATH" bash -c '
+        . "$0"; COMP_WORDS=("$@"); COMP_CWORD=$(($# - 1)); _stephylax; echo "${COMPREPLY[*]}"' \
+        "$prefix/share/bash-completion/completions/stephylax" "$@"
+}
+if is_there bash; then
+    same "completion of su" "$(completed stephylax su)" sun-list
+    same "completion of --keep" "$(completed stephylax sun-list mercury --keep)" --keep-out
+    same "completion of merc" "$(completed stephylax check merc)" mercury
+fi
+
+# Python.
+python=$prefix/share/stephylax/python
+same "the library that Python finds" "$(PYTHONPATH=$python python3 -c 'import stephylax; print(stephylax._library._name)')" "$library"
+same "the example in Python" "$(python3 "$python/example.py" 2019-11-11 60)" "mercury  shut from 04:56 to 23:59
+venus    open all day"
+
+# Compiled Python goes too; then nothing is left.
+PYTHONPATH=$python PYTHONDONTWRITEBYTECODE='' python3 -c 'import stephylax'
+cd "$repository"
+make --no-print-directory uninstall PREFIX="$prefix" >"$work/log" 2>&1 || { cat "$work/log"; fail "make uninstall"; }
+same "what is left" "$(find "$prefix" -mindepth 1 2>/dev/null)" ""
+
+# DESTDIR stands before what is written, and is not told to anyone.
+make --no-print-directory install DESTDIR="$work/stage" PREFIX=/usr >"$work/log" 2>&1 || { cat "$work/log"; fail "make install DESTDIR"; }
+same "what is staged" "$(ls "$work/stage")" usr
+[ -x "$work/stage/usr/bin/stephylax" ] || fail "no command is staged"
+grep -rqF "$work/stage" "$work/stage/usr/lib/pkgconfig" "$work/stage/usr/share" && fail "a staged file names the stage"
+same "the staged prefix" "$(sed -n 's/^prefix=//p' "$work/stage/usr/lib/pkgconfig/stephylax.pc")" /usr
+# A file that is not ours stays, with its folder.
+touch "$work/stage/usr/bin/other"
+make --no-print-directory uninstall DESTDIR="$work/stage" PREFIX=/usr >"$work/log" 2>&1 || { cat "$work/log"; fail "make uninstall DESTDIR"; }
+same "what is left of the stage" "$(find "$work/stage/usr" -mindepth 1)" "$work/stage/usr/bin
+$work/stage/usr/bin/other"
+echo "installed, used and removed"

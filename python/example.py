@@ -1,0 +1,39 @@
+"""When does an open tube have to be shut? For each planet, the times of a day (TD) at which it stands too near the Sun.
+
+    python3 example.py [YEAR-MONTH-DAY [KEEP_OUT_ARCMINUTES [FOLDER_OF_SERIES]]]
+"""
+
+import datetime
+import pathlib
+import sys
+
+import stephylax
+
+
+def folder():
+    """The published series: of the repository, or of the prefix that this file is installed under."""
+    here = pathlib.Path(__file__).resolve().parent
+    return next(path for path in (here.parent / "data" / "vsop87d", here.parent / "vsop87d") if path.is_dir())
+
+
+def clock(minute):
+    return f"{minute // 60:02}:{minute % 60:02}"
+
+
+def main(words):
+    day = [int(field) for field in words[0].split("-")] if words else datetime.date.today()
+    keep_out = int(words[1]) if len(words) > 1 else 600
+    data = pathlib.Path(words[2]) if len(words) > 2 else folder()
+    series = {name: stephylax.read_text((data / f"{name}.txt").read_bytes()) for name in ("mercury", "venus", "earth")}
+    start = stephylax.instant_of_date(day)
+    for name in ("mercury", "venus"):
+        runs = stephylax.sun_list(series[name], series["earth"], start, 1440, keep_out)
+        times = ", ".join(f"from {clock(run.first)} to {clock(run.last)}" for run in runs)
+        print(f"{name:8} {'shut ' + times if times else 'open all day'}")
+
+
+if __name__ == "__main__":
+    try:
+        main(sys.argv[1:])
+    except stephylax.Refused as refused:
+        sys.exit(str(refused))

@@ -1,0 +1,490 @@
+"""Stephylax for Python: places of planets, and the minutes when one stands too near the Sun, from a proved library.
+
+Every call of include/stephylax.h, over the shared library, with nothing but ctypes. A refusal is raised as `Refused`.
+
+A series, a text or an output is any object that lends its bytes (bytes, bytearray, memoryview, mmap, array ..). Nothing is
+copied: an answer that was written is a memoryview of the output. Nobody may change what was lent while a call runs; bytes
+cannot be changed, a bytearray that another thread holds can.
+
+An instant is a whole number of milliseconds of TD from 2000-01-01 12h, or a date: (year, month, day) or (year, month, day, ms),
+Julian through 1582-10-04 and Gregorian from 1582-10-15, with a year 0; or a datetime.date or datetime.datetime from 1582-10-15
+on, without a time zone, which is read as TD. What the library cannot be asked is a ValueError, TypeError or OverflowError.
+
+The library is the file that the environment variable STEPHYLAX_LIBRARY names; else libstephylax.so.0 beside this module, in
+`target/shared` of its repository, in `lib` of a folder above it (of the prefix that it is installed under), or where the system
+looks. The larger calls take up to 410 kB of stack: in a thread with too little of it they raise a RuntimeError.
+"""
+
+import ctypes
+import datetime
+import enum
+import operator
+import os
+import pathlib
+import threading
+from typing import NamedTuple
+
+__all__ = [
+    "Answer", "Coordinates", "Date", "Moment", "Mount", "Place", "Refusal", "Refused", "Run", "TextReader", "apparent_place", "check",
+    "coordinates_at", "date_of_day", "date_of_instant", "day_of_date", "instant_of_date", "mount_place", "print_text", "read_text", "sun_list",
+]
+
+
+class Refusal(enum.IntEnum):
+    """The numbers of the refusals, as enum stephylax_refusal has them."""
+
+    NO_SUCH_DATE = 1
+    PAST_LIMIT = 2
+    BAD_BYTE = 3
+    OVER_LIMIT = 4
+    TOTAL_OVER_LIMIT = 5
+    TOO_COARSE = 6
+    NO_ROOM = 7
+    ENDED_EARLY = 8
+    BYTE_AFTER_END = 9
+    NOT_SHORTEST = 10
+    NOT_USABLE = 11
+    BAD_WINDOW = 12
+
+
+_WORDS = {
+    Refusal.NO_SUCH_DATE: "the date, the time of day or the day number does not exist",
+    Refusal.PAST_LIMIT: "the instant is more than two millennia from 2000-01-01 12h TD; the figure is the instant",
+    Refusal.BAD_BYTE: "a byte of the text cannot continue its line; the figure is its offset",
+    Refusal.OVER_LIMIT: "a number or a count passes its limit; the figure is the offset",
+    Refusal.TOTAL_OVER_LIMIT: "the amplitudes of a block total more than 100,000; the figure is the offset",
+    Refusal.TOO_COARSE: "the series is too coarse to be summed within 10^-6; the figure is the offset",
+    Refusal.NO_ROOM: "the output does not fit; the figure is the length it would need, for a text the offset",
+    Refusal.ENDED_EARLY: "the input ends before its 18 blocks do; the figure is its length",
+    Refusal.BYTE_AFTER_END: "a byte follows the series; the figure is its offset",
+    Refusal.NOT_SHORTEST: "a packed number is not in its shortest form; the figure is the offset",
+    Refusal.NOT_USABLE: "a place is not usable: a body too near, too far, or both too close together; the figure is the minute of a list",
+    Refusal.BAD_WINDOW: "the keep-out is outside 60 to 2,700 arcminutes, or the minutes are outside 1 to 1,440",
+}
+
+_FIELDS = {
+    1: "the year does not exist here: years go from -4712 to 9999",
+    2: "the month does not exist",
+    3: "the month has no such day, or it is one of the skipped days of 1582",
+    4: "the time of day does not exist: it goes from 0 to 86,399,999 ms",
+    5: "the day number does not exist: they go from 0 to 5,373,484",
+}
+
+
+class Refused(Exception):
+    """A call that was refused: `number` (a Refusal), `figure` (what comes with it; None from mount_place), `words`."""
+
+    def __init__(self, number, figure=None):
+        self.number = Refusal(number)
+        self.figure = figure
+        self.words = _FIELDS.get(figure, _WORDS[self.number]) if self.number == Refusal.NO_SUCH_DATE else _WORDS[self.number]
+        super().__init__(number, figure)
+
+    def __str__(self):
+        shown = "" if self.figure is None else f" ({self.figure})"
+        return f"refused {self.number:d}{shown}: {self.words}"
+
+
+class Date(NamedTuple):
+    year: int
+    month: int
+    day: int
+
+    def date(self):
+        """The same day as a datetime.date, which has none before 1582-10-15."""
+        _modern(self)
+        return datetime.date(*self)
+
+
+class Moment(NamedTuple):
+    year: int
+    month: int
+    day: int
+    ms: int
+
+    def datetime(self):
+        """The same moment as a datetime.datetime (of TD), which has none before 1582-10-15."""
+        _modern(self)
+        return datetime.datetime(*self[:3]) + datetime.timedelta(milliseconds=self.ms)
+
+
+class Coordinates(NamedTuple):
+    """Longitude and latitude in 10^-11 radian, the longitude with its whole turns; radius in 10^-11 AU."""
+
+    longitude: int
+    latitude: int
+    radius: int
+
+
+class Place(NamedTuple):
+    """Right ascension and declination in hundredths of an arcsecond, distance in 10^-11 AU."""
+
+    right_ascension: int
+    declination: int
+    distance: int
+
+
+class Mount(NamedTuple):
+    """Right ascension and declination in degrees, distance in AU."""
+
+    right_ascension: float
+    declination: float
+    distance: float
+
+
+class Answer(NamedTuple):
+    """What stands of a text in pieces: the bytes that are packed, and whether it has ended and is good."""
+
+    length: int
+    accepted: bool
+
+
+class Run(NamedTuple):
+    """The first and the last minute of a run of listed minutes; both are listed."""
+
+    first: int
+    last: int
+
+
+# The library.
+
+
+def _paths():
+    named = os.environ.get("STEPHYLAX_LIBRARY")
+    if named:
+        return [pathlib.Path(named).absolute()]
+    here = pathlib.Path(__file__).resolve().parent
+    folders = [here, here.parent / "target" / "shared"] + [above / "lib" for above in here.parents]
+    return [folder / "libstephylax.so.0" for folder in folders]
+
+
+def _load():
+    paths = _paths()
+    path = next((path for path in paths if path.is_file()), paths[0] if len(paths) == 1 else "libstephylax.so.0")
+    try:
+        return ctypes.CDLL(str(path))
+    except OSError as error:
+        raise ImportError(f"the library is not there ({error}): `make` builds it, and STEPHYLAX_LIBRARY may name it") from error
+
+
+_library = _load()
+
+
+def _struct(name, *fields):
+    return type(name, (ctypes.Structure,), {"_fields_": fields})
+
+
+def _answer(*names):
+    return _struct("Answer", ("refusal", ctypes.c_uint64), ("figure", ctypes.c_int64), *((name, ctypes.c_int64) for name in names))
+
+
+_I64, _SIZE, _POINTER = ctypes.c_int64, ctypes.c_size_t, ctypes.c_void_p
+_SLICE = [_POINTER, _SIZE]
+_DAY, _DATE, _INSTANT = _answer("day_number"), _answer("year", "month", "day", "ms"), _answer("t")
+_WRITTEN, _CHECKED, _STANDING = _answer("length"), _answer("terms"), _answer("length", "accepted")
+_COORDINATES, _PLACE = _answer("longitude", "latitude", "radius"), _answer("right_ascension", "declination", "distance")
+_DOUBLES = ((name, ctypes.c_double) for name in ("right_ascension", "declination", "distance"))
+_MOUNT = _struct("Mount", ("refusal", ctypes.c_uint64), *_DOUBLES)
+_TEXT = _struct("Text", ("words", ctypes.c_uint64 * 17))
+
+# Each function: what it answers, what it takes.
+_FUNCTIONS = {
+    "day_of_date": (_DAY, [_I64, _I64, _I64]),
+    "date_of_day": (_DATE, [_I64]),
+    "instant_of_date": (_INSTANT, [_I64, _I64, _I64, _I64]),
+    "date_of_instant": (_DATE, [_I64]),
+    "read_text": (_WRITTEN, _SLICE + _SLICE),
+    "text_start": (_TEXT, []),
+    "text_piece": (_TEXT, [_TEXT] + _SLICE + _SLICE),
+    "text_end": (_TEXT, [_TEXT] + _SLICE),
+    "text_answer": (_STANDING, [_TEXT]),
+    "check": (_CHECKED, _SLICE),
+    "print": (_WRITTEN, _SLICE + _SLICE),
+    "coordinates_at": (_COORDINATES, _SLICE + [_I64]),
+    "apparent_place": (_PLACE, _SLICE + _SLICE + [_I64]),
+    "mount_place": (_MOUNT, _SLICE + _SLICE + [_I64]),
+    "sun_list": (_WRITTEN, _SLICE + _SLICE + [_I64, _I64, _I64] + _SLICE),
+}
+
+
+def _function(name):
+    function = getattr(_library, "stephylax_" + name)
+    function.restype, function.argtypes = _FUNCTIONS[name]
+    return function
+
+
+_c = {name: _function(name) for name in _FUNCTIONS}
+
+# Stack. The larger calls take up to 410 kB, and the interpreter needs some itself.
+
+_STACK = 768 * 1024
+_threads = threading.local()
+
+
+def _stack_of_thread():
+    """How large this thread's stack is, or None where the system does not tell."""
+    libc = ctypes.CDLL(None)
+    attributes, size = (ctypes.c_uint64 * 16)(), ctypes.c_size_t()
+    try:
+        libc.pthread_self.restype = ctypes.c_void_p
+        asked = libc.pthread_getattr_np(ctypes.c_void_p(libc.pthread_self()), attributes)
+    except AttributeError:
+        return None
+    if asked != 0:
+        return None
+    libc.pthread_attr_getstacksize(attributes, ctypes.byref(size))
+    libc.pthread_attr_destroy(attributes)
+    return size.value
+
+
+def _need_stack():
+    """Once in each thread: a call on a stack that is too small would end the whole process."""
+    if getattr(_threads, "stack", None) is None:
+        size = _stack_of_thread()
+        _threads.stack = size is None or size >= _STACK
+    if not _threads.stack:
+        raise RuntimeError(f"this thread's stack is too small: call threading.stack_size({_STACK}), or more, before it is started")
+
+
+# Numbers, dates and lent memory.
+
+
+def _i64(number):
+    """A whole number of 64 bits; ctypes would cut a larger one."""
+    number = operator.index(number)
+    if not -(2**63) <= number < 2**63:
+        raise OverflowError(f"{number} has more than 64 bits")
+    return number
+
+
+def _modern(date):
+    if tuple(date[:3]) < (1582, 10, 15):
+        raise ValueError("datetime counts days before 1582-10-15 otherwise than the calendar here: use a tuple")
+
+
+def _fields(when):
+    """Year, month, day and ms, of what was given for a date."""
+    if isinstance(when, datetime.date):
+        fields, ms = (when.year, when.month, when.day), 0
+        if isinstance(when, datetime.datetime):
+            if when.tzinfo is not None:
+                raise ValueError("a time here is TD, in no time zone: convert it, and take the zone away")
+            seconds = (when.hour * 60 + when.minute) * 60 + when.second
+            ms, rest = divmod(seconds * 1000000 + when.microsecond, 1000)
+            if rest:
+                raise ValueError("a time here has whole milliseconds")
+        _modern(fields)
+        return (*fields, ms)
+    fields = tuple(when)
+    if len(fields) not in (3, 4):
+        raise ValueError("a date is (year, month, day) or (year, month, day, ms)")
+    return fields if len(fields) == 4 else (*fields, 0)
+
+
+def _date(given):
+    """Year, month, day and ms, of a date in one argument or in several."""
+    return tuple(map(_i64, _fields(given[0] if len(given) == 1 else given)))
+
+
+def _instant(when):
+    """An instant, of a number or a date."""
+    if hasattr(when, "__index__"):
+        return _i64(when)
+    return instant_of_date(when)
+
+
+class _Buffer(ctypes.Structure):
+    """What Python tells of lent memory."""
+
+    _fields_ = [
+        ("address", ctypes.c_void_p), ("owner", ctypes.c_void_p), ("length", ctypes.c_ssize_t), ("itemsize", ctypes.c_ssize_t),
+        ("readonly", ctypes.c_int), ("ndim", ctypes.c_int), ("format", ctypes.c_char_p), ("shape", ctypes.c_void_p),
+        ("strides", ctypes.c_void_p), ("suboffsets", ctypes.c_void_p), ("internal", ctypes.c_void_p),
+    ]
+
+
+_get_buffer = ctypes.pythonapi.PyObject_GetBuffer
+_get_buffer.argtypes = [ctypes.py_object, ctypes.POINTER(_Buffer), ctypes.c_int]
+_release_buffer = ctypes.pythonapi.PyBuffer_Release
+_release_buffer.argtypes = [ctypes.POINTER(_Buffer)]
+_release_buffer.restype = None
+_WRITABLE = 1
+
+# Stands for memory of length 0, which must have an address too.
+_nowhere = ctypes.c_uint64()
+
+
+class _Lent:
+    """Memory lent for a call, while the block runs. The last of some objects may be an output, of elements of `width` bytes."""
+
+    def __init__(self, *objects, output=False, width=1):
+        self.objects, self.output, self.width = objects, output, width
+        self.buffers = []
+
+    def __enter__(self):
+        try:
+            for i, lent in enumerate(self.objects):
+                writes = self.output and i + 1 == len(self.objects)
+                buffer = _Buffer()
+                _get_buffer(lent, ctypes.byref(buffer), _WRITABLE if writes else 0)
+                self.buffers.append(buffer)
+            return self._slices()
+        except BaseException:
+            self.__exit__()
+            raise
+
+    def __exit__(self, *_):
+        while self.buffers:
+            _release_buffer(ctypes.byref(self.buffers.pop()))
+
+    def _slices(self):
+        """Pointer and length of each."""
+        slices = []
+        for buffer in self.buffers:
+            slices += [buffer.address if buffer.length else ctypes.addressof(_nowhere), buffer.length]
+        if self.output:
+            start, length = slices[-2:]
+            if start % self.width or length % self.width:
+                raise ValueError(f"the output is not of whole numbers of {self.width} bytes")
+            for at, n in zip(slices[:-2:2], slices[1:-2:2]):
+                if at < start + length and start < at + n:
+                    raise ValueError("the output overlaps the input")
+            slices[-1] = length // self.width
+        return slices
+
+
+def _taken(answer):
+    """The answer, if it is none of a refusal."""
+    if answer.refusal:
+        raise Refused(answer.refusal, getattr(answer, "figure", None))
+    return answer
+
+
+def _written(output, length):
+    return memoryview(output).cast("B")[:length]
+
+
+# The calls.
+
+
+def day_of_date(*date):
+    """The noon day number of a date, 0 to 5,373,484. Takes (year, month, day), a tuple of them, or a datetime.date; a time of day is
+    not looked at. Refused: 1."""
+    year, month, day, _ = _date(date)
+    return _taken(_c["day_of_date"](year, month, day)).day_number
+
+
+def date_of_day(day_number):
+    """The Date of a noon day number. Refused: 1."""
+    d = _taken(_c["date_of_day"](_i64(day_number)))
+    return Date(d.year, d.month, d.day)
+
+
+def instant_of_date(*date):
+    """The instant of a date and the milliseconds since its midnight (0 if left out). Takes what `day_of_date` takes, a fourth
+    number, or a datetime. Refused: 1, 2."""
+    return _taken(_c["instant_of_date"](*_date(date))).t
+
+
+def date_of_instant(t):
+    """The Moment of an instant. Refused: 2."""
+    d = _taken(_c["date_of_instant"](_i64(t)))
+    return Moment(d.year, d.month, d.day, d.ms)
+
+
+def read_text(text, packed=None):
+    """Packs the text of a series, given whole: a memoryview of the packed form. `packed` is the output, else one that is long enough
+    is made. Refused: 3 to 9; `packed` then holds the packed form of the lines before."""
+    if packed is None:
+        packed = bytearray(memoryview(text).nbytes)
+    with _Lent(text, packed, output=True) as slices:
+        length = _taken(_c["read_text"](*slices)).length
+    return _written(packed, length)
+
+
+class TextReader:
+    """Packs the text of a series that comes in pieces of any lengths, into `packed`. Until `end` nobody else may write there."""
+
+    def __init__(self, packed):
+        self._packed = packed
+        self._state = _c["text_start"]()
+
+    def piece(self, text):
+        """Takes the next piece: how many bytes are packed so far. Refused: 3 to 7, 9."""
+        with _Lent(text, self._packed, output=True) as slices:
+            self._state = _c["text_piece"](self._state, *slices)
+        return self.answer().length
+
+    def end(self):
+        """Says that the text has ended: a memoryview of the packed form. Refused: 3 to 9."""
+        with _Lent(self._packed, output=True) as slices:
+            self._state = _c["text_end"](self._state, *slices)
+        return _written(self._packed, self.answer().length)
+
+    def answer(self):
+        """What stands. The text is a series only where it is accepted, which it is after `end` alone. Refused: 3 to 9."""
+        stands = _taken(_c["text_answer"](self._state))
+        return Answer(stands.length, stands.accepted == 1)
+
+
+def check(packed):
+    """How many terms a packed series has. Refused: 4, 5, 6, 8, 9, 10."""
+    _need_stack()
+    with _Lent(packed) as slices:
+        return _taken(_c["check"](*slices)).terms
+
+
+def _print(packed, text):
+    with _Lent(packed, text, output=True) as slices:
+        return _c["print"](*slices)
+
+
+def print_text(packed, text=None):
+    """A packed series as plain text: a memoryview of the text. `text` is the output, else one that is as long as it has to be is made.
+    Refused: as `check`, then 7."""
+    _need_stack()
+    if text is None:
+        asked = _print(packed, bytearray())
+        text = bytearray(asked.figure if asked.refusal == Refusal.NO_ROOM else 0)
+    return _written(text, _taken(_print(packed, text)).length)
+
+
+def coordinates_at(packed, when):
+    """The heliocentric Coordinates of a packed series at an instant. Refused: 2, then as `check`."""
+    _need_stack()
+    t = _instant(when)
+    with _Lent(packed) as slices:
+        c = _taken(_c["coordinates_at"](*slices, t))
+    return Coordinates(c.longitude, c.latitude, c.radius)
+
+
+def _place(name, planet, earth, when):
+    _need_stack()
+    t = _instant(when)
+    with _Lent(planet, earth) as slices:
+        p = _taken(_c[name](*slices, t))
+    return (p.right_ascension, p.declination, p.distance)
+
+
+def apparent_place(planet, earth, when):
+    """The apparent Place of a planet, seen from Earth; both packed series. Refused: 2, the planet's series, Earth's, 11, 2, 11."""
+    return Place(*_place("apparent_place", planet, earth, when))
+
+
+def mount_place(planet, earth, when):
+    """The same as a Mount has it. Refused: as `apparent_place`, without a figure."""
+    return Mount(*_place("mount_place", planet, earth, when))
+
+
+def sun_list(planet, earth, start, minutes=1440, keep_out=600, runs=None):
+    """The Runs of minutes, counted from `start`, at which a planet stands within `keep_out` arcminutes of the Sun: none is missing, and
+    none is listed that is more than two arcminutes farther out. `runs` is an output of 64-bit numbers, else one that is long enough
+    is made. Refused: 12, 2, the planet's series, Earth's, 11, 7."""
+    _need_stack()
+    t0, minutes, keep_out = _instant(start), _i64(minutes), _i64(keep_out)
+    if runs is None:
+        runs = (ctypes.c_uint64 * 1440)()
+    with _Lent(planet, earth, runs, output=True, width=8) as slices:
+        length = _taken(_c["sun_list"](*slices[:4], t0, minutes, keep_out, *slices[4:])).length
+    numbers = memoryview(runs).cast("B").cast("Q")[:length].tolist()
+    return [Run(*pair) for pair in zip(numbers[::2], numbers[1::2])]
