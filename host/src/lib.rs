@@ -1,12 +1,10 @@
 //! Stephylax for Rust programs: safe calls of the proved library, with its refusals in words.
 //!
-//! Nothing here decides anything that the library decides. `plain` and `floating` are for tests and the benchmark alone.
+//! Nothing here decides anything that the library decides.
 
 mod answers;
 pub mod ffi;
-pub mod floating;
 mod library;
-pub mod plain;
 mod refusal;
 
 pub use answers::{Coordinates, Date, Mount, Place};

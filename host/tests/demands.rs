@@ -7,10 +7,10 @@ use common::calls::LIBRARY;
 use common::edges::Window;
 use common::generate::{bodies, instant, orbit};
 use common::{hex, published, Random};
-use stephylax::plain::exact::{exact_sum, Sight};
-use stephylax::plain::packed::{pack, parse};
-use stephylax::plain::wide::Wide;
-use stephylax::plain::PARTS;
+use reference::plain::exact::{exact_sum, Sight};
+use reference::plain::packed::{pack, parse};
+use reference::plain::wide::Wide;
+use reference::plain::PARTS;
 
 fn rounds(n: u64) -> u64 {
     if std::env::var_os("STEPHYLAX_SHORT").is_some() {

@@ -3,10 +3,10 @@
 mod common;
 
 use common::{published, vectors, Fields};
+use reference::plain::packed::{parse, Series, Term};
+use reference::plain::place::{direction, latitude, light_time, Vector};
+use reference::plain::{cosine, exact, nutation, place, series, text};
 use std::collections::HashMap;
-use stephylax::plain::packed::{parse, Series, Term};
-use stephylax::plain::place::{direction, latitude, light_time, Vector};
-use stephylax::plain::{cosine, exact, nutation, place, series, text};
 
 fn packed(planet: &str) -> Vec<u8> {
     let mut packed = vec![0; 200_000];

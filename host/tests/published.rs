@@ -4,7 +4,7 @@ mod common;
 
 use common::calls::LIBRARY;
 use common::{published, repository, vectors};
-use stephylax::plain::nutation::TABLE;
+use reference::plain::nutation::TABLE;
 
 fn packed(planet: &str) -> Vec<u8> {
     let mut packed = vec![0; 200_000];

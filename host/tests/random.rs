@@ -9,9 +9,9 @@ use common::edges::Window;
 use common::generate::{any_number, bodies, date, instant, packed, series, text};
 use common::raw::RAW;
 use common::{cut, hex, published, Random};
+use reference::plain::packed::{pack, Series, Term};
+use reference::plain::sun_list::threshold;
 use std::fmt::Debug;
-use stephylax::plain::packed::{pack, Series, Term};
-use stephylax::plain::sun_list::threshold;
 
 /// How many inputs a test tries: a hundredth where STEPHYLAX_SHORT is set, as under a memory checker.
 fn rounds(n: u64) -> u64 {

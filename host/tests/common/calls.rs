@@ -1,7 +1,7 @@
 //! Every public call of document 01 as a function with one shape, so that vectors and comparisons are written once.
 
-use stephylax::plain;
-use stephylax::plain::text::{Answer, Reader};
+use reference::plain;
+use reference::plain::text::{Answer, Reader};
 use stephylax::{Refusal, TextReader};
 
 /// An answer, or the refusal's number and figure.

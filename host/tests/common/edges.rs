@@ -1,11 +1,11 @@
 //! Windows of the Sun list that reach its edges: their lists begin or end inside, have several runs, or are decided by rounding.
 
 use super::Random;
-use stephylax::plain::cosine::sine;
-use stephylax::plain::packed::{Series, Term};
-use stephylax::plain::place::geometry;
-use stephylax::plain::sun_list::{squared_separation, threshold};
-use stephylax::plain::{rounded, MILLENNIUM, PARTS, QUARTER, TURN};
+use reference::plain::cosine::sine;
+use reference::plain::packed::{Series, Term};
+use reference::plain::place::geometry;
+use reference::plain::sun_list::{squared_separation, threshold};
+use reference::plain::{rounded, MILLENNIUM, PARTS, QUARTER, TURN};
 
 /// Milliseconds in a minute, and minutes in a millennium.
 const MINUTE: i64 = 60_000;

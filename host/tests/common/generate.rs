@@ -1,8 +1,8 @@
 //! Random input: instants and dates near every edge, series that are good or nearly so, damaged bytes, texts in odd layouts.
 
 use super::Random;
-use stephylax::plain::packed::{pack, put_number, Series, Term};
-use stephylax::plain::{MILLENNIUM, PARTS, T_LIMIT};
+use reference::plain::packed::{pack, put_number, Series, Term};
+use reference::plain::{MILLENNIUM, PARTS, T_LIMIT};
 
 /// Any number of 64 bits, small ones and the ends as often as others.
 pub fn any_number(random: &mut Random) -> i64 {

@@ -69,7 +69,7 @@ pub fn unhex(word: &str) -> Vec<u8> {
         return Vec::new();
     }
     let digits = word.as_bytes();
-    assert!(digits.len() % 2 == 0, "an even number of hex digits");
+    assert!(digits.len().is_multiple_of(2), "an even number of hex digits");
     let digit = |d: u8| (d as char).to_digit(16).expect("a hex digit") as u8;
     digits.chunks(2).map(|pair| 16 * digit(pair[0]) + digit(pair[1])).collect()
 }

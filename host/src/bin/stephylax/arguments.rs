@@ -1,6 +1,6 @@
 //! Words of a command: what stands by itself, and options.
 
-use crate::Failure;
+use crate::failure::Failure;
 
 pub struct Arguments {
     pub words: Vec<String>,
@@ -8,7 +8,8 @@ pub struct Arguments {
 }
 
 impl Arguments {
-    /// Sorts the words. `valued` options take the next word (or what follows `=`), `flags` take none.
+    /// Sorts the words. `valued` options take the next word (or what follows `=`), `flags` take none; --json is a flag of
+    /// every command.
     pub fn sorted(given: &[String], valued: &[&str], flags: &[&str]) -> Result<Arguments, Failure> {
         let mut arguments = Arguments { words: Vec::new(), options: Vec::new() };
         let mut rest = given.iter();
@@ -21,14 +22,15 @@ impl Arguments {
                 Some((name, value)) => (name, Some(value.to_string())),
                 None => (word.as_str(), None),
             };
-            let value = if flags.contains(&name) && value.is_none() {
+            let value = if (flags.contains(&name) || name == "--json") && value.is_none() {
                 String::new()
             } else if valued.contains(&name) {
-                value.or_else(|| rest.next().cloned()).ok_or_else(|| Failure::Use(format!("{name} wants a value")))?
+                let next = value.or_else(|| rest.next().filter(|next| !next.starts_with("--")).cloned());
+                next.ok_or_else(|| Failure::Use(format!("{name} wants a value")))?
             } else {
                 return Err(Failure::Use(format!("this command has no option {word}")));
             };
-            if arguments.option(name).is_some() {
+            if arguments.flag(name) {
                 return Err(Failure::Use(format!("{name} is given twice")));
             }
             arguments.options.push((name.to_string(), value));
@@ -54,6 +56,15 @@ impl Arguments {
             return Ok(());
         }
         Err(Failure::Use(format!("the form is: stephylax {form}")))
+    }
+
+    /// Wrong use if more than one of these options is given.
+    pub fn at_most_one(&self, names: &[&str]) -> Result<(), Failure> {
+        let given: Vec<&str> = names.iter().filter(|name| self.flag(name)).copied().collect();
+        match given[..] {
+            [first, second, ..] => Err(Failure::Use(format!("give {first} or {second}, not both"))),
+            _ => Ok(()),
+        }
     }
 }
 

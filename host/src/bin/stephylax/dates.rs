@@ -1,78 +1,99 @@
 //! Dates and times of TD as people write them. Which of them exist is left to the library.
 
 use crate::arguments::whole_number;
-use crate::Failure;
-use stephylax::{date_of_day, date_of_instant, instant_of_date, Date};
+use crate::clock::{now, today};
+use crate::failure::Failure;
+use stephylax::{date_of_instant, instant_of_date, Date};
 
-/// Reads 2026-11-15; a year may have a minus.
+const NOW: &str = "now";
+
+fn all_digits(part: &str) -> bool {
+    !part.is_empty() && part.bytes().all(|byte| byte.is_ascii_digit())
+}
+
+/// Reads 2026-11-15. A year has four digits, so that none is cut short by mistake, and may have a sign.
 pub fn date(word: &str) -> Result<[i64; 3], Failure> {
-    let wrong = || Failure::Use(format!("`{word}` is not a date like 2026-11-15"));
-    let (sign, digits) = match word.strip_prefix('-') {
-        Some(rest) => ("-", rest),
-        None => ("", word),
+    let wrong =
+        || Failure::Use(format!("`{word}` is not a date like 2026-11-15 or -0044-03-15, its year with four digits"));
+    let sign = if word.starts_with('-') { "-" } else { "" };
+    let parts: Vec<&str> = word.strip_prefix(['-', '+']).unwrap_or(word).split('-').collect();
+    let [year, month, day] = parts[..] else {
+        return Err(wrong());
     };
-    let parts: Vec<&str> = digits.split('-').collect();
-    let all_digits = |part: &&str| !part.is_empty() && part.bytes().all(|byte| byte.is_ascii_digit());
-    if parts.len() != 3 || !parts.iter().all(all_digits) {
+    // More digits make a year that the library refuses.
+    let whole_year = all_digits(year) && (year.len() == 4 || 4 < year.len() && !year.starts_with('0'));
+    if !whole_year || [month, day].iter().any(|part| !all_digits(part) || 2 < part.len()) {
         return Err(wrong());
     }
-    Ok([
-        whole_number(&format!("{sign}{}", parts[0]), "year")?,
-        whole_number(parts[1], "month")?,
-        whole_number(parts[2], "day")?,
-    ])
+    Ok([whole_number(&format!("{sign}{year}"), "year")?, whole_number(month, "month")?, whole_number(day, "day")?])
 }
 
 /// Reads 18:30, 18:30:05 or 18:30:05.250 as milliseconds since midnight. Hours past 23 are left to the library to refuse.
 pub fn time(word: &str) -> Result<i64, Failure> {
     let wrong = || Failure::Use(format!("`{word}` is not a time like 18:30 or 18:30:05.250"));
-    let digits = |part: &str, most: usize| -> Result<i64, Failure> {
-        if part.is_empty() || most < part.len() || !part.bytes().all(|byte| byte.is_ascii_digit()) {
+    let number = |part: &str, most: usize| -> Result<i64, Failure> {
+        if !all_digits(part) || most < part.len() {
             return Err(wrong());
         }
         part.parse().map_err(|_| wrong())
     };
-    let (clock, thousandths) = match word.split_once('.') {
-        Some((clock, fraction)) => (clock, digits(&format!("{fraction:0<3}"), 3)?),
-        None => (word, 0),
+    let (clock, fraction) = match word.split_once('.') {
+        Some((clock, fraction)) => (clock, Some(fraction)),
+        None => (word, None),
     };
-    let parts: Vec<&str> = clock.split(':').collect();
-    if parts.len() < 2 || 3 < parts.len() || (parts.len() == 2 && word.contains('.')) {
-        return Err(wrong());
-    }
-    let (hours, minutes) = (digits(parts[0], 4)?, digits(parts[1], 2)?);
-    let seconds = parts.get(2).map_or(Ok(0), |part| digits(part, 2))?;
+    let thousandths = match fraction {
+        Some("") => return Err(wrong()),
+        Some(fraction) => number(&format!("{fraction:0<3}"), 3)?,
+        None => 0,
+    };
+    let (hours, minutes, seconds) = match clock.split(':').collect::<Vec<&str>>()[..] {
+        [hours, minutes] if fraction.is_none() => (hours, minutes, "00"),
+        [hours, minutes, seconds] => (hours, minutes, seconds),
+        _ => return Err(wrong()),
+    };
+    let (hours, minutes, seconds) = (number(hours, 4)?, number(minutes, 2)?, number(seconds, 2)?);
     if 59 < minutes || 59 < seconds {
         return Err(wrong());
     }
     Ok(((hours * 60 + minutes) * 60 + seconds) * 1000 + thousandths)
 }
 
-/// The instant of the words DATE, DATE TIME or DATETTIME; of today at 0h if there are none.
-pub fn instant(words: &[String]) -> Result<i64, Failure> {
-    let (day, clock) = match words {
-        [] => (today()?, None),
-        [one] => match one.split_once(['T', 't']) {
-            Some((day, clock)) => (date(day)?, Some(clock)),
-            None => (date(one)?, None),
-        },
-        [day, clock, ..] => (date(day)?, Some(clock.as_str())),
-    };
-    let ms = clock.map_or(Ok(0), time)?;
-    Ok(instant_of_date(day[0], day[1], day[2], ms)?)
+/// Whether a word is meant as a date or a time, and not as a series.
+fn is_when(word: &str) -> bool {
+    let digits = word.strip_prefix(['-', '+']).unwrap_or(word);
+    word == NOW || digits.starts_with(|first: char| first.is_ascii_digit()) && !word.contains('/')
 }
 
-/// The date of the system's clock, which runs in UTC.
-fn today() -> Result<[i64; 3], Failure> {
-    let since_1970 = std::time::SystemTime::now()
-        .duration_since(std::time::UNIX_EPOCH)
-        .map_err(|_| Failure::Use("the system's clock stands before 1970; give a date".to_string()))?;
-    let date = date_of_day(2_440_588 + (since_1970.as_secs() / 86_400) as i64)?;
-    Ok([date.year, date.month, date.day])
+/// Parts the words of a command where its date begins.
+pub fn parted_at_date(words: &[String]) -> (Vec<&str>, &[String]) {
+    let at = words.iter().position(|word| is_when(word)).unwrap_or(words.len());
+    (words[..at].iter().map(String::as_str).collect(), &words[at..])
+}
+
+/// A date, and a time if there is one, of the words DATE, DATE TIME or DATETTIME; today if there are none.
+pub fn date_and_time(words: &[String]) -> Result<([i64; 3], Option<i64>), Failure> {
+    match words {
+        [] => Ok((today()?, None)),
+        [one] => match one.split_once(['T', 't']) {
+            Some((day, clock)) => Ok((date(day)?, Some(time(clock)?))),
+            None => Ok((date(one)?, None)),
+        },
+        [day, clock] => Ok((date(day)?, Some(time(clock)?))),
+        [.., more] => Err(Failure::Use(format!("`{more}` is a word too many after the date and the time"))),
+    }
+}
+
+/// The instant of these words, or of `now`.
+pub fn instant(words: &[String]) -> Result<i64, Failure> {
+    if words.len() == 1 && words[0] == NOW {
+        return now();
+    }
+    let ([year, month, day], ms) = date_and_time(words)?;
+    Ok(instant_of_date(year, month, day, ms.unwrap_or(0))?)
 }
 
 /// A year as a date has it: four digits, and a minus before.
-pub fn year_text(year: i64) -> String {
+fn year_text(year: i64) -> String {
     let sign = if year < 0 { "-" } else { "" };
     format!("{sign}{:04}", year.abs())
 }
@@ -96,4 +117,9 @@ pub fn time_text(date: Date) -> String {
 pub fn instant_text(t: i64) -> Result<String, Failure> {
     let date = date_of_instant(t)?;
     Ok(format!("{} {}", date_text(date), time_text(date)))
+}
+
+/// The same as one word, for programs.
+pub fn instant_word(t: i64) -> Result<String, Failure> {
+    Ok(instant_text(t)?.replace(' ', "T"))
 }

@@ -1,45 +1,39 @@
 //! The command line of Stephylax. Every answer and every refusal is the proved library's.
 
 mod arguments;
+mod calendar;
+mod clock;
 mod commands;
+mod coordinates;
+mod data;
 mod dates;
+mod failure;
 mod help;
+mod json;
 mod list;
+mod output;
+mod packing;
 mod picture;
+mod place;
+mod place_tables;
+mod progress;
+mod report;
+mod runs;
 mod series;
+mod sight;
+mod tables;
+mod version;
+mod window;
 
-use std::io::Write;
+use failure::Failure;
+use report::Report;
 use std::process::ExitCode;
-use stephylax::Refusal;
 
-/// Why a command gave no answer.
-pub enum Failure {
-    /// The library refused.
-    Refused(Refusal),
-    /// The library refused, and there is more to say.
-    RefusedWith(Refusal, String),
-    /// A file cannot be read or written.
-    File(String),
-    /// The words do not make a command.
-    Use(String),
-    /// Nobody reads the output any more.
-    NoReader,
-}
-
-impl From<Refusal> for Failure {
-    fn from(refusal: Refusal) -> Failure {
-        Failure::Refused(refusal)
-    }
-}
-
-/// Writes to standard output.
-pub fn put(bytes: &[u8]) -> Result<(), Failure> {
-    let mut out = std::io::stdout().lock();
-    match out.write_all(bytes).and_then(|()| out.flush()) {
-        Ok(()) => Ok(()),
-        Err(error) if error.kind() == std::io::ErrorKind::BrokenPipe => Err(Failure::NoReader),
-        Err(error) => Err(Failure::File(format!("standard output cannot be written: {error}"))),
-    }
+/// How a command ended that was answered.
+pub enum Done {
+    Answered,
+    /// A quiet list without a minute.
+    NoneListed,
 }
 
 fn words() -> Result<Vec<String>, Failure> {
@@ -49,23 +43,17 @@ fn words() -> Result<Vec<String>, Failure> {
 }
 
 fn main() -> ExitCode {
-    match words().and_then(|words| commands::run(&words)) {
-        Ok(()) | Err(Failure::NoReader) => ExitCode::SUCCESS,
-        Err(Failure::Refused(refusal)) => {
-            eprintln!("stephylax: {refusal}");
-            ExitCode::from(1)
-        }
-        Err(Failure::RefusedWith(refusal, more)) => {
-            eprintln!("stephylax: {refusal}; {more}");
-            ExitCode::from(1)
-        }
-        Err(Failure::File(message)) => {
-            eprintln!("stephylax: {message}");
-            ExitCode::from(1)
-        }
-        Err(Failure::Use(message)) => {
-            eprintln!("stephylax: {message}\nTry `stephylax --help`.");
-            ExitCode::from(2)
+    let mut report = Report::default();
+    let done = words().and_then(|words| {
+        report.begin(&words);
+        commands::run(&words, &mut report)
+    });
+    match done {
+        Ok(Done::Answered) => ExitCode::SUCCESS,
+        Ok(Done::NoneListed) => ExitCode::from(4),
+        Err(failure) => {
+            report.fail(&failure);
+            ExitCode::from(failure.status())
         }
     }
 }

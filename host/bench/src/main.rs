@@ -4,10 +4,10 @@
 //! have them. Output buffers are not cleared between calls, times are of the processor. The f64 program works from tables that are
 //! unpacked beforehand; the two others get packed bytes.
 
+use reference::floating::{self, Tables};
+use reference::plain::packed::{pack, parse, Series};
+use reference::plain::{self, text};
 use std::hint::black_box;
-use stephylax::floating::{self, Tables};
-use stephylax::plain::packed::{pack, parse, Series};
-use stephylax::plain::{self, text};
 
 /// Keeps the compiler from leaving out the work whose answer this is.
 fn used<A>(answer: A) {
@@ -115,7 +115,7 @@ struct Planet {
 }
 
 fn planet(name: &'static str) -> Planet {
-    let path = format!("{}/../data/vsop87d/{name}.txt", env!("CARGO_MANIFEST_DIR"));
+    let path = format!("{}/../../data/vsop87d/{name}.txt", env!("CARGO_MANIFEST_DIR"));
     let text = std::fs::read(&path).unwrap_or_else(|error| panic!("{path}: {error}"));
     let mut packed = vec![0; text.len()];
     let length = stephylax::read_text(&text, &mut packed).expect("the published series is good");

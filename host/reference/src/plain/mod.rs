@@ -59,7 +59,7 @@ pub fn within_turn(x: i128) -> i64 {
 
 /// Refusal 2, for a t past its limit.
 pub fn within_limit(t: i64) -> Result<(), Refused> {
-    if t < -T_LIMIT || T_LIMIT < t {
+    if !(-T_LIMIT..=T_LIMIT).contains(&t) {
         return refused(2, t);
     }
     Ok(())

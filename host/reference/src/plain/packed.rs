@@ -31,7 +31,7 @@ pub fn fold(v: i64) -> u64 {
 }
 
 pub fn unfold(v: u64) -> i64 {
-    if v % 2 == 0 {
+    if v.is_multiple_of(2) {
         (v / 2) as i64
     } else {
         -((v / 2) as i64) - 1
@@ -95,7 +95,7 @@ impl Judge {
         if 4096 < n || 8192 < self.declared + n as i64 {
             return 4;
         }
-        if self.blocks_begun % 6 == 0 {
+        if self.blocks_begun.is_multiple_of(6) {
             self.coarseness = 32_000_000_000;
         }
         self.blocks_begun += 1;

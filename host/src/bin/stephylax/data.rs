@@ -1,0 +1,30 @@
+//! Where the published series are.
+
+use crate::failure::Failure;
+use std::path::{Path, PathBuf};
+
+/// Below the folder that has the command's `bin`.
+const INSTALLED: &str = "share/stephylax/vsop87d";
+/// Seen from the package that the command was built from.
+const IN_REPOSITORY: &str = "../data/vsop87d";
+
+/// The folder given, else STEPHYLAX_DATA, else what was installed beside the command, else the repository's. The current folder
+/// is never searched.
+pub fn folder(given: Option<&str>) -> Result<PathBuf, Failure> {
+    if let Some(folder) = given {
+        if folder.is_empty() {
+            return Err(Failure::Use("--data wants a folder".to_string()));
+        }
+        return Ok(PathBuf::from(folder));
+    }
+    if let Some(folder) = std::env::var_os("STEPHYLAX_DATA").filter(|folder| !folder.is_empty()) {
+        return Ok(PathBuf::from(folder));
+    }
+    Ok(installed().unwrap_or(Path::new(env!("CARGO_MANIFEST_DIR")).join(IN_REPOSITORY)))
+}
+
+fn installed() -> Option<PathBuf> {
+    let command = std::env::current_exe().ok()?;
+    let folder = command.parent()?.parent()?.join(INSTALLED);
+    folder.is_dir().then_some(folder)
+}

@@ -1,0 +1,47 @@
+//! Why a command gave no answer.
+
+use stephylax::Refusal;
+
+pub enum Failure {
+    /// The library refused. `at` says where, if its sentence does not.
+    Refused { refusal: Refusal, at: Option<String> },
+    /// The mount's call refused; it tells a number alone.
+    MountRefused(u64),
+    /// The words do not make a command.
+    Use(String),
+    /// A file cannot be read or written.
+    File(String),
+    /// Standard output did not take everything.
+    Output(String),
+}
+
+impl From<Refusal> for Failure {
+    fn from(refusal: Refusal) -> Failure {
+        Failure::Refused { refusal, at: None }
+    }
+}
+
+impl Failure {
+    pub fn refused_at(refusal: Refusal, at: String) -> Failure {
+        Failure::Refused { refusal, at: Some(at) }
+    }
+
+    /// The exit status.
+    pub fn status(&self) -> u8 {
+        match self {
+            Failure::Refused { .. } | Failure::MountRefused(_) => 1,
+            Failure::Use(_) => 2,
+            Failure::File(_) | Failure::Output(_) => 3,
+        }
+    }
+
+    /// What is wrong, as it is told on standard error.
+    pub fn words(&self) -> String {
+        match self {
+            Failure::Refused { refusal, at: None } => refusal.to_string(),
+            Failure::Refused { refusal, at: Some(at) } => format!("{refusal}; {at}"),
+            Failure::MountRefused(number) => format!("refused {number}: the mount's place alone"),
+            Failure::Use(words) | Failure::File(words) | Failure::Output(words) => words.clone(),
+        }
+    }
+}

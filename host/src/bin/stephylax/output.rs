@@ -1,0 +1,73 @@
+//! Bytes in and out: standard input and output, and files, which are written beside and then renamed.
+
+use crate::failure::Failure;
+use std::fs::{File, OpenOptions};
+use std::io::{Error, ErrorKind, Read, Write};
+use std::path::{Path, PathBuf};
+
+/// A file of more bytes than this is not read. The longest series that the limits allow is far shorter.
+const LONGEST_FILE: u64 = 64 << 20;
+
+/// Writes to standard output.
+pub fn put(bytes: &[u8]) -> Result<(), Failure> {
+    let mut out = std::io::stdout().lock();
+    out.write_all(bytes).and_then(|()| out.flush()).map_err(|error| match error.kind() {
+        ErrorKind::BrokenPipe => Failure::Output("standard output was closed before all was written".to_string()),
+        _ => Failure::Output(format!("standard output cannot be written: {error}")),
+    })
+}
+
+/// Reads a file, or standard input for `-`.
+pub fn read(path: &Path) -> Result<Vec<u8>, Failure> {
+    let fail = |error: Error| Failure::File(format!("{} cannot be read: {error}", path.display()));
+    let source: Box<dyn Read> = if path == Path::new("-") {
+        Box::new(std::io::stdin().lock())
+    } else {
+        Box::new(File::open(path).map_err(fail)?)
+    };
+    let mut bytes = Vec::new();
+    source.take(LONGEST_FILE + 1).read_to_end(&mut bytes).map_err(fail)?;
+    if LONGEST_FILE < bytes.len() as u64 {
+        return Err(Failure::File(format!("{} is too large: more than {LONGEST_FILE} bytes", path.display())));
+    }
+    Ok(bytes)
+}
+
+/// Writes a file, or standard output for `-`.
+pub fn write(path: &str, bytes: &[u8]) -> Result<(), Failure> {
+    if path == "-" {
+        return put(bytes);
+    }
+    let written = match std::fs::metadata(path) {
+        // A device or a pipe takes the bytes as they are.
+        Ok(data) if !data.is_file() => OpenOptions::new().write(true).open(path).and_then(|mut f| f.write_all(bytes)),
+        _ => replace(Path::new(path), bytes),
+    };
+    written.map_err(|error| Failure::File(format!("{path} cannot be written: {error}")))
+}
+
+/// Writes a new file beside the old one and gives it that one's name, so that there is never half a file.
+fn replace(path: &Path, bytes: &[u8]) -> Result<(), Error> {
+    // A link stays one: what it points to is replaced.
+    let target = std::fs::canonicalize(path).unwrap_or(path.to_path_buf());
+    let part = beside(&target).ok_or(Error::from(ErrorKind::InvalidFilename))?;
+    let written = fill(&part, &target, bytes).and_then(|()| std::fs::rename(&part, &target));
+    if written.is_err() {
+        let _ = std::fs::remove_file(&part);
+    }
+    written
+}
+
+fn beside(target: &Path) -> Option<PathBuf> {
+    let name = target.file_name()?.to_string_lossy();
+    Some(target.with_file_name(format!(".{name}.{}.part", std::process::id())))
+}
+
+fn fill(part: &Path, target: &Path, bytes: &[u8]) -> Result<(), Error> {
+    let mut file = OpenOptions::new().write(true).create_new(true).open(part)?;
+    file.write_all(bytes)?;
+    if let Ok(data) = target.metadata() {
+        file.set_permissions(data.permissions())?;
+    }
+    file.sync_all()
+}

@@ -1,0 +1,13 @@
+//! The command line: what it prints, what it writes, and its exit status.
+
+mod calendar;
+#[path = "../common/mod.rs"]
+mod common;
+mod files;
+mod json;
+mod lists;
+mod picture;
+mod places;
+mod run;
+mod sources;
+mod wrong_use;
