@@ -3,40 +3,7 @@
 mod common;
 
 use common::calls::{Calls, Outcome, LIBRARY, PLAIN};
-use common::{cut, hash, published, vectors, Fields, Random};
-use std::collections::HashMap;
-
-/// A number of refusal and its figure, or 0 and what `answer` reads.
-fn expected<A>(fields: &mut Fields, answer: impl FnOnce(&mut Fields) -> A) -> Outcome<A> {
-    match fields.number() {
-        0 => Ok(answer(fields)),
-        number => Err((number as u64, fields.number())),
-    }
-}
-
-fn numbers<const N: usize>(fields: &mut Fields) -> [i64; N] {
-    [0; N].map(|_| fields.number())
-}
-
-/// The packed form of each published series.
-fn packed_series() -> HashMap<&'static str, Vec<u8>> {
-    let mut all = HashMap::new();
-    for planet in ["mercury", "venus", "earth"] {
-        let mut packed = vec![0; 200_000];
-        let length = (PLAIN.read_text)(&published(planet), &mut packed).expect("the published series is good");
-        packed.truncate(length);
-        all.insert(planet, packed);
-    }
-    all
-}
-
-/// The planet's and Earth's series of a line that begins with `name PLANET` or `hex PLANET EARTH`.
-fn two_series(fields: &mut Fields, published: &HashMap<&str, Vec<u8>>) -> (Vec<u8>, Vec<u8>) {
-    match fields.word() {
-        "name" => (published[fields.word()].clone(), published["earth"].clone()),
-        _ => (fields.bytes(), fields.bytes()),
-    }
-}
+use common::{cut, expected, hash, numbers, packed_series, published, two_series, vectors, Fields, Random};
 
 fn calendar(calls: &Calls) {
     for (number, line) in vectors("calendar_days.txt") {

@@ -134,7 +134,7 @@ fn combined(g0: u64, g1: u64, g2: u64, g3: u64, x0: u64, x1: u64, x2: u64, x3: u
 }
 
 // A term's angle, but for whole turns.
-fn angle(p: Prepared, b: u64, c: i64) -> u64
+pub fn angle(p: Prepared, b: u64, c: i64) -> u64
     requires { ⌜ Ready p × (b < b-limit) × (natAbs c < c-limit) ⌝ }
     ensures { λ r. ⌜ (modulo (pos r) turn ≡ term-angle b c (p .t)) × (r < 2 ^ 63) ⌝ }
 {

@@ -1,5 +1,5 @@
 -- Numbers that are held in their range: what is answered, and what the calls ask. Assumes nothing.
-use mathlib.Core.Path.{_≡_, ap, _∙_, subst}
+use mathlib.Core.Path.{_≡_, ap, ap₂, _∙_, subst}
 use mathlib.Core.Bool.{true, false}
 use Prim.Native.Nat.{ℕ, _^_, _≤_, _<_}
 use native.Mathlib.Omega.{arith}
@@ -8,10 +8,12 @@ use borrow.Author.Tests.{le-leb, lt-leb}
 use lib.Dec.{leb}
 use lib.IntN.{ℤ, pos, natAbs, _+ℤ_, _*ℤ_}
 use Rattle.integers.proofs.Order.{natAbs-+, natAbs-*}
+use Rattle.units.specs.Units.{a-limit, b-limit, c-limit, t-limit}
+use Rattle.cosine.specs.Terms.{term-angle, term-value}
 use Rattle.rectangular.specs.Vectors.{length}
 use Rattle.direction.specs.Direction.{latitude}
 use Rattle.arith.proofs.Cells.{Cell, cell}
-use Rattle.inner_rules.specs.Inner.{held, reach}
+use Rattle.inner_rules.specs.Inner.{held, reach, a-last, b-last, c-last}
 
 pub held-in : (last m : ℕ) (x : ℤ) → m ≡ natAbs x → m ≤ last → (x ≡ held last x) × (natAbs x ≤ last)
 unfolding held
@@ -51,3 +53,23 @@ pub length-told : (r : ℕ) (x y z x′ y′ z′ : ℤ) → x ≡ x′ → y �
 length-told r x y z x′ y′ z′ e f g h =
     h ∙ ap (λ t. length (record { x = t; y = y; z = z })) e ∙ ap (λ t. length (record { x = x′; y = t; z = z })) f
     ∙ ap (λ t. length (record { x = x′; y = y′; z = t })) g
+
+pub light-asks : (d : ℕ) (x : ℤ) → d ≡ natAbs x → natAbs x ≤ reach → d < 2 ^ 46
+light-asks d x e h = omega arith
+
+pub term-asks : (a b c t : ℤ) (m : ℕ) → natAbs a ≤ a-last → natAbs b ≤ b-last → natAbs c ≤ c-last → natAbs t ≤ t-limit → m ≡ natAbs (Cell b)
+    → (natAbs (Cell a) < a-limit) × (m < b-limit) × (natAbs (Cell c) < c-limit) × (natAbs (Cell t) ≤ t-limit)
+term-asks a b c t m ha hb hc ht e = (
+  rw (cell a (omega arith)) (omega arith),
+  omega (arith, ap natAbs (cell b (omega arith))),
+  rw (cell c (omega arith)) (omega arith),
+  rw (cell t (omega arith)) ht,
+)
+
+-- Likewise the figures of a term.
+pub angle-told : (r b b′ : ℕ) (c t c′ t′ : ℤ) → b ≡ b′ → c ≡ c′ → t ≡ t′ → r ≡ term-angle b c t → r ≡ term-angle b′ c′ t′
+angle-told r b b′ c t c′ t′ f g k h = h ∙ ap (λ (z : ℕ). term-angle z c t) f ∙ ap₂ (term-angle b′) g k
+
+pub value-told : (r a a′ : ℤ) (b b′ : ℕ) (c t c′ t′ : ℤ) → a ≡ a′ → b ≡ b′ → c ≡ c′ → t ≡ t′ → r ≡ term-value a b c t → r ≡ term-value a′ b′ c′ t′
+value-told r a a′ b b′ c t c′ t′ e f g k h =
+    h ∙ ap (λ z. term-value z b c t) e ∙ ap (λ (z : ℕ). term-value a′ z c t) f ∙ ap₂ (term-value a′ b′) g k

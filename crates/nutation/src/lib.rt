@@ -1,7 +1,7 @@
 // Nutation and obliquity at an instant: RULES, "Places".
-mod moon;
+pub mod moon;
 mod polynomial;
-mod rows;
+pub mod rows;
 
 ghost use mathlib.Core.Path.{_≡_};
 ghost use Prim.Native.Nat.{_≤_, _^_};
@@ -47,7 +47,7 @@ pub struct Angles {
 }
 
 // The mean obliquity at t milliseconds, in 10^-5 arcsecond: its polynomial is in tau, so by t/T.
-fn mean_obliquity_at(t: i64) -> i64
+pub fn mean_obliquity_at(t: i64) -> i64
     requires { ⌜ natAbs t ≤ t-limit ⌝ }
     ensures { λ r. ⌜ (r ≡ mean-obliquity t) × (natAbs r ≤ 2 ^ 34) ⌝ }
 {

@@ -1,4 +1,4 @@
-// The five arguments at t milliseconds: RULES, "Places". For this crate alone.
+// The five arguments at t milliseconds: RULES, "Places". For this crate, and for the tests of inner rules.
 ghost use mathlib.Core.Path.{_≡_};
 ghost use Prim.Native.Nat.{_-_, _<_, _≤_, _^_};
 ghost use lib.IntN.{natAbs};

@@ -1,4 +1,4 @@
-// A row's terms, and the sums over all rows: RULES, "Places". For this crate alone.
+// A row's terms, and the sums over all rows: RULES, "Places". For this crate, and for the tests of inner rules.
 ghost use mathlib.Core.Path.{_≡_};
 ghost use Prim.Native.Nat.{_+_, _*_, _<_, _≤_, _^_};
 ghost use lib.IntN.{natAbs, _+ℤ_, _*ℤ_};

@@ -5,7 +5,7 @@ ghost use Rattle.place.specs.Mount.{mount-answer};
 
 mod bodies;
 mod doubles;
-mod steps;
+pub mod steps;
 
 use crate::bodies::sighting;
 use crate::doubles::figures;

@@ -1,4 +1,4 @@
-// The steps to an apparent place. For this crate alone.
+// The steps to an apparent place. What is public is for this crate, and for the tests of inner rules.
 ghost use mathlib.Core.Path.{_≡_};
 ghost use Prim.Native.Nat.{_<_, _≤_, _^_};
 ghost use lib.IntN.{pos, natAbs};
@@ -42,7 +42,7 @@ const LIGHT_STEP: u64 = 10000000;
 const LIGHT_REST: u64 = NS_PER_MS * PARTS / LIGHT_STEP;
 
 // The light time of a distance, in ms.
-fn light(distance: u64) -> i64
+pub fn light(distance: u64) -> i64
     requires { ⌜ distance < 2 ^ 46 ⌝ }
     ensures { λ r. ⌜ r ≡ light-time distance ⌝ }
 {

@@ -6,6 +6,8 @@ pub mod edges;
 pub mod generate;
 pub mod raw;
 
+use calls::{Outcome, PLAIN};
+use std::collections::HashMap;
 use std::path::PathBuf;
 
 pub fn repository(path: &str) -> PathBuf {
@@ -61,6 +63,38 @@ impl<'a> Fields<'a> {
 
     pub fn done(&mut self) -> bool {
         self.words.next().is_none()
+    }
+}
+
+/// A number of refusal and its figure, or 0 and what `answer` reads.
+pub fn expected<A>(fields: &mut Fields, answer: impl FnOnce(&mut Fields) -> A) -> Outcome<A> {
+    match fields.number() {
+        0 => Ok(answer(fields)),
+        number => Err((number as u64, fields.number())),
+    }
+}
+
+pub fn numbers<const N: usize>(fields: &mut Fields) -> [i64; N] {
+    [0; N].map(|_| fields.number())
+}
+
+/// The packed form of each published series.
+pub fn packed_series() -> HashMap<&'static str, Vec<u8>> {
+    let mut all = HashMap::new();
+    for planet in ["mercury", "venus", "earth"] {
+        let mut packed = vec![0; 200_000];
+        let length = (PLAIN.read_text)(&published(planet), &mut packed).expect("the published series is good");
+        packed.truncate(length);
+        all.insert(planet, packed);
+    }
+    all
+}
+
+/// The planet's and Earth's series of a line that begins with `name PLANET` or `hex PLANET EARTH`.
+pub fn two_series(fields: &mut Fields, published: &HashMap<&str, Vec<u8>>) -> (Vec<u8>, Vec<u8>) {
+    match fields.word() {
+        "name" => (published[fields.word()].clone(), published["earth"].clone()),
+        _ => (fields.bytes(), fields.bytes()),
     }
 }
 
