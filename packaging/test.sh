@@ -19,6 +19,10 @@ same() { # WHAT IS WANTED
     [ "$2" = "$3" ] || fail "$1: '$2', not '$3'"
 }
 
+made() { # WORDS..: of make, whose lines are shown if it fails
+    make "$@" >"$work/log" 2>&1 || { cat "$work/log"; fail "make $*"; }
+}
+
 is_there() { # COMMAND
     command -v "$1" >/dev/null 2>&1
 }
@@ -36,7 +40,7 @@ needs() { # PROGRAM: the shared libraries it names that are ours
     readelf -d "$1" | sed -n 's/.*(NEEDED).*\[\(libstephylax.*\)\]/\1/p'
 }
 
-make --no-print-directory install PREFIX="$prefix" >"$work/log" 2>&1 || { cat "$work/log"; fail "make install"; }
+made install PREFIX="$prefix"
 mkdir -p "$work/elsewhere/data"
 cd "$work/elsewhere"
 
@@ -98,18 +102,18 @@ venus    open all day"
 # Compiled Python goes too; then nothing is left.
 PYTHONPATH=$python PYTHONDONTWRITEBYTECODE='' python3 -c 'import stephylax'
 cd "$repository"
-make --no-print-directory uninstall PREFIX="$prefix" >"$work/log" 2>&1 || { cat "$work/log"; fail "make uninstall"; }
+made uninstall PREFIX="$prefix"
 same "what is left" "$(find "$prefix" -mindepth 1 2>/dev/null)" ""
 
 # DESTDIR stands before what is written, and is not told to anyone.
-make --no-print-directory install DESTDIR="$work/stage" PREFIX=/usr >"$work/log" 2>&1 || { cat "$work/log"; fail "make install DESTDIR"; }
+made install DESTDIR="$work/stage" PREFIX=/usr
 same "what is staged" "$(ls "$work/stage")" usr
 [ -x "$work/stage/usr/bin/stephylax" ] || fail "no command is staged"
 grep -rqF "$work/stage" "$work/stage/usr/lib/pkgconfig" "$work/stage/usr/share" && fail "a staged file names the stage"
 same "the staged prefix" "$(sed -n 's/^prefix=//p' "$work/stage/usr/lib/pkgconfig/stephylax.pc")" /usr
 # A file that is not ours stays, with its folder.
 touch "$work/stage/usr/bin/other"
-make --no-print-directory uninstall DESTDIR="$work/stage" PREFIX=/usr >"$work/log" 2>&1 || { cat "$work/log"; fail "make uninstall DESTDIR"; }
+made uninstall DESTDIR="$work/stage" PREFIX=/usr
 same "what is left of the stage" "$(find "$work/stage/usr" -mindepth 1)" "$work/stage/usr/bin
 $work/stage/usr/bin/other"
 echo "installed, used and removed"

@@ -25,8 +25,9 @@ import threading
 from typing import NamedTuple
 
 __all__ = [
-    "Answer", "Coordinates", "Date", "Moment", "Mount", "Place", "Refusal", "Refused", "Run", "TextReader", "apparent_place", "check",
-    "coordinates_at", "date_of_day", "date_of_instant", "day_of_date", "instant_of_date", "mount_place", "print_text", "read_text", "sun_list",
+    "Answer", "Coordinates", "Date", "Moment", "Mount", "Place", "Refusal", "Refused", "Run", "TextReader",
+    "apparent_place", "check", "coordinates_at", "date_of_day", "date_of_instant", "day_of_date", "instant_of_date",
+    "mount_place", "print_text", "read_text", "sun_list",
 ]
 
 

@@ -353,11 +353,12 @@ class Memory(unittest.TestCase):
         with self.assertRaises(BufferError):
             stephylax.read_text(b"0\n", bytes(4))
         shared = bytearray(b"0\n" * 18)
-        for text, packed in ((shared, shared), (memoryview(shared)[:20], memoryview(shared)[19:]), (memoryview(shared)[8:], memoryview(shared)[:9])):
+        view = memoryview(shared)
+        for text, packed in ((shared, shared), (view[:20], view[19:]), (view[8:], view[:9])):
             with self.assertRaises(ValueError):
                 stephylax.read_text(text, packed)
         self.assertEqual(shared, b"0\n" * 18)
-        self.assertEqual(outcome(stephylax.read_text, memoryview(shared)[:20], memoryview(shared)[20:]), (8, 20))
+        self.assertEqual(outcome(stephylax.read_text, view[:20], view[20:]), (8, 20))
         numbers = memoryview(bytearray(80))
         for runs in (numbers[1:73], numbers[:79]):
             with self.assertRaises(ValueError):
