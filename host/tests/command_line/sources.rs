@@ -96,7 +96,8 @@ fn an_installed_command() {
     std::fs::create_dir_all(prefix.join("bin")).unwrap();
     std::fs::create_dir_all(&data).unwrap();
     let installed = prefix.join("bin/stephylax");
-    std::fs::copy(env!("CARGO_BIN_EXE_stephylax"), &installed).unwrap();
+    let _ = std::fs::remove_file(&installed);
+    std::fs::hard_link(env!("CARGO_BIN_EXE_stephylax"), &installed).unwrap();
     std::fs::copy(repository("data/vsop87d/venus.txt"), data.join("venus.txt")).unwrap();
     let run = |planet: &str| {
         let mut command = Command::new(&installed);
