@@ -84,7 +84,8 @@ fn folders_of_series() {
     assert!(text(&named.stdout).contains(&earth), "{named:?}");
     let empty = command(&list).env("STEPHYLAX_DATA", "").output().unwrap();
     assert!(text(&empty.stdout).contains(&published_file("earth")), "{empty:?}");
-    fails(&["check", "pluto"], 3, "there is no planet `pluto`");
+    let pluto = published_file("earth").replace("earth.txt", "pluto.txt");
+    fails(&["check", "pluto"], 3, &format!("there is no planet `pluto`: {pluto} is not there"));
     fails(&["check", "venus", "--data", folder.to_str().unwrap()], 3, "there is no planet `venus`");
 }
 
