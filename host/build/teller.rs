@@ -1,5 +1,5 @@
-//! Tells the user what is going on. Cargo keeps a build script's output to itself, so it goes to the terminal, if there is one, as it
-//! comes; else cargo shows it as warnings when the script has ended.
+//! Tells the user what is going on. Cargo keeps a build script's output to itself, so it goes to the terminal, if there
+//! is one, as it comes; else cargo shows it as warnings when the script has ended.
 
 use std::fs::{File, OpenOptions};
 use std::io::Write;

@@ -86,7 +86,7 @@ fn dates_on_the_axis() {
     assert_eq!(asked(&["--days", "5"], dates), r#"["11", "12", "13", "14", "15"]"#);
     let rows = "(lambda r: all(a[1] != b[1] or b[0] - a[0] > 7 * len(a[2]) for a, b in zip(r, r[1:])))\
         (sorted([t for t in texts if t[2][:1].isdigit() and '°' not in t[2]], key=lambda t: (t[1], t[0])))";
-    for minutes in [1, 7, 59, 1000, 1500, 2880, 4000, 8000, 9000, 20_000, 60_000, 700_000] {
+    for minutes in [1, 7, 59, 1000, 1500, 2880, 4000, 8000, 9000, 20_000, 60_000, 200_000] {
         for start in ["00:00", "17:59:30"] {
             assert_eq!(asked(&[start, "--minutes", &minutes.to_string()], rows), "true", "{minutes} from {start}");
         }

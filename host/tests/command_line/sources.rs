@@ -84,7 +84,8 @@ fn folders_of_series() {
     assert!(text(&named.stdout).contains(&earth), "{named:?}");
     let empty = command(&list).env("STEPHYLAX_DATA", "").output().unwrap();
     assert!(text(&empty.stdout).contains(&published_file("earth")), "{empty:?}");
-    fails(&["check", "pluto"], 3, "there is no planet `pluto`");
+    let pluto = published_file("earth").replace("earth.txt", "pluto.txt");
+    fails(&["check", "pluto"], 3, &format!("there is no planet `pluto`: {pluto} is not there"));
     fails(&["check", "venus", "--data", folder.to_str().unwrap()], 3, "there is no planet `venus`");
 }
 
@@ -96,7 +97,8 @@ fn an_installed_command() {
     std::fs::create_dir_all(prefix.join("bin")).unwrap();
     std::fs::create_dir_all(&data).unwrap();
     let installed = prefix.join("bin/stephylax");
-    std::fs::copy(env!("CARGO_BIN_EXE_stephylax"), &installed).unwrap();
+    let _ = std::fs::remove_file(&installed);
+    std::fs::hard_link(env!("CARGO_BIN_EXE_stephylax"), &installed).unwrap();
     std::fs::copy(repository("data/vsop87d/venus.txt"), data.join("venus.txt")).unwrap();
     let run = |planet: &str| {
         let mut command = Command::new(&installed);

@@ -11,16 +11,13 @@ const IN_REPOSITORY: &str = "../data/vsop87d";
 /// The folder given, else STEPHYLAX_DATA, else what was installed beside the command, else the repository's. The current folder
 /// is never searched.
 pub fn folder(given: Option<&str>) -> Result<PathBuf, Failure> {
-    if let Some(folder) = given {
-        if folder.is_empty() {
-            return Err(Failure::Use("--data wants a folder".to_string()));
-        }
-        return Ok(PathBuf::from(folder));
+    if given == Some("") {
+        return Err(Failure::Use("--data wants a folder".to_string()));
     }
-    if let Some(folder) = std::env::var_os("STEPHYLAX_DATA").filter(|folder| !folder.is_empty()) {
-        return Ok(PathBuf::from(folder));
-    }
-    Ok(installed().unwrap_or(Path::new(env!("CARGO_MANIFEST_DIR")).join(IN_REPOSITORY)))
+    let in_environment = || std::env::var_os("STEPHYLAX_DATA").filter(|folder| !folder.is_empty()).map(PathBuf::from);
+    let in_repository = || Path::new(env!("CARGO_MANIFEST_DIR")).join(IN_REPOSITORY);
+    let folder = given.map(PathBuf::from).or_else(in_environment).or_else(installed).unwrap_or_else(in_repository);
+    Ok(folder.canonicalize().unwrap_or(folder))
 }
 
 fn installed() -> Option<PathBuf> {

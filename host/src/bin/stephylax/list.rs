@@ -103,11 +103,11 @@ fn lists<'a>(
 fn give(lists: &Lists, arguments: &Arguments, report: &mut Report) -> Result<(), Failure> {
     let svg = arguments.option("--svg");
     if report.is_json() {
-        report.give("", json(lists)?)?;
+        report.give_json(json(lists)?)?;
     } else if arguments.flag("--csv") {
-        report.give(&csv(lists)?, Json::Null)?;
+        report.give_text(&csv(lists)?)?;
     } else if !arguments.flag("--quiet") && svg != Some("-") {
-        report.give(&table(lists)?, Json::Null)?;
+        report.give_text(&table(lists)?)?;
     }
     svg.map_or(Ok(()), |path| write(path, picture(lists)?.as_bytes()))
 }

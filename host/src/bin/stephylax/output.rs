@@ -38,12 +38,18 @@ pub fn write(path: &str, bytes: &[u8]) -> Result<(), Failure> {
     if path == "-" {
         return put(bytes);
     }
-    let written = match std::fs::metadata(path) {
-        // A device or a pipe takes the bytes as they are.
-        Ok(data) if !data.is_file() => OpenOptions::new().write(true).open(path).and_then(|mut f| f.write_all(bytes)),
-        _ => replace(Path::new(path), bytes),
+    let written = if is_stream(path) {
+        OpenOptions::new().append(true).open(path).and_then(|mut stream| stream.write_all(bytes))
+    } else {
+        replace(Path::new(path), bytes)
     };
     written.map_err(|error| Failure::File(format!("{path} cannot be written: {error}")))
+}
+
+/// A device, a pipe, or a stream that is open already, as /dev/stdout, takes the bytes as they are.
+fn is_stream(path: &str) -> bool {
+    let open = ["/dev/", "/proc/"].iter().any(|folder| path.starts_with(folder));
+    open || std::fs::metadata(path).is_ok_and(|data| !data.is_file())
 }
 
 /// Writes a new file beside the old one and gives it that one's name, so that there is never half a file.

@@ -110,6 +110,18 @@ fn asked(arguments: &Arguments) -> Result<(&str, i64, Option<Steps>), Failure> {
     Ok((planet, t0, steps))
 }
 
+/// The places at every step, or at the one instant.
+fn all(sight: Sight, t0: i64, steps: Option<&Steps>, mount: bool) -> Result<Vec<Seen>, Failure> {
+    let (count, every) = steps.map_or((1, 0), |steps| (steps.count(), steps.every));
+    let mut progress = Progress::new(count);
+    let mut all = Vec::new();
+    for i in 0..count {
+        all.push(seen(sight, t0 + every * i, mount)?);
+        progress.step(1, &format!("{} of {count} places", i + 1));
+    }
+    Ok(all)
+}
+
 pub fn place(rest: &[String], report: &mut Report) -> Result<Done, Failure> {
     let valued = ["--data", "--earth", "--every", "--days", "--minutes"];
     let arguments = Arguments::sorted(rest, &valued, &["--mount", "--csv"])?;
@@ -118,25 +130,18 @@ pub fn place(rest: &[String], report: &mut Report) -> Result<Done, Failure> {
     let bodies = bodies(&[planet], &arguments)?;
     report.sources = sources(&bodies[..1], &bodies[1]);
     let sight = Sight { planet: &bodies[0], earth: &bodies[1] };
-    let (count, every) = steps.as_ref().map_or((1, 0), |steps| (steps.count(), steps.every));
-    let mut progress = Progress::new(count);
-    let mut all = Vec::new();
-    for i in 0..count {
-        all.push(seen(sight, t0 + every * i, arguments.flag("--mount"))?);
-        progress.step(1, &format!("{} of {count} places", i + 1));
-    }
-    drop(progress);
+    let all = all(sight, t0, steps.as_ref(), arguments.flag("--mount"))?;
     if report.is_json() {
         let places = all.iter().map(json).collect::<Result<_, _>>()?;
-        report.give("", Json::Object(vec![("places", Json::List(places))]))?;
+        report.give_json(Json::Object(vec![("places", Json::List(places))]))?;
     } else if arguments.flag("--csv") {
-        report.give(&csv(sight, &all)?, Json::Null)?;
+        report.give_text(&csv(sight, &all)?)?;
     } else if arguments.flag("--mount") {
-        report.give(&mount_lines(&all), Json::Null)?;
+        report.give_text(&mount_lines(&all))?;
     } else if let Some(steps) = steps {
-        report.give(&table(sight, &steps, &all)?, Json::Null)?;
+        report.give_text(&table(sight, &steps, &all)?)?;
     } else {
-        report.give(&one(sight, &all[0])?, Json::Null)?;
+        report.give_text(&one(sight, &all[0])?)?;
     }
     Ok(Done::Answered)
 }

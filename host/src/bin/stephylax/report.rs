@@ -27,13 +27,22 @@ impl Report {
         self.json
     }
 
-    /// Prints the answer.
+    /// Prints the answer in the form that is asked for.
     pub fn give(&mut self, text: &str, answer: Json) -> Result<(), Failure> {
-        self.given = true;
         if self.json {
-            return put(format!("{}\n", self.document("answered", Some(answer), None)).as_bytes());
+            return self.give_json(answer);
         }
+        self.give_text(text)
+    }
+
+    pub fn give_text(&mut self, text: &str) -> Result<(), Failure> {
+        self.given = true;
         put(text.as_bytes())
+    }
+
+    pub fn give_json(&mut self, answer: Json) -> Result<(), Failure> {
+        self.given = true;
+        put(format!("{}\n", self.document("answered", Some(answer), None)).as_bytes())
     }
 
     /// Tells on standard error why there is no answer, and as JSON on standard output too.

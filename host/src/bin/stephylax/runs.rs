@@ -32,8 +32,8 @@ fn failure(sight: Sight, refusal: Refusal, window: &Window, start: i64) -> Failu
     }
 }
 
-/// Asks for the last minute of a long window first, so that one that reaches past the limit is not worked in vain. Whether places are
-/// usable is left to the parts, which find the first minute that is not.
+/// Asks for the last minute of a long window first, so that one that reaches past the limit is not worked in vain.
+/// Whether places are usable is left to the parts, which find the first minute that is not.
 fn judge_last_minute(sight: Sight, window: &Window, keep_out: i64) -> Result<(), Failure> {
     let Sight { planet, earth } = sight;
     match sun_list(&planet.packed, &earth.packed, window.last_minute(), 1, keep_out, &mut [0; 2]) {

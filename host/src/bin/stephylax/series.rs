@@ -86,7 +86,6 @@ fn planet(name: &str, data: Option<&str>) -> Result<Series, Failure> {
             path.display()
         )));
     }
-    let path = path.canonicalize().unwrap_or(path);
     of_bytes(format!("{}{}", name[..1].to_ascii_uppercase(), &name[1..]), &path, Kind::Text, read(&path)?)
 }
 

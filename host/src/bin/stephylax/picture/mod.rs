@@ -1,4 +1,5 @@
-//! The picture of Sun lists: for each planet a band with its separation over the window, the listed minutes and the keep-out angle.
+//! The picture of Sun lists: for each planet a band with its separation over the window, the listed minutes and the
+//! keep-out angle.
 //!
 //! The curve is worked in floating point from the library's coordinates and is for the eye; the shaded minutes are the
 //! library's list.
