@@ -1,3 +1,6 @@
--- The lines are right: `Decided` works the exact test with each figure once, `Lines` the table.
+-- The lines are right: in line with the Sun by `Decided`, which works the exact test with each figure once, in `Lines`; at an angle by `Angled`, which
+-- has it from the working test, in `Sights`.
 pub mod Decided
 pub mod Lines
+pub mod Angled
+pub mod Sights

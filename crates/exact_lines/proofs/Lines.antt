@@ -1,4 +1,4 @@
--- Every line of the table is right, by computation.
+-- Every line of the first table is right, by computation.
 -- Assumes nothing.
 use mathlib.Core.Path.{_≡_, refl}
 use mathlib.Core.Bool.{Bool, true, false}

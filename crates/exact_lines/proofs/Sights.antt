@@ -1,0 +1,172 @@
+-- What is worked at the sights of the lines at an angle, and what the working test says there. Assumes nothing.
+use mathlib.Core.Path.{refl}
+use mathlib.Core.Bool.{true}
+use Prim.Native.Nat.{ℕ}
+use lib.Dec.{lit<, lit≤}
+use lib.IntN.{ℤ, pos, negℤ}
+use Rattle.integers.specs.Division.{floor, rounded, modulo}
+use Rattle.packed_numbers.specs.Numbers.{next, closed, groups-from, number, groups, encode, folded, unfolded}
+use Rattle.limits.specs.Limits.{constant, weight, opened, added, summed, after-block, factor, count-fits, a-fits, b-fits, c-fits, total-fits, coarse-fits}
+use Rattle.packed.specs.Series.{judged, read-a, read-b, read-c, read-term, read-terms, read-block, read-blocks, read-series, ended, parse}
+use Rattle.packed.specs.Series.{pack-term, pack-terms, pack-block, pack}
+use Rattle.cosine.specs.Cosine.{q-of, r-of, w-of, y-of, horner, even-part, odd-part, cosine-by, sine-by, working-cosine, working-sine, cosine, sine}
+use Rattle.cosine.specs.Terms.{term-angle, term-cosine, term-value}
+use Rattle.pieces.specs.Sums.{block-sum}
+use Rattle.series.specs.Sums.{running-sum, longitude-blocks, latitude-blocks, radius-blocks, coordinates}
+use Rattle.rectangular.specs.Rectangular.{rectangular, place}
+use Rattle.rectangular.specs.Vectors.{geocentric, sun, squared}
+use Rattle.rectangular.specs.Sight.{radius-usable, usable}
+use Rattle.separation.specs.Listed.{squared-separation, threshold}
+use Rattle.exact_lines.specs.Lines.{Line, All-right, at-an-angle, late, between, early, first-minute, next-minute}
+use Rattle.exact_lines.specs.Lines.{line-177, line-178, line-181, line-185, line-188, line-189}
+use Rattle.exact_lines.specs.Lines.{line-257, line-260, line-261, line-302, line-304, line-305}
+use Rattle.exact_lines.proofs.Angled.{Worked, outside, inside}
+
+abbrev minus : ℕ → ℤ
+minus n = negℤ (pos n)
+
+abbrev Worked-line : Line → Type 0
+Worked-line l = Worked (l .t) (l .planet) (l .earth)
+
+-- Neither k nor what a line says of it changes what is worked.
+unfoldable worked : Worked-line (late 0 true) × Worked-line (between 0 true) × Worked-line (early 0 true) × Worked-line (first-minute 0 true)
+    × Worked-line (next-minute 0 true)
+unfolding floor rounded modulo next closed groups-from number groups encode folded unfolded constant weight opened added summed after-block factor
+    count-fits a-fits b-fits c-fits total-fits coarse-fits judged read-a read-b read-c read-term read-terms read-block read-blocks read-series ended parse
+    pack-term pack-terms pack-block pack q-of r-of w-of y-of horner even-part odd-part cosine-by sine-by working-cosine working-sine cosine sine term-angle
+    term-cosine term-value block-sum running-sum longitude-blocks latitude-blocks radius-blocks coordinates rectangular place geocentric sun squared
+    radius-usable usable
+worked = (
+  record {
+    p = record { longitude = pos 507209511301; latitude = minus 6707974031; radius = pos 68435804865 };
+    e = record { longitude = pos 444630145945; latitude = pos 0; radius = pos 189478458001 };
+    s = record { x = pos 49825003689; y = pos 182810161197; z = pos 0 };
+    g = record { x = pos 73860174509; y = pos 118898288895; z = minus 4587214018 };
+    s-length = 189478457956;
+    g-length = 140047031432;
+    planet-in = refl;
+    earth-in = refl;
+    time-in = lit≤ tt;
+    p-is = refl;
+    e-is = refl;
+    s-is = refl;
+    g-is = refl;
+    s-root = record { low = lit≤ tt; high = lit< tt };
+    g-root = record { low = lit≤ tt; high = lit< tt };
+    usable-is = refl;
+  },
+  record {
+    p = record { longitude = pos 395433127974; latitude = pos 2416989090; radius = pos 60544433775 };
+    e = record { longitude = pos 71665802132; latitude = pos 0; radius = pos 146120021771 };
+    s = record { x = minus 110175252733; y = minus 95981636014; z = pos 0 };
+    g = record { x = minus 151788137770; y = minus 139934511598; z = pos 1463209904 };
+    s-length = 146120021785;
+    g-length = 206454467830;
+    planet-in = refl;
+    earth-in = refl;
+    time-in = lit≤ tt;
+    p-is = refl;
+    e-is = refl;
+    s-is = refl;
+    g-is = refl;
+    s-root = record { low = lit≤ tt; high = lit< tt };
+    g-root = record { low = lit≤ tt; high = lit< tt };
+    usable-is = refl;
+  },
+  record {
+    p = record { longitude = pos 283753724344; latitude = minus 6347607688; radius = pos 49119090154 };
+    e = record { longitude = pos 477989645706; latitude = pos 0; radius = pos 54303004643 };
+    s = record { x = minus 3663075102; y = pos 54179315214; z = pos 0 };
+    g = record { x = minus 50434696625; y = pos 68855563579; z = minus 3115793791 };
+    s-length = 54303004670;
+    g-length = 85407584150;
+    planet-in = refl;
+    earth-in = refl;
+    time-in = lit≤ tt;
+    p-is = refl;
+    e-is = refl;
+    s-is = refl;
+    g-is = refl;
+    s-root = record { low = lit≤ tt; high = lit< tt };
+    g-root = record { low = lit≤ tt; high = lit< tt };
+    usable-is = refl;
+  },
+  record {
+    p = record { longitude = minus 220001349603881702; latitude = pos 0; radius = pos 60000000000 };
+    e = record { longitude = pos 220001349603881702; latitude = pos 0; radius = pos 100000000000 };
+    s = record { x = minus 98978905900; y = minus 14253988400; z = pos 0 };
+    g = record { x = minus 39591562360; y = minus 22806381440; z = pos 0 };
+    s-length = 99999999992;
+    g-length = 45690511536;
+    planet-in = refl;
+    earth-in = refl;
+    time-in = lit≤ tt;
+    p-is = refl;
+    e-is = refl;
+    s-is = refl;
+    g-is = refl;
+    s-root = record { low = lit≤ tt; high = lit< tt };
+    g-root = record { low = lit≤ tt; high = lit< tt };
+    usable-is = refl;
+  },
+  record {
+    p = record { longitude = minus 220001321651221707; latitude = pos 0; radius = pos 60000000000 };
+    e = record { longitude = pos 220001321651221707; latitude = pos 0; radius = pos 100000000000 };
+    s = record { x = minus 99069838900; y = pos 13607608500; z = pos 0 };
+    g = record { x = minus 39627935560; y = pos 21772173600; z = pos 0 };
+    s-length = 99999999943;
+    g-length = 45215050812;
+    planet-in = refl;
+    earth-in = refl;
+    time-in = lit≤ tt;
+    p-is = refl;
+    e-is = refl;
+    s-is = refl;
+    g-is = refl;
+    s-root = record { low = lit≤ tt; high = lit< tt };
+    g-root = record { low = lit≤ tt; high = lit< tt };
+    usable-is = refl;
+  },
+)
+
+-- The lines at an angle are right.
+pub at-an-angle-right : All-right at-an-angle
+unfolding worked floor rounded modulo q-of r-of w-of y-of horner even-part odd-part cosine-by sine-by working-cosine working-sine cosine sine geocentric
+    squared squared-separation threshold
+at-an-angle-right = (
+  outside (worked .0) (line-177 .k) (lit≤ tt) (lit≤ tt) refl,
+  (
+    outside (worked .0) (line-178 .k) (lit≤ tt) (lit≤ tt) refl,
+    (
+      inside (worked .0) (line-181 .k) (lit≤ tt) (lit≤ tt) refl,
+      (
+        outside (worked .1) (line-185 .k) (lit≤ tt) (lit≤ tt) refl,
+        (
+          inside (worked .1) (line-188 .k) (lit≤ tt) (lit≤ tt) refl,
+          (
+            inside (worked .1) (line-189 .k) (lit≤ tt) (lit≤ tt) refl,
+            (
+              outside (worked .2) (line-257 .k) (lit≤ tt) (lit≤ tt) refl,
+              (
+                inside (worked .2) (line-260 .k) (lit≤ tt) (lit≤ tt) refl,
+                (
+                  inside (worked .2) (line-261 .k) (lit≤ tt) (lit≤ tt) refl,
+                  (
+                    outside (worked .3) (line-302 .k) (lit≤ tt) (lit≤ tt) refl,
+                    (
+                      outside (worked .3) (line-304 .k) (lit≤ tt) (lit≤ tt) refl,
+                      (
+                        inside (worked .4) (line-305 .k) (lit≤ tt) (lit≤ tt) refl,
+                        tt,
+                      ),
+                    ),
+                  ),
+                ),
+              ),
+            ),
+          ),
+        ),
+      ),
+    ),
+  ),
+)
