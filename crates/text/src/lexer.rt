@@ -16,7 +16,7 @@ pub const SPOT_DECIMAL: u64 = 0;
 
 pub const SPOT_POINT: u64 = WHOLE_DIGITS + 1;
 
-const SPOT_DONE: u64 = SPOT_POINT + PART_DIGITS;
+pub const SPOT_DONE: u64 = SPOT_POINT + PART_DIGITS;
 
 pub const SPOT_COUNT: u64 = 20;
 

@@ -2,6 +2,7 @@
 use crate::READING;
 use crate::Reader;
 use crate::lexer::PART_DIGITS;
+use crate::lexer::SPOT_DONE;
 use crate::lexer::SPOT_LAST;
 use crate::lexer::SPOT_POINT;
 use crate::lexer::VALUE_LIMIT;
@@ -10,7 +11,7 @@ use crate::steps::LAST_OFFSET;
 use crate::steps::in_line;
 ghost use mathlib.Core.Path.{_≡_};
 ghost use mathlib.Core.Bool.{true};
-ghost use Rattle.text.specs.machine.Parts.{After-point, Part-at, Goes-on};
+ghost use Rattle.text.specs.machine.Parts.{run-end, After-point, Part-at, Goes-on};
 
 // The reader after some bytes, and the index of the next one.
 pub struct Taken {
@@ -35,11 +36,21 @@ fn after_point(r: Reader) -> bool
     SPOT_POINT <= l.spot
 }
 
-// A digit stands there, and goes on after so much: it is no decimal's last part, which may be refused.
-fn part_at(text: &[u8], i: usize, spot: u64, value: u64) -> bool
-    ensures { λ t. ⌜ (t ≡ true → Part-at (now (text .entry)) i spot value) ⌝ }
+// How far a run may go: with a minus the last part may be refused.
+fn run_end(minus: u64) -> u64
+    ensures { λ r. ⌜ r ≡ run-end minus ⌝ }
 {
-    if SPOT_LAST <= spot {
+    if minus == 0 {
+        return SPOT_DONE;
+    }
+    SPOT_LAST
+}
+
+// A digit stands there, and goes on after so much, in a run that ends at that spot.
+fn part_at(text: &[u8], i: usize, spot: u64, value: u64, end: u64) -> bool
+    ensures { λ t. ⌜ (t ≡ true → Part-at (now (text .entry)) i spot value end) ⌝ }
+{
+    if end <= spot {
         return false;
     }
     if VALUE_LIMIT <= value {
@@ -66,10 +77,11 @@ pub fn take_parts(r: Reader, text: &[u8], from: usize) -> Taken
         };
     }
     let l = r.line;
+    let end = run_end(l.minus);
     let mut spot = l.spot;
     let mut value = l.value;
     let mut i = from;
-    while part_at(text, i, spot, value) {
+    while part_at(text, i, spot, value, end) {
         value = 10 * value + (text[i] - b'0') as u64;
         spot = spot + 1;
         i = i + 1;

@@ -1,7 +1,9 @@
 -- What the code asks of a run of digits after a decimal's point. Held by the code, no part of the rules.
+use mathlib.Core.Bool.{cond}
 use mathlib.Core.List.{List}
 use mathlib.Core.Path.{_≡_}
 use Prim.Native.Nat.{ℕ, _+_, _-_, _≤_, _<_}
+use lib.Dec.{eqb}
 use lib.ListN.{length, drop, getD}
 use Rattle.text.specs.declared.Reader.{Reader}
 use Rattle.text.specs.Grammar.{digit-0, part-digits}
@@ -15,9 +17,13 @@ pub record After-point (r : Reader) : Type 0 where
   pub counts : r .at + part-digits ≤ last-offset
   pub begun : spot-point ≤ r .line .spot
 
--- The byte at i is a digit that goes on at a spot among the parts, after a value.
-pub record Part-at (text : List ℕ) (i spot value : ℕ) : Type 0 where
-  pub early : spot < spot-done - 1
+-- How far a run of parts may go: with a minus the last part may be refused.
+unfoldable pub run-end : ℕ → ℕ
+run-end minus = cond (eqb minus 0) spot-done (spot-done - 1)
+
+-- The byte at i is a digit that goes on at a spot before an end, after a value.
+pub record Part-at (text : List ℕ) (i spot value end : ℕ) : Type 0 where
+  pub early : spot < end
   pub small : value < value-limit
   pub inside : i < length text
   pub least : digit-0 ≤ getD text i 0

@@ -4,23 +4,24 @@ use native.Mathlib.Omega.{arith}
 use borrow.Author.Needs.{needs}
 use borrow.Author.Tests.{not-false}
 use Rattle.text.specs.Lexer.{spot-done}
-use Rattle.text.specs.machine.Parts.{After-point, Part-at}
-use Rattle.text.proofs.DigitRuns.{Parted, parted-none, parted-more, parted-done, as-it-stands}
+use Rattle.text.specs.machine.Parts.{run-end, After-point, Part-at}
+use Rattle.text.proofs.DigitRuns.{short, Parted, parted-none, parted-more, parted-done, as-it-stands}
 use Rattle.text.proofs.parts.take_parts.Statement.{statement}
 use Rattle.text.proofs.parts.take_parts.Tie as tie
 
 abbrev Inv-loop : tie.InvT-loop
-Inv-loop r text from l spot₀ value₀ i₀ spot value i = Parted r text from spot value i
+Inv-loop r text from l end spot₀ value₀ i₀ spot value i = Parted r text from spot value i
 
 abbrev μ-loop : tie.MeasureT-loop
-μ-loop r text from l spot₀ value₀ i₀ spot value i = spot-done - spot
+μ-loop r text from l end spot₀ value₀ i₀ spot value i = spot-done - spot
 
 stands : (c : tie.Else1 Inv-loop μ-loop) → After-point (c .before .before .before .args .r)
 stands c = c .before .after-point .ensures (not-false _ (c .if1 .left))
 
 came : (c : tie.Then2 Inv-loop μ-loop)
-    → let l = c .before .before .loop in Part-at (c .before .before .before .before .before .before .before .args .text .now) (l .i) (l .spot) (l .value)
-came c = c .before .part-at .ensures (c .if2 .taken)
+    → let l = c .before .before .loop in let a = c .before .before .before .before .before .before .before .before .args
+    in Part-at (a .text .now) (l .i) (l .spot) (l .value) (run-end (a .r .line .minus))
+came c = rw (c .before .before .before .run-end .ensures) at (c .before .part-at .ensures (c .if2 .taken))
 
 after-point-requires : tie.Need-after-point-requires Inv-loop μ-loop
 after-point-requires c κs = search needs
@@ -30,8 +31,11 @@ returns c = let a = c .before .before .before .args in as-it-stands (a .r) (a .t
 
 loop-holds : tie.Need-loop-holds Inv-loop μ-loop
 loop-holds c =
-    let a = c .before .before .before .before .args in
-    parted-none (a .r) (a .text .now) (a .from) (stands (c .before))
+    let a = c .before .before .before .before .before .args in
+    parted-none (a .r) (a .text .now) (a .from) (stands (c .before .before))
+
+run-end-requires : tie.Need-run-end-requires Inv-loop μ-loop
+run-end-requires c κs = search needs
 
 part-at-requires : tie.Need-part-at-requires Inv-loop μ-loop
 part-at-requires c κs = search needs
@@ -58,12 +62,14 @@ add-i : tie.Need-add-i Inv-loop μ-loop
 add-i c = omega (arith, came (c .before) .inside)
 
 loop-less : tie.Need-loop-less Inv-loop μ-loop
-loop-less c = omega (arith, came (c .before) .early)
+loop-less c =
+    let a = c .before .before .before .before .before .before .before .before .before .args in
+    omega (arith, came (c .before) .early, short (a .r .line .minus))
 
 loop-again : tie.Need-loop-again Inv-loop μ-loop
 loop-again c =
     let l = c .before .before .before .loop in
-    let start = c .before .before .before .before .before in
+    let start = c .before .before .before .before .before .before in
     let a = start .before .before .before .args in
     parted-more (a .r) (a .text .now) (a .from) (l .spot) (l .value) (l .i) (stands start) (l .inv) (came (c .before))
 
@@ -76,7 +82,7 @@ sub-in-line c = c .before .before .before .loop .inv .onward
 add-in-line : tie.Need-add-in-line Inv-loop μ-loop
 add-in-line c =
     let turn = c .before .before .before .before in
-    omega (arith, turn .loop .inv .few, stands (turn .before .before) .counts)
+    omega (arith, turn .loop .inv .few, stands (turn .before .before .before) .counts)
 
 in-line-requires : tie.Need-in-line-requires Inv-loop μ-loop
 in-line-requires c κs = search needs
@@ -85,9 +91,9 @@ returns-2 : tie.Need-returns-2 Inv-loop μ-loop
 returns-2 c =
     let turn = c .before .before .before .before .before in
     let l = turn .loop in
-    let a = turn .before .before .before .before .before .args in
+    let a = turn .before .before .before .before .before .before .args in
     rw (c .in-line .ensures, c .before .before .put .ensures)
-    (parted-done (a .r) (a .text .now) (a .from) (l .spot) (l .value) (l .i) (stands (turn .before .before)) (l .inv))
+    (parted-done (a .r) (a .text .now) (a .from) (l .spot) (l .value) (l .i) (stands (turn .before .before .before)) (l .inv))
 
 pub take-parts-spec : {M : Type 1} → statement M
 take-parts-spec =
@@ -97,6 +103,7 @@ take-parts-spec =
     μ-loop
     after-point-requires
     returns
+    run-end-requires
     loop-holds
     part-at-requires
     mul-value
