@@ -60,12 +60,12 @@ stopped r status =
       place = r .at;
     }
 
--- One byte further in the line.
-abbrev pub further-in-line : Reader → Line → Reader
-further-in-line r line =
+-- In a line of which so much has come, before the byte at an offset.
+abbrev pub in-line : Reader → Line → ℕ → Reader
+in-line r line at =
     record {
       line = line;
-      at = r .at + 1;
+      at = at;
       written = r .written;
       blocks = r .blocks;
       left = r .left;
@@ -75,6 +75,10 @@ further-in-line r line =
       status = reading;
       place = 0;
     }
+
+-- One byte further in the line.
+abbrev pub further-in-line : Reader → Line → Reader
+further-in-line r line = in-line r line (r .at + 1)
 
 -- The next line has a term, or a count, or nothing more may come.
 unfoldable pub next-spot : ℕ → ℕ → ℕ

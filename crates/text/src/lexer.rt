@@ -9,14 +9,14 @@ const COUNT_DIGITS: u64 = 4;
 
 const WHOLE_DIGITS: u64 = 6;
 
-const PART_DIGITS: u64 = 11;
+pub const PART_DIGITS: u64 = 11;
 
 // Where the next byte of a line stands; specs/Lexer.antt has the same names. A digit moves it by one.
 pub const SPOT_DECIMAL: u64 = 0;
 
-const SPOT_POINT: u64 = WHOLE_DIGITS + 1;
+pub const SPOT_POINT: u64 = WHOLE_DIGITS + 1;
 
-const SPOT_DONE: u64 = SPOT_POINT + PART_DIGITS;
+pub const SPOT_DONE: u64 = SPOT_POINT + PART_DIGITS;
 
 pub const SPOT_COUNT: u64 = 20;
 
@@ -25,14 +25,14 @@ pub const SPOT_AFTER: u64 = 30;
 pub const SPOT_BAD: u64 = 31;
 
 // Before the last digit of a decimal, after the last digit that a count may have, and past that.
-const SPOT_LAST: u64 = SPOT_DONE - 1;
+pub const SPOT_LAST: u64 = SPOT_DONE - 1;
 
 const SPOT_FULL: u64 = SPOT_COUNT + COUNT_DIGITS;
 
 const SPOT_PAST: u64 = SPOT_FULL + 1;
 
 // A value that no line has: a digit more might not fit.
-const VALUE_LIMIT: u64 = 1000000000000000000;
+pub const VALUE_LIMIT: u64 = 1000000000000000000;
 
 // A line of which nothing is read.
 pub fn fresh_line(spot: u64) -> Line
@@ -51,7 +51,7 @@ pub fn fresh_line(spot: u64) -> Line
 }
 
 // The line put at another spot, with another number so far.
-fn put(l: Line, spot: u64, minus: u64, value: u64) -> Line
+pub fn put(l: Line, spot: u64, minus: u64, value: u64) -> Line
     ensures { λ r. ⌜ r ≡ Rattle.text.specs.Lexer.put l spot minus value ⌝ }
 {
     Line {

@@ -2,9 +2,11 @@
 // one buffer that each call lends.
 mod judge;
 mod lexer;
+mod parts;
 mod steps;
 mod writer;
 
+use crate::parts::take_parts;
 use crate::steps::close;
 use crate::steps::refusal_of;
 use crate::steps::take_byte;
@@ -82,8 +84,10 @@ pub fn piece(r: Reader, text: &[u8], out: &mut [u8]) -> Reader
     let mut reader = r;
     let mut i = 0;
     while i < text.len() {
-        reader = take_byte(reader, text[i], out);
-        i = i + 1;
+        let next = take_byte(reader, text[i], out);
+        let taken = take_parts(next, text, i + 1);
+        reader = taken.reader;
+        i = taken.next;
     }
     reader
 }

@@ -1,5 +1,6 @@
 // The reader's steps: one byte, the end of a line, the end of the text.
 use crate::ACCEPTED;
+use crate::Line;
 use crate::READING;
 use crate::Reader;
 use crate::judge::count_refusal;
@@ -24,10 +25,10 @@ use units::Refusal;
 ghost use mathlib.Core.Path.{_≡_};
 ghost use Prim.Native.Nat.{_+_, _-_, _<_};
 ghost use Rattle.text.specs.Judge.{count-end, term-end, verdict};
-ghost use Rattle.text.specs.Reader.{last-offset, stopped, next-spot, advanced, wrote, wrote-out, other, step, step-out, ended, refusal};
+ghost use Rattle.text.specs.Reader.{last-offset, stopped, next-spot, advanced, in-line, wrote, wrote-out, other, step, step-out, ended, refusal};
 
 // The greatest offset; specs/Reader.antt has the same name.
-const LAST_OFFSET: usize = 18446744073709551615;
+pub const LAST_OFFSET: usize = 18446744073709551615;
 
 // The reader with its answer.
 fn stop(r: Reader, status: u64) -> Reader
@@ -156,6 +157,24 @@ fn end_line(r: Reader, out: &mut [u8]) -> Reader
     stop(r, 3)
 }
 
+// The reader in a line of which so much has come, before the byte at an offset.
+pub fn in_line(r: Reader, line: Line, at: usize) -> Reader
+    ensures { λ s. ⌜ s ≡ in-line r line at ⌝ }
+{
+    Reader {
+        line,
+        at,
+        written: r.written,
+        blocks: r.blocks,
+        left: r.left,
+        terms: r.terms,
+        total: r.total,
+        coarse: r.coarse,
+        status: READING,
+        place: 0,
+    }
+}
+
 // A byte that is no line feed.
 fn take_other(r: Reader, byte: u8) -> Reader
     requires { ⌜ r .at < last-offset ⌝ }
@@ -166,18 +185,7 @@ fn take_other(r: Reader, byte: u8) -> Reader
     if next.spot == SPOT_BAD {
         return stop(r, 3);
     }
-    Reader {
-        line: next,
-        at: r.at + 1,
-        written: r.written,
-        blocks: r.blocks,
-        left: r.left,
-        terms: r.terms,
-        total: r.total,
-        coarse: r.coarse,
-        status: READING,
-        place: 0,
-    }
+    in_line(r, next, r.at + 1)
 }
 
 // One byte.

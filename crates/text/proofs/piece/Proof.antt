@@ -24,20 +24,26 @@ shared-slice-read-take-byte c = omega arith
 take-byte-requires : tie.Need-take-byte-requires Inv-loop μ-loop
 take-byte-requires c κs = search needs
 
-add-i : tie.Need-add-i Inv-loop μ-loop
-add-i c = omega arith
+add-take-parts : tie.Need-add-take-parts Inv-loop μ-loop
+add-take-parts c = omega arith
+
+take-parts-requires : tie.Need-take-parts-requires Inv-loop μ-loop
+take-parts-requires c κs = search needs
 
 loop-less : tie.Need-loop-less Inv-loop μ-loop
-loop-less c = omega arith
+loop-less c = omega (arith, c .before .take-parts .ensures .onward)
 
 loop-again : tie.Need-loop-again Inv-loop μ-loop
 loop-again c =
-    let byte = c .before .before in
+    let parts = c .before .take-parts in
+    let byte = c .before .before .before .before in
     let turn = byte .before .before .before .before in
     let s = turn .before .before .before .args .text .now in
     let l = turn .loop in
-    let t = byte .take-byte in
-    (t .kept .1 .1 .0 ∙ l .inv .0, sym (run-more _ _ _ _ s (l .i) _ refl (omega arith) (t .ensures .0) (t .ensures .1)) ∙ l .inv .1)
+    let t = byte .take-byte in (
+      t .kept .1 .1 .0 ∙ l .inv .0,
+      parts .ensures .same _ ∙ sym (run-more _ _ _ _ s (l .i) _ refl (omega arith) (t .ensures .0) (t .ensures .1)) ∙ l .inv .1,
+    )
 
 same-length : tie.Need-same-length Inv-loop μ-loop
 same-length c = c .before .loop .inv .0
@@ -56,7 +62,8 @@ piece-spec =
     loop-holds
     shared-slice-read-take-byte
     take-byte-requires
-    add-i
+    add-take-parts
+    take-parts-requires
     loop-less
     loop-again
     same-length

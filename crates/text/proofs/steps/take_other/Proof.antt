@@ -1,4 +1,5 @@
 -- `text::steps::take_other` meets its contract. Assumes nothing.
+use mathlib.Core.Path.{_∙_}
 use native.Mathlib.Omega.{arith}
 use borrow.Author.Needs.{needs}
 use Rattle.text.proofs.Branches.{other-bad, other-good}
@@ -16,13 +17,16 @@ returns c =
     let a = c .before .before .before .before .before .args in
     other-bad (a .r) _ _ (a .byte) (c .before .before .before .lex .ensures) (omega arith) (c .stop .ensures)
 
-add-t6 : tie.Need-add-t6
-add-t6 c = search needs
+add-in-line : tie.Need-add-in-line
+add-in-line c = search needs
+
+in-line-requires : tie.Need-in-line-requires
+in-line-requires c κs = search needs
 
 returns-2 : tie.Need-returns-2
 returns-2 c =
-    let a = c .before .before .before .before .before .args in
-    other-good (a .r) _ (a .byte) (c .before .before .before .lex .ensures) (λ e. omega (arith, e))
+    let a = c .before .before .before .before .before .before .args in
+    c .in-line .ensures ∙ other-good (a .r) _ (a .byte) (c .before .before .before .before .lex .ensures) (λ e. omega (arith, e))
 
 pub take-other-spec : {M : Type 1} → statement M
-take-other-spec = tie.close (tie.spec lex-requires stop-requires returns add-t6 returns-2)
+take-other-spec = tie.close (tie.spec lex-requires stop-requires returns add-in-line in-line-requires returns-2)

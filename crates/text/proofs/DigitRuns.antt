@@ -1,0 +1,121 @@
+-- Digits after a decimal's point, taken in a run, leave what a step for each leaves. Assumes nothing.
+use mathlib.Core.Path.{_≡_, refl, sym, ap, _∙_}
+use mathlib.Core.Bool.{Bool, true, false}
+use mathlib.Core.List.{List}
+use Prim.Native.Nat.{ℕ, zero, suc, _+_, _*_, _-_, _≤_, _<_}
+use native.Mathlib.Omega.{arith}
+use borrow.Author.Tests.{ne-eqb, lt-ltb, le-ltb, ltb-true, ltb-false}
+use lib.Dec.{ltb, eqb}
+use lib.ListN.{length, drop, getD}
+use Rattle.text.specs.declared.Line.{Line}
+use Rattle.text.specs.declared.Reader.{Reader}
+use Rattle.text.specs.Grammar.{digit-0, part-digits}
+use Rattle.text.specs.Lexer.{spot-point, spot-done, value-limit, takes-digit, put, with-digit, lex}
+use Rattle.text.specs.Reader.{last-offset, in-line, further-in-line, step, step-out, run}
+use Rattle.text.specs.machine.Parts.{run-end, After-point, Part-at, Goes-on}
+use Rattle.text.proofs.Digits.{in-parts, at-last-part, first-digit}
+use Rattle.text.proofs.Branches.{other-good, step-other, run-more}
+
+-- A test that said no.
+pub never : {A : Type 0} → false ≡ true → A
+never e = let z : _≡_ {A = ℕ} 0 1 = cc in absurd (omega arith)
+
+-- A digit of a run goes on.
+below-zero : (n : ℕ) → run-end (suc n) ≡ spot-done - 1
+unfolding run-end
+below-zero n = rw (ne-eqb (suc n) 0 (λ e. omega (arith, e)))
+
+pub short : (minus : ℕ) → run-end minus ≤ spot-done
+unfolding run-end
+short zero = omega arith
+short (suc n) = omega (arith, below-zero n)
+
+module _ (spot value d : ℕ) (v : value < value-limit) (h : spot-point ≤ spot) where
+  last-too : (t : Bool) → ltb spot (spot-done - 1) ≡ t → spot < spot-done → takes-digit spot 0 value d ≡ true
+  last-too true e k = in-parts spot 0 value d v h (ltb-true spot (spot-done - 1) e)
+  last-too false e k =
+      at-last-part spot 0 value d v (ltb-false spot (spot-done - 1) e) k ∙ first-digit (eqb 0 0) (value + d) refl
+
+  goes-on : (minus : ℕ) → spot < run-end minus → takes-digit spot minus value d ≡ true
+  unfolding run-end
+  goes-on zero k = last-too (ltb spot (spot-done - 1)) refl k
+  goes-on (suc n) k = in-parts spot (suc n) value d v h (omega (arith, below-zero n))
+
+lex-part : (l : Line) (byte : ℕ) → spot-point ≤ l .spot → l .spot < run-end (l .minus) → l .value < value-limit → digit-0 ≤ byte
+    → byte < digit-0 + 10 → put l (l .spot + 1) (l .minus) (10 * l .value + (byte - digit-0)) ≡ lex l byte
+unfolding lex with-digit
+lex-part l byte h k v f g =
+    rw (
+      le-ltb byte digit-0 f,
+      lt-ltb byte (digit-0 + 10) g,
+      goes-on (l .spot) (l .value) (byte - digit-0) v h (l .minus) k,
+    )
+
+step-part : (r : Reader) (out : List ℕ) (byte : ℕ) → r .status ≡ 0 → r .at < last-offset → spot-point ≤ r .line .spot
+    → r .line .spot < run-end (r .line .minus) → r .line .value < value-limit → digit-0 ≤ byte → byte < digit-0 + 10
+    → let l = r .line in let s = further-in-line r (put l (l .spot + 1) (l .minus) (10 * l .value + (byte - digit-0)))
+    in (s ≡ step r out byte) × (out ≡ step-out r out byte)
+step-part r out byte e c h k v f g =
+    let l = r .line in
+    let m = short (l .minus) in
+    step-other r _ out out byte e (λ q. omega (arith, q)) (λ q. omega (arith, q)) (λ q. omega (arith, q))
+    (other-good r (put l (l .spot + 1) (l .minus) (10 * l .value + (byte - digit-0))) byte (lex-part l byte h k v f g) (λ q. omega (arith, q)))
+
+-- The digits before i have come: the line of r, now at spot with value, goes on from i as r does from the first of them.
+pub record Parted (r : Reader) (text : List ℕ) (from spot value i : ℕ) : Type 0 where
+  pub onward : from ≤ i
+  pub spots : spot ≡ r .line .spot + (i - from)
+  pub few : i - from ≤ part-digits
+  pub same : (out : List ℕ)
+      → run (in-line r (put (r .line) spot (r .line .minus) value) (r .at + (i - from))) out (drop i text) ≡ run r out (drop from text)
+
+-- A reader is what its words are.
+rebuilt : (r : Reader) (at status place : ℕ) → at ≡ r .at → status ≡ r .status → place ≡ r .place
+    → record {
+      line = r .line;
+      at = at;
+      written = r .written;
+      blocks = r .blocks;
+      left = r .left;
+      terms = r .terms;
+      total = r .total;
+      coarse = r .coarse;
+      status = status;
+      place = place;
+    } ≡ r
+rebuilt r at status place e f g = rw (e, f, g)
+
+pub parted-none : (r : Reader) (text : List ℕ) (from : ℕ) → After-point r → Parted r text from (r .line .spot) (r .line .value) from
+parted-none r text from a =
+    record {
+      onward = omega arith;
+      spots = omega arith;
+      few = omega arith;
+      same = λ out. ap (λ (s : Reader). run s out (drop from text)) (rebuilt r (r .at + (from - from)) 0 0 (omega arith) (sym (a .reads)) (sym (a .unplaced)));
+    }
+
+module _ (r : Reader) (text : List ℕ) (from spot value i : ℕ) (a : After-point r) (p : Parted r text from spot value i) where
+  pub parted-more : Part-at text i spot value (run-end (r .line .minus)) → Parted r text from (spot + 1) (10 * value + (getD text i 0 - digit-0)) (i + 1)
+  parted-more d =
+      let l = r .line in
+      let byte = getD text i 0 in
+      let with : ℕ → Reader = λ (at : ℕ). in-line r (put l (spot + 1) (l .minus) (10 * value + (byte - digit-0))) at in
+      let s = in-line r (put l spot (l .minus) value) (r .at + (i - from)) in
+      let at : r .at + (i + 1 - from) ≡ r .at + (i - from) + 1 = omega arith in
+      record {
+        onward = omega arith;
+        spots = omega arith;
+        few = omega (arith, p .onward, p .spots, a .begun, d .early, short (r .line .minus));
+        same = λ out.
+            let at-part : spot-point ≤ spot = omega (arith, p .spots, a .begun) in
+            let counted : r .at + (i - from) < last-offset = omega (arith, p .spots, a .begun, a .counts, d .early, short (l .minus)) in
+            let t = step-part s out byte refl counted at-part (d .early) (d .small) (d .least) (d .most) in
+            ap (λ (n : ℕ). run (with n) out (drop (i + 1) text)) at ∙ sym (run-more s _ out out text i byte refl (d .inside) (t .0) (t .1)) ∙ p .same out;
+      }
+
+  pub parted-done : Goes-on r text from (in-line r (put (r .line) spot (r .line .minus) value) (r .at + (i - from))) i
+  parted-done = record { onward = p .onward; same = p .same }
+
+-- Where no digit is taken all goes on as it stands.
+pub as-it-stands : (r : Reader) (text : List ℕ) (from : ℕ) → Goes-on r text from r from
+as-it-stands r text from = record { onward = omega arith; same = λ out. refl }
