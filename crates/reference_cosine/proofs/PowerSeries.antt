@@ -4,10 +4,10 @@ use mathlib.Core.List.{List, [], _∷_}
 use Prim.Native.Nat.{ℕ, zero, suc, _*_, _+_, _-_, _/_}
 use lib.IntN.{ℤ, pos, _*ℤ_}
 use Rattle.integers.proofs.Ring.{E, v, #, _⊕_, _⊖_, _⊗_, ⊝, ring}
-use Rattle.cosine.specs.Reference.{power, factorial, sum, alternate, even-series, odd-series}
-use Rattle.cosine.proofs.Divisors.{all-evens, all-odds}
-use Rattle.cosine.proofs.NestedSeries.{low, up}
-use Rattle.cosine.proofs.Lipschitz.{C-up, C-low, S-up, S-low}
+use Rattle.reference_cosine.specs.Reference.{power, factorial, sum, alternate, even-series, odd-series}
+use Rattle.reference_cosine.proofs.Divisors.{all-evens, all-odds}
+use Rattle.reference_cosine.proofs.NestedSeries.{low, up}
+use Rattle.reference_cosine.proofs.Lipschitz.{C-up, C-low, S-up, S-low}
 
 -- the same as expressions
 abbrev lowᴱ : E → List ℕ → E

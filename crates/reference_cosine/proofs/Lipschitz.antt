@@ -7,9 +7,9 @@ use Rattle.integers.specs.Order.{_≼_, _≺_}
 use Rattle.integers.proofs.Pairs.{nonneg}
 use Rattle.integers.proofs.Auto.{cert!, cert<!, polys, gap, gap<, _⊞_, _⊛_, _·_, sqr}
 use Rattle.integers.proofs.Order.{≺-≼, product-pos}
-use Rattle.cosine.proofs.NestedSeries.{low, up, lam, lip, Good, range′, Small}
+use Rattle.reference_cosine.proofs.NestedSeries.{low, up, lam, lip, Good, range′, Small}
 use Rattle.cosine.specs.Cosine.{cosine-by}
-use Rattle.cosine.proofs.Divisors.{all-evens, all-odds, low-by-quarter}
+use Rattle.reference_cosine.proofs.Divisors.{all-evens, all-odds, low-by-quarter}
 use Rattle.integers.proofs.Near.{Near, near-sym, near-neg, near-coarse}
 
 -- |n/N| is at most 0.7854

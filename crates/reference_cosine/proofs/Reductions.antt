@@ -11,13 +11,13 @@ use Rattle.integers.proofs.Auto.{ring!, cert!, polys, gap, gap<, _⊞_, _⊛_, 
 use Rattle.integers.proofs.Order.{≺-≼, ≼-or-≺, ≼-antisym}
 use Rattle.integers.specs.Division.{modulo}
 use Rattle.integers.proofs.Division.{modulo-lt, modulo-add}
 use Rattle.cosine.specs.Cosine.{cosine-by}
-use Rattle.cosine.specs.Reference.{two-pi as A, four as F}
-use Rattle.cosine.proofs.Divisors.{low-by-quarter}
-use Rattle.cosine.proofs.NestedSeries.{low, up}
+use Rattle.reference_cosine.specs.Reference.{two-pi as A, four as F}
+use Rattle.reference_cosine.proofs.Divisors.{low-by-quarter}
+use Rattle.reference_cosine.proofs.NestedSeries.{low, up}
 use Rattle.integers.proofs.Near.{Near, near-sym, near-trans, near-weaken, near-times, near-as}
 use Rattle.integers.proofs.Order.{product-pos}
-use Rattle.cosine.proofs.Lipschitz.{Angle, C-up, C-low, S-up, S-low, f-up, f-low, f-low-pos, near-f}
+use Rattle.reference_cosine.proofs.Lipschitz.{Angle, C-up, C-low, S-up, S-low, f-up, f-low, f-low-pos, near-f}
 
 -- the boundary between two quarters is A / Y
 abbrev pub Y : ℕ

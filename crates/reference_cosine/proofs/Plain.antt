@@ -10,7 +10,7 @@ use Rattle.integers.specs.Fractions.{_*ᶠ_, overᶠ, powerᶠ, _≈ᶠ_}
 use Rattle.integers.proofs.Auto.{polys, ring! }
 use Rattle.integers.proofs.Order.{product-pos, ≺-nat}
 use Rattle.integers.proofs.Fractions.{Over, over-+}
-use Rattle.cosine.specs.Reference.{power, factorial, sum, alternate, even-series, odd-series, total, power-term}
+use Rattle.reference_cosine.specs.Reference.{power, factorial, sum, alternate, even-series, odd-series, total, power-term}
 
 power-pos : (x : ℤ) → pos 0 ≺ x → (m : ℕ) → pos 0 ≺ power x m
 unfolding power

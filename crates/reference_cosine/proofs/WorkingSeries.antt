@@ -11,11 +11,11 @@ use Rattle.integers.proofs.Order.{≺-≼, cert*!, ≼-nat, ≺-nat}
 use Rattle.integers.specs.Division.{rounded}
 use Rattle.integers.proofs.Division.{rounded-low, rounded-high}
 use Rattle.units.specs.Units.{U}
 use Rattle.cosine.specs.Cosine.{horner, y-of, even-part, odd-part, evens, odds, cosine-by}
-use Rattle.cosine.proofs.Divisors.{all-evens, all-odds, low-by-quarter}
-use Rattle.cosine.proofs.NestedSeries.{low, up, Good, range′}
+use Rattle.reference_cosine.proofs.Divisors.{all-evens, all-odds, low-by-quarter}
+use Rattle.reference_cosine.proofs.NestedSeries.{low, up, Good, range′}
 use Rattle.integers.proofs.Near.{Near, near-neg}
-use Rattle.cosine.proofs.Lipschitz.{Angle, angle-small, C-up, C-low, S-up, S-low, f-up, f-low, good-evens, good-odds}
+use Rattle.reference_cosine.proofs.Lipschitz.{Angle, angle-small, C-up, C-low, S-up, S-low, f-up, f-low, good-evens, good-odds}
 
 -- ---- a bound by a whole number survives rounding
 

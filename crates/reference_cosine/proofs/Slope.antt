@@ -9,10 +9,11 @@ use Rattle.integers.proofs.Pairs.{nonneg}
 use Rattle.integers.proofs.Auto.{ring!, cert!, polys, gap, _⊞_, _⊛_, _·_}
 use Rattle.integers.proofs.Order.{≺-≼, ≼-or-≺, cert*!, product-pos}
 use Rattle.integers.proofs.Near.{Near, near-sym, near-neg, near-coarse, near-as}
-use Rattle.cosine.proofs.Divisors.{all-evens, all-odds, more-odds, low-by-quarter}
-use Rattle.cosine.proofs.NestedSeries.{low, up, lam, lip, Good, range′, Small}
+use Rattle.reference_cosine.proofs.Divisors.{all-evens, all-odds, more-odds, low-by-quarter}
+use Rattle.reference_cosine.proofs.NestedSeries.{low, up, lam, lip, Good, range′, Small}
 use Rattle.cosine.specs.Cosine.{cosine-by}
-use Rattle.cosine.proofs.Lipschitz.{Angle, angle-small, good-evens, good-odds, lam-odds, near-h, C-up, C-low, S-up, S-low, f-up, f-low, turn-about}
+use Rattle.reference_cosine.proofs.Lipschitz.{Angle, angle-small, good-evens, good-odds, lam-odds, near-h, turn-about}
+use Rattle.reference_cosine.proofs.Lipschitz.{C-up, C-low, S-up, S-low, f-up, f-low}
 
 -- Z/D at most Z′/D′ gives Z·h at most Z′·h′, with P = Z′D, R = ZD′, a = u′l, b = ul′, E = DD′, M = ll′ and k the Lipschitz bound of h
 fall-core : (P R a b E M k : ℤ) → pos 0 ≼ R → pos 0 ≺ E → pos 0 ≼ M → pos 0 ≼ k → R ≼ P → pos 1000 *ℤ R ≼ pos 617 *ℤ E

@@ -1,5 +1,4 @@
 -- The working parts of any angle against the nested series of any fraction near it. Assumes nothing.
-use mathlib.Core.Path.{_≡_, ap, _∙_}
 use mathlib.Core.List.{[], _∷_}
 use Prim.Native.Nat.{ℕ, _*_, _+_, _<_}
 use native.Mathlib.Omega.{arith}
@@ -9,14 +8,14 @@ use Rattle.integers.proofs.Pairs.{nonneg}
 use Rattle.integers.proofs.Auto.{ring!, cert!, polys, gap, gap<, _⊞_, _⊛_, _·_}
 use Rattle.integers.proofs.Order.{≺-≼, product-pos, ≺-nat}
 use Rattle.integers.specs.Division.{rounded, modulo}
-use Rattle.integers.proofs.Division.{rounded-low, rounded-high, rounded-add}
+use Rattle.integers.proofs.Division.{rounded-low, rounded-high}
 use Rattle.units.specs.Units.{U}
 use Rattle.cosine.specs.Cosine.{q-of, r-of, w-of}
-use Rattle.cosine.specs.Reference.{two-pi as A, four as F, ref-q, ref-r}
+use Rattle.reference_cosine.specs.Reference.{two-pi as A, four as F, ref-q, ref-r}
 use Rattle.integers.proofs.Near.{Near, near-trans, near-weaken, near-times, near-as}
-use Rattle.cosine.proofs.Lipschitz.{Angle, f-up, f-low, f-low-pos, near-f}
-use Rattle.cosine.proofs.WorkingSeries.{rounded-most, rounded-least, working, near-working}
-use Rattle.cosine.proofs.Reductions.{Y, B, bound, Two, Agree, near-two}
+use Rattle.reference_cosine.proofs.Lipschitz.{Angle, f-up, f-low, f-low-pos, near-f}
+use Rattle.reference_cosine.proofs.WorkingSeries.{rounded-most, rounded-least, working, near-working}
+use Rattle.reference_cosine.proofs.Reductions.{Y, B, bound, Two, Agree, near-two}
 
 -- a turn of four quarters Q in 1/(step·U), with G/(Y·step·U) the most that Q/(step·U) differs from the reference's quarter
 pub record Turn (Q step G : ℕ) : Type 0 where
@@ -25,18 +24,6 @@ pub record Turn (Q step G : ℕ) : Type 0 where
   pub eighth : pos Q ≼ pos 1570800000 *ℤ pos step
   pub gap-most : pos Q *ℤ pos Y ≼ pos 2 *ℤ pos A *ℤ (pos step *ℤ pos U) +ℤ pos G
   pub gap-least : pos 2 *ℤ pos A *ℤ (pos step *ℤ pos U) ≼ pos Q *ℤ pos Y +ℤ pos G
-
--- ---- a whole number of quarters comes out of the reduction
-pub q-shift : (Q : ℕ) → 0 < Q → (k m : ℤ) → q-of Q (pos Q *ℤ k +ℤ m) ≡ k +ℤ q-of Q m
-unfolding q-of
-q-shift Q h k m = rounded-add k m Q h
-
-r-law : (Q k m q : ℤ) → Q *ℤ k +ℤ m -ℤ (k +ℤ q) *ℤ Q ≡ m -ℤ q *ℤ Q
-r-law Q k m q = ring! (Q ∷ k ∷ m ∷ q ∷ []) (search polys depth 60 fits 100000) tt
-
-pub r-shift : (Q : ℕ) → 0 < Q → (k m : ℤ) → r-of Q (pos Q *ℤ k +ℤ m) ≡ r-of Q m
-unfolding r-of
-r-shift Q h k m = ap (λ t. pos Q *ℤ k +ℤ m -ℤ t *ℤ pos Q) (q-shift Q h k m) ∙ r-law (pos Q) k m (q-of Q m)
 
 -- ---- the remainder
 r-most : (Q : ℕ) → 0 < Q → (x : ℤ) → pos 2 *ℤ r-of Q x ≼ pos Q

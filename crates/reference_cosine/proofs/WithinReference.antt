@@ -9,13 +9,13 @@ use Rattle.integers.proofs.Auto.{polys, gap, _⊞_, _⊛_, _·_}
 use Rattle.integers.proofs.Order.{≺-≼, cert*!, product-pos, ≺-nat}
 use Rattle.integers.specs.Division.{modulo}
 use Rattle.units.specs.Units.{U, quarter, angle-step}
 use Rattle.cosine.specs.Cosine.{q-of, w-of, working-cosine, working-sine}
-use Rattle.cosine.specs.Reference.{four as F, ref-q, ref-r, reference-cosine, reference-sine, Within}
-use Rattle.cosine.proofs.Lipschitz.{f-up, f-low, f-low-pos}
-use Rattle.cosine.proofs.WorkingSeries.{working}
-use Rattle.cosine.proofs.Reductions.{Y, B}
-use Rattle.cosine.proofs.AnyAngle.{Turn, Close-angles, all-errors, near-any}
-use Rattle.cosine.proofs.QuarterShift.{cosine-is, sine-is, reference-is, reference-sine-is}
+use Rattle.reference_cosine.specs.Reference.{four as F, ref-q, ref-r, reference-cosine, reference-sine, Within}
+use Rattle.reference_cosine.proofs.Lipschitz.{f-up, f-low, f-low-pos}
+use Rattle.reference_cosine.proofs.WorkingSeries.{working}
+use Rattle.reference_cosine.proofs.Reductions.{Y, B}
+use Rattle.reference_cosine.proofs.AnyAngle.{Turn, Close-angles, all-errors, near-any}
+use Rattle.reference_cosine.proofs.QuarterShift.{cosine-is, sine-is, reference-is, reference-sine-is}
 
 within-law : (k g E x u l : ℤ) → pos 0 ≺ g → pos 0 ≺ l → E ≼ pos 1000 *ℤ k *ℤ g *ℤ pos B
     → pos 1000 *ℤ pos U *ℤ g *ℤ pos B *ℤ (x *ℤ l -ℤ u *ℤ pos U) ≼ E *ℤ (pos U *ℤ l) → x *ℤ l -ℤ pos U *ℤ u ≼ k *ℤ l

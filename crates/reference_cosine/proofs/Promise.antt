@@ -13,13 +13,14 @@ use Rattle.integers.specs.Division.{rounded, modulo, floor}
 use Rattle.integers.proofs.Division.{rounded-low, rounded-high}
 use Rattle.integers.specs.Fractions.{negᶠ}
 use Rattle.units.specs.Units.{parts, millennium as T, tau-limit, t-limit, cosine-distance, turn as P, quarter, angle-step, angle-per-part, b-limit, c-limit}
 use Rattle.cosine.specs.Cosine.{horner, y-of, cosine-by, even-part, odd-part, q-of, r-of, w-of, working-cosine, cosine}
-use Rattle.cosine.specs.Reference.{power, factorial, sum, alternate, four as F, ref-q, ref-r, even-series, odd-series, reference-cosine, Within}
-use Rattle.cosine.specs.Terms.{Allowed, term-angle, term-cosine, term-reference}
-use Rattle.cosine.proofs.WorkingSeries.{rounded-most, rounded-least}
-use Rattle.cosine.proofs.AnyAngle.{Close-angles}
+use Rattle.reference_cosine.specs.Reference.{power, factorial, sum, alternate, four as F, ref-q, ref-r, even-series, odd-series, reference-cosine, Within}
+use Rattle.cosine.specs.Terms.{term-angle, term-cosine}
+use Rattle.reference_cosine.specs.Terms.{Allowed, term-reference}
+use Rattle.reference_cosine.proofs.WorkingSeries.{rounded-most, rounded-least}
+use Rattle.reference_cosine.proofs.AnyAngle.{Close-angles}
 use Rattle.cosine.proofs.WholeTurns.{cosine-mod}
-use Rattle.cosine.proofs.WithinReference.{within-any, the-turn, G}
+use Rattle.reference_cosine.proofs.WithinReference.{within-any, the-turn, G}
 
 -- |ct| is at most its limits' product, so that the drift is at most `drift-limit`: angle-per-part·c-limit·t-limit/T
 product : {b : ℕ} {c t : ℤ} → Allowed b c t → Bd (pos c-limit *ℤ pos t-limit) (c *ℤ t)

@@ -8,12 +8,12 @@ use Rattle.integers.proofs.Pairs.{nonneg}
 use Rattle.integers.proofs.Auto.{cert!, cert<!, polys, gap, gap<, _⊛_, _·_}
 use Rattle.integers.proofs.Order.{natAbs-low, natAbs-high, ≺-nat}
 use Rattle.units.specs.Units.{U, parts, quarter, angle-step, angle-per-part}
 use Rattle.cosine.specs.Cosine.{q-of, cosine, sine}
-use Rattle.cosine.specs.Reference.{reference-cosine, reference-sine, Within}
-use Rattle.cosine.proofs.WorkingSeries.{rounded-most, rounded-least}
-use Rattle.cosine.proofs.Reductions.{Y, B}
-use Rattle.cosine.proofs.AnyAngle.{Close-angles, all-errors}
-use Rattle.cosine.proofs.WithinReference.{within-any, within-any-sine, the-turn, G}
+use Rattle.reference_cosine.specs.Reference.{reference-cosine, reference-sine, Within}
+use Rattle.reference_cosine.proofs.WorkingSeries.{rounded-most, rounded-least}
+use Rattle.reference_cosine.proofs.Reductions.{Y, B}
+use Rattle.reference_cosine.proofs.AnyAngle.{Close-angles, all-errors}
+use Rattle.reference_cosine.proofs.WithinReference.{within-any, within-any-sine, the-turn, G}
 
 -- the greatest |L| in parts that callers have, how far a fraction may lie from it, and no quarter of such a longitude is greater
 abbrev pub longitude-limit : ℕ

@@ -12,12 +12,12 @@ use Rattle.integers.proofs.Order.{≼-or-≺, ≼-antisym, ≺-nat}
 use Rattle.integers.specs.Division.{rounded, modulo}
 use Rattle.integers.proofs.Division.{rounded-low, rounded-high}
 use Rattle.integers.specs.Fractions.{Fraction, _≈ᶠ_}
-use Rattle.cosine.specs.Reference.{two-pi as A, four as F, ref-q, ref-r, reference-cosine, reference-sine}
+use Rattle.reference_cosine.specs.Reference.{two-pi as A, four as F, ref-q, ref-r, reference-cosine, reference-sine}
 use Rattle.integers.proofs.Near.{Near}
-use Rattle.cosine.proofs.Lipschitz.{f-up, f-low, near-f}
-use Rattle.cosine.proofs.Reductions.{R′-angle}
-use Rattle.cosine.proofs.AnyAngle.{ref-most, ref-least}
-use Rattle.cosine.proofs.QuarterShift.{nested, reference-is, reference-sine-is}
+use Rattle.reference_cosine.proofs.Lipschitz.{f-up, f-low, near-f}
+use Rattle.reference_cosine.proofs.Reductions.{R′-angle}
+use Rattle.reference_cosine.proofs.AnyAngle.{ref-most, ref-least}
+use Rattle.reference_cosine.proofs.QuarterShift.{nested, reference-is, reference-sine-is}
 
 rounded-below : (n n′ : ℤ) (d d′ : ℕ) → 0 < d → 0 < d′ → n *ℤ pos d′ ≡ n′ *ℤ pos d → rounded n d ≼ rounded n′ d′
 rounded-below n n′ d d′ h h′ e = go (≼-or-≺ (rounded n d) (rounded n′ d′))

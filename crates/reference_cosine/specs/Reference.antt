@@ -46,7 +46,7 @@ odd-series n N = record {
   lower = pos (factorial 21) *ℤ power N 21;
 }
 
--- The same two series term by term, over fractions: cosine/proofs/Plain.antt proves that they have the same value.
+-- The same two series term by term, over fractions: proofs/Plain.antt proves that they have the same value.
 -- t 0 + t 1 + .. + t m
 unfoldable pub total : ℕ → (ℕ → Fraction) → Fraction
 total zero t = t 0

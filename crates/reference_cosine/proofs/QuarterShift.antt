@@ -1,29 +1,18 @@
 -- The cosines and sines by one shift of the quarter (0 or 3) and the nested series. Assumes nothing.
-use mathlib.Core.Path.{_≡_, refl, ap, _∙_}
-use Prim.Native.Nat.{ℕ, zero, suc, _*_, _+_, _%_, _<_}
+use mathlib.Core.Path.{_≡_, ap, _∙_}
+use Prim.Native.Nat.{ℕ, zero, suc, _+_, _%_}
 use native.Mathlib.Omega.{arith}
 use lib.IntN.{ℤ, pos, _+ℤ_, _*ℤ_, negℤ, +ℤ-idr}
 use Rattle.integers.specs.Division.{modulo}
-use Rattle.integers.proofs.Division.{modulo-lt, modulo-add}
+use Rattle.integers.proofs.Division.{modulo-lt}
 use Rattle.integers.specs.Fractions.{Fraction, negᶠ}
-use Rattle.cosine.specs.Cosine.{cosine-by, sine-by, even-part, odd-part, q-of, w-of, working-cosine, working-sine}
-use Rattle.cosine.specs.Reference.{four as F, ref-q, ref-r, even-series, odd-series, reference-cosine, reference-sine}
-use Rattle.cosine.proofs.Divisors.{low-by-quarter}
-use Rattle.cosine.proofs.Lipschitz.{f-up, f-low}
-use Rattle.cosine.proofs.WorkingSeries.{working}
-use Rattle.cosine.proofs.PowerSeries.{C-up-is, C-low-is, S-up-is, S-low-is}
-
-shifted : (q : ℤ) → modulo (q +ℤ pos 3) 4 ≡ (modulo q 4 + 3) % 4
-unfolding modulo
-shifted q = modulo-add q (pos 3) 4 (omega arith)
-
-pub sine-shift : {A : Type 0} (neg : A → A) (k : ℕ) → k < 4 → (e o : A) → cosine-by neg ((k + 3) % 4) e o ≡ sine-by neg k e o
-unfolding cosine-by sine-by
-sine-shift neg zero h e o = refl
-sine-shift neg (suc zero) h e o = refl
-sine-shift neg (suc (suc zero)) h e o = refl
-sine-shift neg (suc (suc (suc zero))) h e o = refl
-sine-shift neg (suc (suc (suc (suc k)))) h e o = absurd (omega arith)
+use Rattle.cosine.specs.Cosine.{cosine-by, even-part, odd-part, q-of, w-of, working-cosine, working-sine}
+use Rattle.reference_cosine.specs.Reference.{four as F, ref-q, ref-r, even-series, odd-series, reference-cosine, reference-sine}
+use Rattle.cosine.proofs.Shifts.{shifted, sine-shift}
+use Rattle.reference_cosine.proofs.Divisors.{low-by-quarter}
+use Rattle.reference_cosine.proofs.Lipschitz.{f-up, f-low}
+use Rattle.reference_cosine.proofs.WorkingSeries.{working}
+use Rattle.reference_cosine.proofs.PowerSeries.{C-up-is, C-low-is, S-up-is, S-low-is}
 
 pub cosine-is : (Q step : ℕ) (X : ℤ) → working (modulo (q-of Q X +ℤ pos 0) 4) (w-of Q step X) ≡ working-cosine Q step X
 unfolding working working-cosine

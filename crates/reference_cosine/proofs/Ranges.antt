@@ -10,17 +10,17 @@ use Rattle.integers.proofs.Order.{≺-≼, ≺-nat}
 use Rattle.integers.specs.Division.{rounded, modulo}
 use Rattle.integers.specs.Fractions.{Fraction}
 use Rattle.units.specs.Units.{U}
 use Rattle.cosine.specs.Cosine.{cosine-by, horner, y-of, even-part, odd-part, evens, odds, q-of, working-cosine, working-sine, cosine, sine}
-use Rattle.cosine.specs.Reference.{ref-q, ref-r, reference-cosine, reference-sine}
-use Rattle.cosine.proofs.Divisors.{low-by-quarter, all-evens, all-odds}
-use Rattle.cosine.proofs.NestedSeries.{low, up, range′}
+use Rattle.reference_cosine.specs.Reference.{ref-q, ref-r, reference-cosine, reference-sine}
+use Rattle.reference_cosine.proofs.Divisors.{low-by-quarter, all-evens, all-odds}
+use Rattle.reference_cosine.proofs.NestedSeries.{low, up, range′}
 use Rattle.integers.proofs.Order.{product-pos, natAbs-le}
-use Rattle.cosine.proofs.Lipschitz.{Angle, angle-small, C-up, C-low, S-up, S-low, f-up, f-low, good-evens, good-odds}
-use Rattle.cosine.proofs.WorkingSeries.{rounded-most, rounded-least, horner-range, y-range, working}
-use Rattle.cosine.proofs.Reductions.{R′-angle}
-use Rattle.cosine.proofs.AnyAngle.{Turn, ref-most, ref-least, w-angle}
-use Rattle.cosine.proofs.WithinReference.{the-turn}
-use Rattle.cosine.proofs.QuarterShift.{reference-is, reference-sine-is, cosine-is, sine-is}
+use Rattle.reference_cosine.proofs.Lipschitz.{Angle, angle-small, C-up, C-low, S-up, S-low, f-up, f-low, good-evens, good-odds}
+use Rattle.reference_cosine.proofs.WorkingSeries.{rounded-most, rounded-least, horner-range, y-range, working}
+use Rattle.reference_cosine.proofs.Reductions.{R′-angle}
+use Rattle.reference_cosine.proofs.AnyAngle.{Turn, ref-most, ref-least, w-angle}
+use Rattle.reference_cosine.proofs.WithinReference.{the-turn}
+use Rattle.reference_cosine.proofs.QuarterShift.{reference-is, reference-sine-is, cosine-is, sine-is}
 
 -- the fraction lies from −1 to 1
 pub record Unit-fraction (z : Fraction) : Type 0 where
