@@ -15,7 +15,7 @@ use Rattle.integers.proofs.Rounding.{rounded-scale}
 use Rattle.units.specs.Units.{U, quarter, angle-step}
 use Rattle.integers.specs.Division.{modulo}
 use Rattle.cosine.specs.machine.Parity.{eighth, y-limit, InRange}
-use Rattle.cosine.proofs.QuarterShift.{sine-shift}
+use Rattle.cosine.proofs.Shifts.{sine-shift}
 use Rattle.cosine.specs.Cosine.{q-of, r-of, w-of, y-of, horner, even-part, odd-part, evens, odds, cosine-by, sine-by, working-cosine, working-sine}
 use Rattle.cosine.specs.Cosine.{cosine, sine}
 

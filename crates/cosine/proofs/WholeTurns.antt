@@ -9,7 +9,7 @@ use Rattle.integers.specs.Division.{rounded, modulo, floor}
 use Rattle.integers.proofs.Division.{modulo-shift, floor-modulo}
 use Rattle.units.specs.Units.{quarter, turn, angle-step}
 use Rattle.cosine.specs.Cosine.{cosine-by, sine-by, even-part, odd-part, q-of, w-of, working-cosine, working-sine, cosine, sine}
-use Rattle.cosine.proofs.AnyAngle.{q-shift, r-shift}
+use Rattle.cosine.proofs.Shifts.{q-shift, r-shift}
 
 again : (Q k m : ℤ) → pos 4 *ℤ Q *ℤ k +ℤ m ≡ Q *ℤ (pos 4 *ℤ k) +ℤ m
 again Q k m = ring! (Q ∷ k ∷ m ∷ []) (search polys depth 60 fits 100000) tt

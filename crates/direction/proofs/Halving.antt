@@ -16,7 +16,7 @@ use Rattle.integers.proofs.Pairs.{nonneg}
 use Rattle.integers.proofs.Auto.{cert!, polys, gap, _⊞_, _⊛_, _·_}
 use Rattle.units.specs.Units.{U, quarter, turn}
 use Rattle.cosine.specs.Cosine.{horner, y-of, even-part, odd-part, q-of, r-of, w-of, cosine-by, sine-by, working-cosine, working-sine, cosine, sine}
-use Rattle.cosine.proofs.Ranges.{cosine-range, sine-range}
+use Rattle.reference_cosine.proofs.Ranges.{cosine-range, sine-range}
 use Rattle.direction.specs.Angles.{units-angle}
 use Rattle.direction.specs.Direction.{quarter-steps, turn-steps, steps-angle, not-past, greatest, in-quarter}
 use Rattle.integers.proofs.Rounding.{rounded-mono, rounded-zero}

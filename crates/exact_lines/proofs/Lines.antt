@@ -5,8 +5,8 @@ use mathlib.Core.Bool.{Bool, true, false}
 use Rattle.integers.specs.Division.{floor, rounded, modulo}
 use Rattle.integers.specs.Fractions.{_*ᶠ_, _+ᶠ_, negᶠ, powerᶠ}
 use Rattle.cosine.specs.Cosine.{cosine-by, sine-by}
-use Rattle.cosine.specs.Reference.{power, factorial, sum, alternate, even-series, odd-series, ref-q, ref-r, reference-cosine, reference-sine}
-use Rattle.cosine.specs.Terms.{term-reference}
+use Rattle.reference_cosine.specs.Reference.{power, factorial, sum, alternate, even-series, odd-series, ref-q, ref-r, reference-cosine, reference-sine}
+use Rattle.reference_cosine.specs.Terms.{term-reference}
 use Rattle.series.specs.Sums.{longitude-blocks, latitude-blocks, radius-blocks}
 use Rattle.series.specs.Exact.{exact-term, exact-block, exact-sum, exact-longitude, exact-latitude, exact-radius}
 use Rattle.separation.specs.Exact.{cosᶠ, sinᶠ, dotᶠ, cosine-of-arcminutes}

@@ -19,7 +19,7 @@ use Rattle.arith.proofs.Ranges.{scaled-within}
 use Rattle.units.specs.Units.{U, millennium, turn, t-limit}
 use Rattle.cosine.specs.Cosine.{cosine, sine}
 use Rattle.cosine.proofs.WholeTurns.{cosine-turns, sine-turns}
-use Rattle.cosine.proofs.Ranges.{cosine-size, sine-size}
+use Rattle.reference_cosine.proofs.Ranges.{cosine-size, sine-size}
 use Rattle.direction.specs.Angles.{units-angle}
 use Rattle.nutation_table.specs.declared.Row.{Row}
 use Rattle.nutation_table.specs.Table.{psi, psi-rate, eps, eps-rate, times-d, times-m, times-m1, times-f, times-node}

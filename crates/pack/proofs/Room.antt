@@ -7,13 +7,13 @@ use native.Mathlib.Nat.{le-trans}
 use lib.ListN.{length}
 use lib.Seq.{sets}
 use Rattle.packed.specs.Series.{pack}
-use Rattle.packed.specs.Bounds.{packed-limit}
-use Rattle.packed.proofs.Theorems.{longest-packed}
+use Rattle.packed_promises.specs.Bounds.{packed-limit}
+use Rattle.packed_promises.proofs.Theorems.{longest-packed}
 use Rattle.text.specs.declared.Outcome.the-variants.{Accepted}
 use Rattle.text.specs.Reader.{last-offset, told, whole}
 use Rattle.text.specs.Grammar.{Block, blocks-bytes, blocks-of-lines, GoodText, InLimits}
-use Rattle.text.proofs.Theorems.{read-text}
-use Rattle.text.proofs.Series.{text-allowed}
+use Rattle.text_promises.proofs.Theorems.{read-text}
+use Rattle.text_promises.proofs.Series.{text-allowed}
 
 pub always-room : (ks : List Block) (out : List ℕ) → GoodText ks → InLimits ks → length (blocks-bytes ks) ≤ last-offset → packed-limit ≤ length out
     → (told (whole (blocks-bytes ks) out .reader) ≡ Accepted (length (pack (blocks-of-lines ks))))

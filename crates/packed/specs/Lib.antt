@@ -1,4 +1,3 @@
 -- RULES, "Series, as text and packed", and what "Refusals and what they leave" says of packed input.
 pub mod Series
-pub mod Bounds
 pub mod machine

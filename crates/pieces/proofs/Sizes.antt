@@ -11,7 +11,7 @@ use Rattle.arith.proofs.Ranges.{scaled-within}
 use Rattle.units.specs.Units.{U}
 use Rattle.cosine.specs.Cosine.{cosine}
 use Rattle.cosine.specs.Terms.{term-angle, term-cosine, term-value}
-use Rattle.cosine.proofs.Ranges.{cosine-size}
+use Rattle.reference_cosine.proofs.Ranges.{cosine-size}
 use Rattle.limits.specs.declared.Term.{Term}
 use Rattle.limits.specs.Allowed.{total-of}
 use Rattle.pieces.specs.Sums.{block-sum}

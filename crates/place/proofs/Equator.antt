@@ -13,7 +13,7 @@ use Rattle.cosine.specs.Cosine.{cosine, sine}
 use Rattle.rectangular.specs.declared.Vector.{Vector}
 use Rattle.rectangular.specs.machine.Components.{Components}
 use Rattle.arith.proofs.Cells.{Cell, cell}
-use Rattle.cosine.proofs.Ranges.{cosine-size, sine-size}
+use Rattle.reference_cosine.proofs.Ranges.{cosine-size, sine-size}
 use Rattle.rectangular.proofs.Places.{scaled-size, three}
 use Rattle.place.specs.Apparent.{to-equator}
 

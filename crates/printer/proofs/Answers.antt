@@ -13,7 +13,7 @@ use Rattle.units.specs.Units.{series-limit}
 use Rattle.packed.specs.Series.{Parsed, accepted, refused, parse, checked}
 use Rattle.limits.specs.Allowed.{term-count}
 use Rattle.packed.specs.machine.Table.{ends, table-blocks, unpacked}
-use Rattle.packed.proofs.Theorems.{accepted-allowed}
+use Rattle.packed_promises.proofs.Theorems.{accepted-allowed}
 use Rattle.printer.specs.declared.Printed.the-variants.{Length, NoText}
 use Rattle.printer.specs.Printer.{plain-text, text-fits, printed, printed-out}
 use Rattle.printer.specs.machine.Writing.{Wrote, Ordered}

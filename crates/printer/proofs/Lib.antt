@@ -1,13 +1,6 @@
--- What the proofs of the printer's functions use.
+-- What the proofs of the printer's functions use; what is promised of printed texts stands in the crate printer_promises.
 pub mod PieceByPiece
 pub mod DigitsWritten
 pub mod LinePieces
 pub mod TableText
 pub mod Answers
-pub mod DigitsAndNumbers
-pub mod Spacing
-pub mod PlainLines
-pub mod PlainSeries
-pub mod Longest
-pub mod PrintedSpacing
-pub mod Theorems

@@ -13,12 +13,12 @@ use Rattle.integers.proofs.Auto.{polys, cert!, gap, _·_}
 use Rattle.integers.proofs.Bounds.{Bd}
 use Rattle.units.specs.Units.{U, parts, quarter, angle-step, angle-per-part}
 use Rattle.cosine.specs.Cosine.{q-of, w-of, even-part, odd-part, cosine-by, sine-by, working-cosine, working-sine, cosine, sine}
-use Rattle.cosine.specs.Reference.{Within}
-use Rattle.cosine.proofs.Lipschitz.{Angle}
-use Rattle.cosine.proofs.AnyAngle.{w-angle}
-use Rattle.cosine.proofs.WithinReference.{the-turn}
-use Rattle.cosine.proofs.Ranges.{Unit-fraction, In-U, cosine-unit, sine-unit, cosine-range, sine-range, even-large}
-use Rattle.cosine.proofs.Longitude.{Near-longitude, Q1-cosine, Q1-sine}
+use Rattle.reference_cosine.specs.Reference.{Within}
+use Rattle.reference_cosine.proofs.Lipschitz.{Angle}
+use Rattle.reference_cosine.proofs.AnyAngle.{w-angle}
+use Rattle.reference_cosine.proofs.WithinReference.{the-turn}
+use Rattle.reference_cosine.proofs.Ranges.{Unit-fraction, In-U, cosine-unit, sine-unit, cosine-range, sine-range, even-large}
+use Rattle.reference_cosine.proofs.Longitude.{Near-longitude, Q1-cosine, Q1-sine}
 use Rattle.separation.specs.Exact.{cosᶠ, sinᶠ}
 use Rattle.separation.specs.machine.Near.{tolerance, angle-limit}
 use Rattle.separation.proofs.Places.{Far, One-far}

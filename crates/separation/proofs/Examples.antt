@@ -5,7 +5,7 @@ use lib.IntN.{ℤ, pos}
 use Rattle.integers.specs.Division.{floor, rounded, modulo}
 use Rattle.integers.specs.Fractions.{wholeᶠ, _*ᶠ_, _+ᶠ_, negᶠ}
 use Rattle.cosine.specs.Cosine.{cosine-by, sine-by}
-use Rattle.cosine.specs.Reference.{power, factorial, sum, alternate, even-series, odd-series, ref-q, ref-r, reference-cosine, reference-sine}
+use Rattle.reference_cosine.specs.Reference.{power, factorial, sum, alternate, even-series, odd-series, ref-q, ref-r, reference-cosine, reference-sine}
 use Rattle.separation.specs.Exact.{Exact-coordinates, cosᶠ, sinᶠ, exact-place, exact-sun, exact-geocentric, dotᶠ, cosine-of-arcminutes, Within-arcminutes}
 
 -- A body in the plane of the Earth's orbit, longitude and radius in parts.

@@ -8,8 +8,8 @@ use Rattle.integers.specs.Order.{_≺_}
 use Rattle.integers.specs.Fractions.{Fraction, _*ᶠ_, _+ᶠ_, negᶠ}
 use Rattle.integers.proofs.Order.{product-pos}
 use Rattle.units.specs.Units.{parts}
-use Rattle.cosine.specs.Reference.{two-pi}
-use Rattle.cosine.proofs.Ranges.{cosine-unit, sine-unit}
+use Rattle.reference_cosine.specs.Reference.{two-pi}
+use Rattle.reference_cosine.proofs.Ranges.{cosine-unit, sine-unit}
 use Rattle.separation.specs.Arcminutes.{arcminutes}
 use Rattle.separation.specs.Exact.{Exact-coordinates, Vectorᶠ, cosᶠ, sinᶠ, exact-place, exact-sun, exact-geocentric, dotᶠ, cosine-of-arcminutes}
 

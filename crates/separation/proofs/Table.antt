@@ -11,11 +11,11 @@ use Rattle.integers.specs.Division.{floor, rounded, modulo}
 use Rattle.integers.specs.Fractions.{Fraction}
 use Rattle.units.specs.Units.{U, turn}
 use Rattle.cosine.specs.Cosine.{q-of, r-of, w-of, y-of, horner, even-part, odd-part, cosine-by, sine-by, working-sine, sine}
-use Rattle.cosine.specs.Reference.{two-pi, four, ref-q, ref-r}
-use Rattle.cosine.proofs.Divisors.{low-by-quarter}
-use Rattle.cosine.proofs.NestedSeries.{low, up}
-use Rattle.cosine.proofs.Lipschitz.{C-up, C-low, S-up, S-low, f-up, f-low}
-use Rattle.cosine.proofs.QuarterShift.{nested, reference-is}
+use Rattle.reference_cosine.specs.Reference.{two-pi, four, ref-q, ref-r}
+use Rattle.reference_cosine.proofs.Divisors.{low-by-quarter}
+use Rattle.reference_cosine.proofs.NestedSeries.{low, up}
+use Rattle.reference_cosine.proofs.Lipschitz.{C-up, C-low, S-up, S-low, f-up, f-low}
+use Rattle.reference_cosine.proofs.QuarterShift.{nested, reference-is}
 use Rattle.separation.specs.Arcminutes.{arcminutes, least-keep-out, greatest-keep-out}
 use Rattle.separation.specs.Exact.{cosine-of-arcminutes}
 use Rattle.separation.specs.Listed.{threshold}

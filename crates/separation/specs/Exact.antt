@@ -5,7 +5,7 @@ use lib.IntN.{pos, natAbs}
 use Rattle.integers.specs.Order.{_≺_}
 use Rattle.integers.specs.Fractions.{Fraction, _*ᶠ_, _+ᶠ_, _-ᶠ_, negᶠ, _≤ᶠ_}
 use Rattle.units.specs.Units.{parts}
-use Rattle.cosine.specs.Reference.{two-pi, reference-cosine, reference-sine}
+use Rattle.reference_cosine.specs.Reference.{two-pi, reference-cosine, reference-sine}
 use Rattle.separation.specs.Arcminutes.{arcminutes}
 
 -- The exact L, B and R of a body, in parts, each a fraction whose lower number is positive.

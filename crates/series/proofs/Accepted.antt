@@ -7,7 +7,7 @@ use lib.ListN.{length, getD, take, drop}
 use Rattle.limits.specs.declared.Term.{Term}
 use Rattle.packed.specs.Series.{parse, accepted}
 use Rattle.limits.specs.Allowed.{BlockFits, Allowed}
-use Rattle.packed.proofs.Theorems.{accepted-allowed}
+use Rattle.packed_promises.proofs.Theorems.{accepted-allowed}
 
 -- Every block of a list is within the limits of a block.
 abbrev pub Blocks-in : List (List Term) → Type 0

@@ -18,9 +18,10 @@ use Rattle.integers.proofs.Tests.{both}
 use Rattle.integers.proofs.Bounds.{Bd, bd-rounded}
 use Rattle.units.specs.Units.{U, millennium, t-limit, tau-limit, turn, cosine-distance, coarse-share}
 use Rattle.cosine.specs.Cosine.{cosine}
-use Rattle.cosine.specs.Reference.{Within}
-use Rattle.cosine.specs.Terms.{term-angle, term-cosine, term-value, term-reference}
-use Rattle.cosine.proofs.Promise.{P1, P1-constant}
+use Rattle.reference_cosine.specs.Reference.{Within}
+use Rattle.cosine.specs.Terms.{term-angle, term-cosine, term-value}
+use Rattle.reference_cosine.specs.Terms.{term-reference}
+use Rattle.reference_cosine.proofs.Promise.{P1, P1-constant}
 use Rattle.cosine.proofs.Figures.{figures}
 use Rattle.limits.specs.declared.Term.{Term}
 use Rattle.limits.specs.Limits.{constant, weight}

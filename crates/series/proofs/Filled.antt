@@ -10,7 +10,7 @@ use Rattle.packed.specs.declared.Checked.{Checked}
 use Rattle.packed.specs.declared.Checked.the-variants.{Terms, NoSeries}
 use Rattle.packed.specs.Series.{Parsed, accepted, refused, parse, checked}
 use Rattle.packed.specs.machine.Table.{Sized, Holds, table-blocks, unpacked}
-use Rattle.packed.proofs.Theorems.{accepted-allowed}
+use Rattle.packed_promises.proofs.Theorems.{accepted-allowed}
 use Rattle.series.specs.machine.Table.{Table, TableOf, filled}
 
 -- ---- the table

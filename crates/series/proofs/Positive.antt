@@ -7,8 +7,8 @@ use Rattle.integers.specs.Order.{_≺_}
 use Rattle.integers.specs.Fractions.{_*ᶠ_, _+ᶠ_, powerᶠ}
 use Rattle.integers.proofs.Order.{product-pos}
 use Rattle.units.specs.Units.{parts, millennium}
-use Rattle.cosine.specs.Terms.{term-reference}
-use Rattle.cosine.proofs.Ranges.{cosine-unit}
+use Rattle.reference_cosine.specs.Terms.{term-reference}
+use Rattle.reference_cosine.proofs.Ranges.{cosine-unit}
 use Rattle.limits.specs.declared.Term.{Term}
 use Rattle.series.specs.Sums.{longitude-blocks, latitude-blocks, radius-blocks}
 use Rattle.series.specs.Exact.{tau, exact-term, exact-block, exact-sum, exact-longitude, exact-latitude, exact-radius}

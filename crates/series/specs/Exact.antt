@@ -5,7 +5,7 @@ use lib.IntN.{ℤ, pos}
 use Rattle.integers.specs.Fractions.{Fraction, Apart, _*ᶠ_, _+ᶠ_, wholeᶠ, overᶠ, powerᶠ}
 use Rattle.units.specs.Units.{millennium}
 use Rattle.units.specs.declared.Coordinates.{Coordinates}
-use Rattle.cosine.specs.Terms.{term-reference}
+use Rattle.reference_cosine.specs.Terms.{term-reference}
 use Rattle.limits.specs.declared.Term.{Term}
 use Rattle.series.specs.Sums.{longitude-blocks, latitude-blocks, radius-blocks}
 

@@ -10,7 +10,7 @@ use Rattle.packed_numbers.specs.Numbers.{number, groups-from, closed, next, unf
 use Rattle.limits.specs.Limits.{count-fits, opened, added, summed, after-block, factor, weight, constant, a-fits, b-fits, c-fits, total-fits}
 use Rattle.limits.specs.Limits.{coarse-fits}
 use Rattle.packed.specs.Series.{accepted, parse, judged, read-a, read-b, read-c, read-term, read-terms, read-block, read-blocks, read-series, ended}
-use Rattle.packed.proofs.Theorems.{padded}
+use Rattle.packed_promises.proofs.Theorems.{padded}
 use Rattle.series.specs.Sums.{of-parsed, coordinates-answer}
 use Rattle.series.specs.declared.CoordinatesAnswer.the-variants.{At as AtCoordinates}
 use Rattle.series.proofs.Answering.{answers-parsed}

@@ -20,7 +20,7 @@ use Rattle.rectangular.specs.Rectangular.{place}
 use Rattle.rectangular.specs.Sight.{greatest-radius, distance, places-usable, view, sight}
 use Rattle.rectangular.specs.machine.Components.{Components}
 use Rattle.arith.proofs.Cells.{Cell, cell}
-use Rattle.cosine.proofs.Ranges.{sine-size}
+use Rattle.reference_cosine.proofs.Ranges.{sine-size}
 use Rattle.rectangular.proofs.Places.{smaller}
 use Rattle.rectangular.proofs.Radii.{geocentric-size, place-in, radius-in}
 use Rattle.rectangular.proofs.Usable.{Usable-places, usable-places}

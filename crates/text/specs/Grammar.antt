@@ -1,5 +1,5 @@
 -- The texts of a series (RULES, "Series, as text and packed"): bytes, numbers, lines, blocks, and the limits that a text keeps.
--- proofs/Theorems.antt shows that the reader takes exactly these texts.
+-- text_promises/proofs/Theorems.antt shows that the reader takes exactly these texts.
 use mathlib.Core.Path.{_≡_}
 use mathlib.Core.Bool.{Bool, true, false}
 use mathlib.Core.List.{List, [], _∷_, _++_}

@@ -1,5 +1,5 @@
 -- One line of a text (RULES, "Series, as text and packed"), read a byte at a time: what has come of it, and which bytes may go on.
--- Grammar.antt says what whole lines are; proofs/Theorems.antt, that a byte goes on exactly where a line of the grammar does.
+-- Grammar.antt says what whole lines are; text_promises/proofs/Theorems.antt, that a byte goes on exactly where a line of the grammar does.
 use mathlib.Core.Bool.{Bool, true, false, cond}
 use mathlib.Core.List.{List, [], _∷_}
 use Prim.Native.Nat.{ℕ, _+_, _*_, _-_}

@@ -1,7 +1,6 @@
--- The reader of texts: what a text is (Grammar), the answer to each text (Decided), one line of it a byte at a time (Lexer), the judgement of
--- a line (Judge), the calls (Reader); and what only the code needs (machine).
+-- The reader of texts: what a text is (Grammar), one line of it a byte at a time (Lexer), the judgement of a line (Judge), the calls (Reader);
+-- and what only the code needs (machine).
 pub mod Grammar
-pub mod Decided
 pub mod Lexer
 pub mod Judge
 pub mod Reader

@@ -5,7 +5,7 @@ use Prim.Native.Nat.{ℕ, _≤_, _<_}
 use lib.ListN.{length, take}
 use Rattle.units.specs.declared.Refusal.the-variants.{NoRoom}
 use Rattle.packed.specs.Series.{parse}
-use Rattle.packed.specs.Bounds.{early-limit}
+use Rattle.packed_promises.specs.Bounds.{early-limit}
 use Rattle.printer.specs.Printer.{printed, printed-out}
 use Rattle.printer.specs.declared.Printed.{Printed}
 use Rattle.printer.specs.declared.Printed.the-variants.{NoText}

@@ -8,11 +8,11 @@ use libc::STDIN_FILENO;
 use printer::Printed;
 ghost use Rattle.unpack.specs.Input.{Roomy, AnswersAny};
 
-// Room for the text of any series: the theorem `longest` of printer/proofs/Theorems.antt.
+// Room for the text of any series: the theorem `longest` of printer_promises/proofs/Theorems.antt.
 const TEXT_ROOM: usize = 434266;
 
 // The text of the input, of which the first n packed bytes are all or, where they fill the buffer, the beginning: whatever follows,
-// the whole input is then refused as they are, by the theorem `decided` of packed/proofs/Theorems.antt.
+// the whole input is then refused as they are, by the theorem `decided` of packed_promises/proofs/Theorems.antt.
 fn text_of(packed: &[u8], n: usize, text: &mut [u8]) -> Printed
     requires { ⌜ Roomy n (now packed) (now text) ⌝ }
     ensures { λ r. ⌜ AnswersAny n (now (packed .entry)) (now (text .entry)) r (now (text .exit)) ⌝ }

@@ -12,7 +12,7 @@ use Rattle.units.specs.Units.{U}
 use Rattle.cosine.specs.Cosine.{cosine, sine}
 use Rattle.nutation_table.specs.Table.{psi, psi-rate, eps, eps-rate}
 use Rattle.nutation.specs.Nutation.{row-angle, coefficient, longitude-term, obliquity-term}
-use Rattle.cosine.proofs.Ranges.{cosine-size, sine-size}
+use Rattle.reference_cosine.proofs.Ranges.{cosine-size, sine-size}
 use Rattle.nutation.specs.machine.Reduced.{coefficient-limit, sum-limit}
 use Rattle.nutation.proofs.Terms.{same-small, sum-fits, sine-row, cosine-row, longitude-small, obliquity-small}
 use Rattle.nutation.proofs.rows.add_row.Statement.{statement}

@@ -1,0 +1,7 @@
+-- Laws of packed series that the code of `packed` does not need. Appending: more bytes after one; Packing: the packed form; Refusing: where a
+-- refusal stands; Longest: how long a series is; Theorems: the promises.
+pub mod Appending
+pub mod Packing
+pub mod Refusing
+pub mod Longest
+pub mod Theorems

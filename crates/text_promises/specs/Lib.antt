@@ -1,0 +1,2 @@
+-- The answer to each text, over the grammar and the limits.
+pub mod Decided
