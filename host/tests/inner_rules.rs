@@ -20,14 +20,11 @@ struct NutationFigures {
     true_angle: i64,
 }
 
-/// D, M, M', F and the longitude of the node, each less its whole turns.
+/// D, M, M', F and the longitude of the node.
 #[repr(C)]
 struct ArgumentFigures {
     figures: [i64; 5],
 }
-
-/// The units of an argument in a turn.
-const ARGUMENT_TURN: i64 = 360 * 3600 * 100_000_000;
 
 /// 1, Earth's place, the planet's geocentric vector and its length; or nothing but 0.
 #[repr(C)]
@@ -109,7 +106,6 @@ fn directions() {
     }
 }
 
-/// The proved code never has the whole turns of an argument, so they are taken from the vector too.
 #[test]
 fn nutation_and_obliquity() {
     for (number, line) in counted("nutation.txt", 687) {
@@ -118,8 +114,7 @@ fn nutation_and_obliquity() {
         let (n, arguments) = unsafe { (stephylax_test_nutation(t), stephylax_test_arguments(t).figures) };
         let sums = [n.longitude, n.obliquity, n.mean, n.mean + n.obliquity];
         assert_eq!(sums, numbers(fields), "line {number}: {line}");
-        let wanted: [i64; 5] = numbers(fields);
-        assert_eq!(arguments, wanted.map(|figure| figure.rem_euclid(ARGUMENT_TURN)), "line {number}: {line}");
+        assert_eq!(arguments, numbers(fields), "line {number}: {line}");
         assert_eq!([n.longitude_angle, n.true_angle], numbers(fields), "line {number}: {line}");
         assert!(fields.done(), "line {number}: {line}");
     }

@@ -1,8 +1,8 @@
--- The value of a term that is summed with one of amplitude 0; its figures from those of equal numbers. Assumes nothing.
+-- The value of a term that is summed with one of amplitude 0. Assumes nothing.
 use mathlib.Core.Path.{_≡_, ap, _∙_}
-use Prim.Native.Nat.{ℕ, zero, suc, _≤_, _<_}
+use Prim.Native.Nat.{ℕ, zero, suc}
 use native.Mathlib.Omega.{arith}
-use lib.IntN.{ℤ, pos, negℤ, natAbs, _+ℤ_, _-ℤ_, +ℤ-idr}
+use lib.IntN.{ℤ, pos, negℤ, _+ℤ_, _-ℤ_, +ℤ-idr}
 use Rattle.units.specs.Units.{U}
 use Rattle.cosine.specs.Cosine.{even-part, odd-part}
 use Rattle.cosine.specs.machine.Parity.{even-value, odd-value, value-by-parity}

@@ -1,4 +1,5 @@
 // Inner rules as C functions, for tests alone: no library or program holds this crate. Each takes every number; one past its range counts as 0.
+mod arguments;
 mod terms;
 
 ghost use mathlib.Core.Path.{_≡_};
@@ -12,9 +13,9 @@ ghost use Rattle.cosine.specs.Terms.{term-angle, term-value};
 ghost use Rattle.rectangular.specs.Sight.{sight as sight·of};
 ghost use Rattle.nutation.specs.Nutation.{mean-elongation, sun-anomaly, moon-anomaly, latitude-argument, moon-node};
 ghost use Rattle.nutation.specs.Nutation.{longitude-nutation, obliquity-nutation, mean-obliquity, nutation-angle, obliquity-angle};
-ghost use Rattle.nutation.specs.machine.Reduced.{less-turns};
 ghost use Rattle.place.specs.Apparent.{light-time};
 ghost use Rattle.inner_rules.specs.Inner.{held, reach, a-last, b-last, c-last, shown};
+use crate::arguments::arguments_of;
 use crate::terms::figures_of;
 use arith::signed::abs;
 use cosine::cosine;
@@ -23,7 +24,6 @@ use direction::direction_of;
 use direction::latitude_of;
 use nutation::angles_at;
 use nutation::mean_obliquity_at;
-use nutation::moon::arguments_at;
 use nutation::rows::nutation_at;
 use place::steps::light;
 use rectangular::Sight;
@@ -63,7 +63,7 @@ pub struct NutationFigures {
     pub true_angle: i64,
 }
 
-// D, M, M', F and the longitude of the node, each less its whole turns, in 10^-8 arcsecond.
+// D, M, M', F and the longitude of the node, in 10^-8 arcsecond.
 #[repr(C)]
 pub struct ArgumentFigures {
     pub elongation: i64,
@@ -202,19 +202,11 @@ pub extern "C" fn stephylax_test_nutation(t: i64) -> NutationFigures
 
 #[no_mangle]
 pub extern "C" fn stephylax_test_arguments(t: i64) -> ArgumentFigures
-    ensures { λ r. ⌜ (r .elongation ≡ less-turns (mean-elongation (held t-limit t))) × (r .sun ≡ less-turns (sun-anomaly (held t-limit t)))
-        × (r .moon ≡ less-turns (moon-anomaly (held t-limit t))) × (r .latitude ≡ less-turns (latitude-argument (held t-limit t)))
-        × (r .node ≡ less-turns (moon-node (held t-limit t))) ⌝ }
+    ensures { λ r. ⌜ (r .elongation ≡ mean-elongation (held t-limit t)) × (r .sun ≡ sun-anomaly (held t-limit t))
+        × (r .moon ≡ moon-anomaly (held t-limit t)) × (r .latitude ≡ latitude-argument (held t-limit t)) × (r .node ≡ moon-node (held t-limit t)) ⌝ }
 {
     let at = held(t, T_LIMIT);
-    let a = arguments_at(at);
-    ArgumentFigures {
-        elongation: a.elongation,
-        sun: a.sun,
-        moon: a.moon,
-        latitude: a.latitude,
-        node: a.node,
-    }
+    arguments_of(at)
 }
 
 // The light time of a distance in parts, by its magnitude, in milliseconds.

@@ -13,7 +13,7 @@ use arith::residue::residue;
 use arith::signed::wide;
 
 // The coefficients of the five, from the constant one up.
-const ELONGATION: [i64; 5] = [
+pub const ELONGATION: [i64; 5] = [
     107226073512000,
     160296160146030000,
     -586810000,
@@ -21,9 +21,9 @@ const ELONGATION: [i64; 5] = [
     -3184,
 ];
 
-const SUN: [i64; 4] = [128710479304800, 12959658104740000, -55290000, 14700];
+pub const SUN: [i64; 4] = [128710479304800, 12959658104740000, -55290000, 14700];
 
-const MOON: [i64; 5] = [
+pub const MOON: [i64; 5] = [
     48586828096800,
     171791592347280000,
     3238930000,
@@ -31,7 +31,7 @@ const MOON: [i64; 5] = [
     -24470,
 ];
 
-const LATITUDE: [i64; 5] = [
+pub const LATITUDE: [i64; 5] = [
     33577955755200,
     173952726309830000,
     -1225050000,
@@ -39,7 +39,7 @@ const LATITUDE: [i64; 5] = [
     417,
 ];
 
-const NODE: [i64; 5] = [45016039814400, -696289026560000, 747420000, 770200, -5939];
+pub const NODE: [i64; 5] = [45016039814400, -696289026560000, 747420000, 770200, -5939];
 
 // The argument with these coefficients, less its whole turns. By 10t/T is by t over a century.
 fn argument_at(t: i64, c: &[i64]) -> i64

@@ -1,5 +1,5 @@
 -- `inner_rules::figures` meets its contract. Assumes nothing.
-use mathlib.Core.Path.{_≡_, _∙_, ap, sym}
+use mathlib.Core.Path.{_≡_, ap, sym}
 use borrow.Author.Needs.{needs}
 use Rattle.arith.proofs.Cells.{Cell}
 use Rattle.inner_rules.specs.Inner.{shown}
