@@ -87,13 +87,15 @@ fn a_failed_picture_leaves_the_list() {
 #[test]
 fn a_picture_after_the_list_in_one_stream() {
     let path = scratch("stream.txt");
-    let both = File::options().create(true).write(true).truncate(true).open(&path).unwrap();
-    let status = command(&[&LIST[..], &["--svg", "/dev/stdout"]].concat()).stdout(both).status().unwrap();
-    assert_eq!(status.code(), Some(0));
-    let text = std::fs::read_to_string(&path).unwrap();
-    let (list, picture) = text.split_at(text.find("<svg").expect("a picture"));
-    assert_eq!(list, printed(&LIST));
-    assert!(picture.ends_with("</svg>\n"));
+    for name in ["/dev/stdout", path.to_str().unwrap()] {
+        let both = File::options().create(true).write(true).truncate(true).open(&path).unwrap();
+        let status = command(&[&LIST[..], &["--svg", name]].concat()).stdout(both).status().unwrap();
+        assert_eq!(status.code(), Some(0));
+        let text = std::fs::read_to_string(&path).unwrap();
+        let (list, picture) = text.split_at(text.find("<svg").expect("a picture"));
+        assert_eq!(list, printed(&LIST));
+        assert!(picture.ends_with("</svg>\n"));
+    }
 }
 
 /// Output that is not taken whole is no success.

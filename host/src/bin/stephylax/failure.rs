@@ -40,7 +40,9 @@ impl Failure {
         match self {
             Failure::Refused { refusal, at: None } => refusal.to_string(),
             Failure::Refused { refusal, at: Some(at) } => format!("{refusal}; {at}"),
-            Failure::MountRefused(number) => format!("refused {number}: the mount's place alone"),
+            Failure::MountRefused(number) => {
+                format!("refused {number}: the mount's place, though the place itself was answered")
+            }
             Failure::Use(words) | Failure::File(words) | Failure::Output(words) => words.clone(),
         }
     }

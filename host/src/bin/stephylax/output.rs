@@ -3,6 +3,8 @@
 use crate::failure::Failure;
 use std::fs::{File, OpenOptions};
 use std::io::{Error, ErrorKind, Read, Write};
+use std::os::fd::AsFd;
+use std::os::unix::fs::MetadataExt;
 use std::path::{Path, PathBuf};
 
 /// A file of more bytes than this is not read. The longest series that the limits allow is far shorter.
@@ -46,10 +48,14 @@ pub fn write(path: &str, bytes: &[u8]) -> Result<(), Failure> {
     written.map_err(|error| Failure::File(format!("{path} cannot be written: {error}")))
 }
 
-/// A device, a pipe, or a stream that is open already, as /dev/stdout, takes the bytes as they are.
+/// A device or a pipe takes the bytes as they are, and so does the file that standard output goes to: replaced, it would lose
+/// what was printed.
 fn is_stream(path: &str) -> bool {
-    let open = ["/dev/", "/proc/"].iter().any(|folder| path.starts_with(folder));
-    open || std::fs::metadata(path).is_ok_and(|data| !data.is_file())
+    let Ok(data) = std::fs::metadata(path) else {
+        return false;
+    };
+    let printed = std::io::stdout().as_fd().try_clone_to_owned().and_then(|out| File::from(out).metadata());
+    !data.is_file() || printed.is_ok_and(|out| (out.dev(), out.ino()) == (data.dev(), data.ino()))
 }
 
 /// Writes a new file beside the old one and gives it that one's name, so that there is never half a file.
