@@ -79,11 +79,16 @@ fn in_rust() {
     assert!(run.status.success(), "{}", String::from_utf8_lossy(&run.stderr));
 }
 
+/// The README shows each program from its main function on.
 #[test]
 fn shown_in_the_readme() {
     let read = |name| std::fs::read_to_string(repository(name)).unwrap();
     let readme = read("README.md");
-    for program in ["host/tests/c/example.c", "host/examples/sun_list.rs"] {
-        assert!(readme.contains(&read(program)), "{program}");
+    for (language, program, main) in
+        [("c", "host/tests/c/example.c", "int main"), ("rust", "host/examples/sun_list.rs", "fn main")]
+    {
+        let whole = read(program);
+        let shown = &whole[whole.find(main).unwrap()..];
+        assert!(readme.contains(&format!("```{language}\n{shown}```")), "{program}");
     }
 }
