@@ -96,8 +96,8 @@ pub struct Coordinates {
 // - its case here, and an arm in `number` and in `figure` below (whose proof has a `cc` for each arm that has a figure);
 // - a line in both definitions of specs/Refusals.antt;
 // - its words, in `write_words` of the crate command_line;
-// - a line in the table of include/stephylax.h;
-// - its case in the host's enum, host/src/refusal.rs.
+// - a line in the table of include/stephylax.h, and its name in the enum there;
+// - its case in the host's enum, host/src/refusal.rs, and its name and words in python/stephylax.py.
 pub enum Refusal {
     // 1: the first field of a date that does not exist, 1 year, 2 month, 3 day, 4 ms; 5 a day number.
     NoSuchDate(u64),
