@@ -5,9 +5,9 @@ use native.Mathlib.Nat.{add-zero}
 use native.Mathlib.Omega.{arith}
 use lib.ListN.{length, drop, length-set}
 use lib.Seq.{sets}
-use Rattle.date_lines.proofs.WrittenReplies.{copied-more, copied-end}
-use Rattle.date_lines.proofs.reply.put_bytes.Statement.{statement}
-use Rattle.date_lines.proofs.reply.put_bytes.Tie as tie
+use Rattle.decimals.proofs.Puts.{copied-more, copied-end}
+use Rattle.decimals.proofs.writing.put_bytes.Statement.{statement}
+use Rattle.decimals.proofs.writing.put_bytes.Tie as tie
 
 abbrev Inv-loop : tie.InvT-loop
 Inv-loop text out₀ at i₀ out i = (i ≤ length text) × (length out ≡ length out₀) × (sets out (at + i) (drop i text) ≡ sets out₀ at text)

@@ -1,16 +1,16 @@
 -- `put_decimal`, which calls itself, meets its contract: the measure is the number of places. Assumes nothing.
 use native.Mathlib.Omega.{arith}
 use lib.ListN.{length-set}
-use Rattle.date_lines.proofs.WrittenReplies.{none-put, one-put, more-put, decimal-length}
+use Rattle.decimals.proofs.Puts.{none-put, one-put, more-put, decimal-length}
 use Prim.Native.Nat.{ℕ, _-_, _/_, _<_}
 use borrow.Fn.Kinds.{In}
 use borrow.Fn.PlainCycle.{Measures, is, falls, and}
-use Rattle.date_lines.proofs.reply.put_decimal.Reads as put-decimal
-use Rattle.date_lines.proofs.reply.digit.Reads as digit-reads
-use Rattle.date_lines.proofs.reply.put_decimal.Kinds as put-decimal-kinds
-use Rattle.date_lines.proofs.reply.+put_decimal.Lts-put_decimal as put-decimal-lts
-use Rattle.date_lines.proofs.reply.+put_decimal.{statement}
-use Rattle.date_lines.proofs.reply.+put_decimal.Tie.{close}
+use Rattle.decimals.proofs.writing.put_decimal.Reads as put-decimal
+use Rattle.decimals.proofs.writing.digit.Reads as digit-reads
+use Rattle.decimals.proofs.writing.put_decimal.Kinds as put-decimal-kinds
+use Rattle.decimals.proofs.writing.+put_decimal.Lts-put_decimal as put-decimal-lts
+use Rattle.decimals.proofs.writing.+put_decimal.{statement}
+use Rattle.decimals.proofs.writing.+put_decimal.Tie.{close}
 
 abbrev μ-put-decimal : Measures 1 put-decimal-kinds.ps ℕ
 μ-put-decimal κs a = a .1 .0
