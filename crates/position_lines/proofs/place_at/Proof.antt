@@ -1,8 +1,8 @@
--- `position::place_at` is safe. Assumes nothing.
+-- `position_lines::place_at` is safe. Assumes nothing.
 use Rattle.place.proofs.Answers.{figures-ask}
 use borrow.Author.Needs.{needs}
-use Rattle.position.proofs.place_at.Statement.{statement}
-use Rattle.position.proofs.place_at.Tie as tie
+use Rattle.position_lines.proofs.place_at.Statement.{statement}
+use Rattle.position_lines.proofs.place_at.Tie as tie
 
 apparent-place-requires : tie.Need-apparent-place-requires
 apparent-place-requires c κs = search needs
