@@ -3,10 +3,11 @@ ghost use mathlib.Core.Path.{_≡_};
 ghost use Prim.Native.Nat.{_≤_};
 ghost use Rattle.command_line.specs.Clock.{ms-of-day, instant-of-clock, minute-of-day};
 use arith::signed::natural_or;
-use arith::signed::of_parts;
 use arith::signed::wide;
 use calendar::InstantAnswer;
 use calendar::instant_of_date;
+use decimals::reading::Read;
+use decimals::reading::number_of;
 
 // The hours of a day, the minutes of an hour, the seconds of a minute.
 const HOURS: u64 = 24;
@@ -18,64 +19,11 @@ const SECONDS: u64 = 60;
 // A minute in milliseconds.
 const MINUTE_MS: u64 = 60000;
 
-// An argument that is a whole number of up to nine digits, with an optional minus; or another.
-pub enum Argument {
-    Number(i64),
-    Other,
-}
-
-// Past every number of nine digits.
-const TOO_GREAT: u64 = 1000000000;
-
-// The value of one to nine digits from a place on; `TOO_GREAT` for anything else.
-fn digits(text: &[u8], from: usize) -> u64
-    ensures { λ r. ⌜ r ≤ 1000000000 ⌝ }
-{
-    if text.len() <= from {
-        return TOO_GREAT;
-    }
-    let mut value: u64 = 0;
-    let mut i = from;
-    while i < text.len() {
-        let b = text[i];
-        if b < b'0' {
-            return TOO_GREAT;
-        }
-        if b'9' < b {
-            return TOO_GREAT;
-        }
-        if TOO_GREAT / 10 <= value {
-            return TOO_GREAT;
-        }
-        value = value * 10 + (b - b'0') as u64;
-        i = i + 1;
-    }
-    value
-}
-
-fn signed(below: bool, value: u64) -> Argument
-    requires { ⌜ value ≤ 1000000000 ⌝ }
-{
-    if value == TOO_GREAT {
-        return Argument::Other;
-    }
-    Argument::Number(of_parts(below, value))
-}
-
-fn number(text: &[u8]) -> Argument {
-    if 0 < text.len() {
-        if text[0] == b'-' {
-            return signed(true, digits(text, 1));
-        }
-    }
-    signed(false, digits(text, 0))
-}
-
 // Argument i.
-pub fn number_argument(i: usize) -> Argument {
+pub fn number_argument(i: usize) -> Read {
     let mut text = [0u8; 16];
     let n = os::arg(i, &mut text);
-    number(&text[..n])
+    number_of(&text[..n])
 }
 
 // Three numbers in a row.
@@ -94,13 +42,13 @@ pub enum Three {
 pub fn three_arguments(i: usize) -> Three
     requires { ⌜ i ≤ 1000 ⌝ }
 {
-    let Argument::Number(first) = number_argument(i) else {
+    let Read::Number(first) = number_argument(i) else {
         return Three::Other;
     };
-    let Argument::Number(second) = number_argument(i + 1) else {
+    let Read::Number(second) = number_argument(i + 1) else {
         return Three::Other;
     };
-    let Argument::Number(third) = number_argument(i + 2) else {
+    let Read::Number(third) = number_argument(i + 2) else {
         return Three::Other;
     };
     Three::Numbers(Triple {

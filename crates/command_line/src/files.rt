@@ -1,4 +1,7 @@
 // Files of packed series in, and bytes out.
+ghost use mathlib.Core.Path.{_≡_};
+ghost use Prim.Native.Nat.{_≤_};
+ghost use lib.ListN.{take};
 use libc::PATH_MAX;
 use libc::STDOUT_FILENO;
 use units::SERIES_LIMIT;
@@ -7,7 +10,7 @@ use units::SERIES_LIMIT;
 pub const PACKED_ROOM: usize = 24 * SERIES_LIMIT as usize;
 
 // How many bytes a file had; or that it was not read, which is then told on standard output.
-pub enum Contents {
+enum Contents {
     Bytes(usize),
     Unread,
 }
@@ -20,7 +23,7 @@ fn no_file(whose: &[u8]) -> Contents {
 }
 
 // Reads the file that argument i names, the series of this body, into a buffer that is longer than any file that is taken.
-pub fn read_series(i: usize, whose: &[u8], into: &mut [u8]) -> Contents {
+fn read_series(i: usize, whose: &[u8], into: &mut [u8]) -> Contents {
     let mut path = [0u8; PATH_MAX];
     let n = os::arg(i, &mut path);
     if os::errno() != 0 {
@@ -39,9 +42,36 @@ pub fn read_series(i: usize, whose: &[u8], into: &mut [u8]) -> Contents {
     Contents::Bytes(got)
 }
 
+// How many bytes the two files of a program had; or that one was not read.
+pub enum Both {
+    Bytes(usize, usize),
+    Unread,
+}
+
+// Reads the files that argument `first` and the next one name, the planet's series and Earth's.
+pub fn read_both(first: usize, planet: &mut [u8], earth: &mut [u8]) -> Both
+    requires { ⌜ first ≤ 1000 ⌝ }
+{
+    let Contents::Bytes(m) = read_series(first, b"the planet", planet) else {
+        return Both::Unread;
+    };
+    let Contents::Bytes(n) = read_series(first + 1, b"Earth", earth) else {
+        return Both::Unread;
+    };
+    Both::Bytes(m, n)
+}
+
+// The first n bytes; all, where there are no more.
+pub fn first_bytes(bytes: &[u8], n: usize) -> &[u8]
+    ensures { λ r. ⌜ now r ≡ take n (now (bytes .entry)) ⌝ }
+{
+    if n <= bytes.len() {
+        return &bytes[..n];
+    }
+    bytes
+}
+
 // Writes the first n bytes on standard output.
 pub fn write_first(bytes: &[u8], n: usize) {
-    if n <= bytes.len() {
-        io::write_all(STDOUT_FILENO, &bytes[..n]);
-    }
+    io::write_all(STDOUT_FILENO, first_bytes(bytes, n));
 }

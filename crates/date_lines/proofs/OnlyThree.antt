@@ -9,10 +9,12 @@ use borrow.Author.Tests.{eq-eqb, ne-eqb, lt-ltb, le-ltb}
 use lib.Dec.{eqb}
 use lib.IntN.{ℤ, pos}
 use Rattle.integers.specs.Signs.{sgn}
-use Rattle.date_lines.specs.Lines.{space, minus-sign, zero-digit, nine-digit, digit-limit, fault-empty, fault-byte}
+use Rattle.decimals.specs.Decimals.{minus-sign, zero-digit, nine-digit, written}
+use Rattle.decimals.specs.Numerals.{Digits, value, Numeral}
+use Rattle.date_lines.specs.Lines.{space, digit-limit, fault-empty, fault-byte}
 use Rattle.date_lines.specs.Lines.{fault-space, fault-large, fault-few, fault-many}
 use Rattle.date_lines.specs.Lines.{waiting, fresh, faulty, greatest, ended, at-space, at-minus, at-digit, take, reading, read}
-use Rattle.date_lines.specs.Written.{Digits, value, written, Numeral, ThreeNumbers}
+use Rattle.date_lines.specs.Written.{ThreeNumbers}
 use Rattle.date_lines.specs.declared.reader.Line.{Line}
 use Rattle.date_lines.specs.declared.reader.Reading.the-variants.{Three, Bad}
 
@@ -282,7 +284,7 @@ module _ (count : ℕ) (year month : ℤ) (few : count ≤ 2) (Y M D : ℤ) wher
       go (yes l) = record { small = l; on = rw (le-ltb (greatest minus) v l) at e }
 
 numeral : (minus : Bool) (first : ℕ) (more : List ℕ) (n : ℤ) → Digits (first ∷ more) → value 0 (first ∷ more) ≤ greatest minus
-    → n ≡ sgn minus (value 0 (first ∷ more)) → Numeral (written minus (first ∷ more)) n
+    → n ≡ sgn minus (value 0 (first ∷ more)) → Numeral greatest (written minus (first ∷ more)) n
 numeral minus first more n d l e =
     record { minus = minus; first = first; more = more; decimal = record { digits = d; small = l }; bytes-are = refl; is = e }
 
@@ -298,7 +300,7 @@ no-fourth year month Y M D (b ∷ l) e = go (ℕ-discrete b space)
 
 -- The day, the month and the day, and all three.
 record DayAlone (year month Y M D : ℤ) (l : List ℕ) : Type 0 where
-  day : Numeral l D
+  day : Numeral greatest l D
   year-is : year ≡ Y
   month-is : month ≡ M
 
@@ -316,7 +318,7 @@ day-alone year month Y M D l e = go (w .rest) (w .parted) (w .line) (rw (w .come
         let j : l ≡ written (w .minus) (w .first ∷ w .more) = i ∙ append-nil (written (w .minus) (w .first ∷ w .more)) in
         let d = numeral (w .minus) (w .first) (w .more) D (w .digits) (n .small) (sym (n .day-is)) in
         record {
-          day = subst (λ (x : List ℕ). Numeral x D) (sym j) d;
+          day = subst (λ (x : List ℕ). Numeral greatest x D) (sym j) d;
           year-is = n .year-is;
           month-is = n .month-is;
         }
@@ -327,8 +329,8 @@ day-alone year month Y M D l e = go (w .rest) (w .parted) (w .line) (rw (w .come
 record MonthAndDay (year Y M D : ℤ) (l : List ℕ) : Type 0 where
   ms : List ℕ
   ds : List ℕ
-  month : Numeral ms M
-  day : Numeral ds D
+  month : Numeral greatest ms M
+  day : Numeral greatest ds D
   line : l ≡ ms ++ (space ∷ ds)
   year-is : year ≡ Y
 

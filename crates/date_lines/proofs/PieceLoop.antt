@@ -13,13 +13,14 @@ use Rattle.calendar.specs.Calendar.{day-of-date}
 use Rattle.calendar.specs.declared.DayAnswer.{DayAnswer}
 use Rattle.calendar.specs.declared.DayAnswer.the-variants.{Day, NoDay}
 use Rattle.arith.specs.machine.Signed.{natural-or}
+use Rattle.decimals.specs.Decimals.{most-digits, decimal}
+use Rattle.decimals.proofs.Puts.{decimal-length}
 use Rattle.date_lines.specs.Lines.{line-feed, fault-empty, reading}
-use Rattle.date_lines.specs.Replies.{reply-limit, day-places, decimal, refused, day-text, fault-words, fault-text, reply, after, said, line-after}
+use Rattle.date_lines.specs.Replies.{reply-limit, refused, day-text, fault-words, fault-text, reply, after, said, line-after}
 use Rattle.date_lines.specs.Replies.{replies, unless-empty, last-reply}
 use Rattle.date_lines.specs.declared.reader.Line.{Line}
 use Rattle.date_lines.specs.declared.reader.Reading.{Reading}
 use Rattle.date_lines.specs.declared.reader.Reading.the-variants.{Three, Bad}
-use Rattle.date_lines.proofs.WrittenReplies.{decimal-length}
 
 -- ---- no reply has more than 40 bytes
 either : (b : Bool) (x y : List ℕ) (k : ℕ) → length x ≤ k → length y ≤ k → length (cond b x y) ≤ k
@@ -28,7 +29,7 @@ either false x y k p q = q
 
 day-length : (a : DayAnswer) → length (day-text a) ≤ reply-limit
 unfolding day-text refused
-day-length (Day n) = omega (arith, decimal-length day-places (natural-or n 0), length-append (decimal day-places (natural-or n 0)) (line-feed ∷ []))
+day-length (Day n) = omega (arith, decimal-length most-digits (natural-or n 0), length-append (decimal most-digits (natural-or n 0)) (line-feed ∷ []))
 day-length (NoDay r) = lit≤ tt
 
 words : (f : ℕ) → length (fault-words f) ≤ 10

@@ -11,10 +11,13 @@ use Rattle.integers.specs.Division.{floor, modulo}
 use Rattle.integers.specs.Signs.{sgn}
 use Rattle.arith.specs.machine.Signed.{natural-or}
 use Rattle.calendar.specs.Calendar.{leap, month-length, first-bad, noon-number, day-of-date}
-use Rattle.date_lines.specs.Lines.{line-feed, space, zero-digit, fresh, greatest, at-space, at-digit}
+use Rattle.decimals.specs.Decimals.{zero-digit, decimal, written}
+use Rattle.decimals.specs.Numerals.{Digits, value, Decimal}
+use Rattle.decimals.proofs.Theorems.{grows}
+use Rattle.date_lines.specs.Lines.{line-feed, space, fresh, greatest, at-space, at-digit}
 use Rattle.date_lines.specs.Lines.{take, reading, read}
-use Rattle.date_lines.specs.Replies.{decimal, refused, day-text, reply, after, said, line-after, replies}
-use Rattle.date_lines.specs.Written.{NoFeed, Digits, value, Decimal, written, ThreeNumbers, Decided, three, fault, example-lines, example-replies}
+use Rattle.date_lines.specs.Replies.{refused, day-text, reply, after, said, line-after, replies}
+use Rattle.date_lines.specs.Written.{NoFeed, ThreeNumbers, Decided, three, fault, example-lines, example-replies}
 use Rattle.date_lines.specs.declared.reader.Line.{Line}
 use Rattle.date_lines.specs.declared.reader.Reading.{Reading}
 use Rattle.date_lines.specs.declared.reader.Reading.the-variants.{Three, Bad}
@@ -40,11 +43,6 @@ unfolding replies read after said
 one-line s [] rest h = refl
 one-line s (b ∷ l) rest h = rw (ne-eqb b line-feed (h .0)) (one-line (take s b) l rest (h .1))
 
-grows : (v : ℕ) (ds : List ℕ) → v ≤ value v ds
-unfolding value
-grows v [] = omega arith
-grows v (b ∷ ds) = omega (arith, grows (10 * v + (b - zero-digit)) ds)
-
 module _ (count : ℕ) (year month : ℤ) (few : count ≤ 2) (minus : Bool) where
   more-digits : (v : ℕ) (ds rest : List ℕ) → Digits ds → value v ds ≤ greatest minus
       → read (state count year month minus true v) (ds ++ rest) ≡ read (state count year month minus true (value v ds)) rest
@@ -55,14 +53,14 @@ module _ (count : ℕ) (year month : ℤ) (few : count ≤ 2) (minus : Bool) whe
       ap (λ (s : Line). read s (ds ++ rest)) (one-digit count year month few minus true v b (h .0) (h .1) (omega (arith, greatest-most minus)))
       ∙ more-digits (10 * v + (b - zero-digit)) ds rest (h .2) l
 
-  all-digits : (b : ℕ) (ds rest : List ℕ) → Decimal minus b ds
+  all-digits : (b : ℕ) (ds rest : List ℕ) → Decimal greatest minus b ds
       → read (state count year month minus false 0) (b ∷ (ds ++ rest)) ≡ read (state count year month minus true (value 0 (b ∷ ds))) rest
   unfolding value read
   all-digits b ds rest h =
       ap (λ (s : Line). read s (ds ++ rest)) (one-digit count year month few minus false 0 b (h .digits .0) (h .digits .1) (omega arith))
       ∙ more-digits (10 * 0 + (b - zero-digit)) ds rest (h .digits .2) (h .small)
 
-number-read : (count : ℕ) (year month : ℤ) (few : count ≤ 2) (minus : Bool) (b : ℕ) (ds rest : List ℕ) → Decimal minus b ds
+number-read : (count : ℕ) (year month : ℤ) (few : count ≤ 2) (minus : Bool) (b : ℕ) (ds rest : List ℕ) → Decimal greatest minus b ds
     → read (state count year month false false 0) (written minus (b ∷ ds) ++ rest) ≡ read (state count year month minus true (value 0 (b ∷ ds))) rest
 unfolding read
 number-read count year month few false b ds rest h = all-digits count year month few false b ds rest h
@@ -84,7 +82,7 @@ module _ (minus : Bool) (v : ℕ) (l : v ≤ greatest minus) where
   day-read y m = rw (le-ltb (greatest minus) v l)
 
 -- Three numbers parted by single spaces are these numbers.
-pub three-numbers : (a b c : Bool) (f g h : ℕ) (fs gs hs : List ℕ) → Decimal a f fs → Decimal b g gs → Decimal c h hs
+pub three-numbers : (a b c : Bool) (f g h : ℕ) (fs gs hs : List ℕ) → Decimal greatest a f fs → Decimal greatest b g gs → Decimal greatest c h hs
     → reading (read fresh (written a (f ∷ fs) ++ (space ∷ (written b (g ∷ gs) ++ (space ∷ (written c (h ∷ hs) ++ []))))))
     ≡ Three (sgn a (value 0 (f ∷ fs))) (sgn b (value 0 (g ∷ gs))) (sgn c (value 0 (h ∷ hs)))
 three-numbers a b c f g h fs gs hs p q r =

@@ -6,25 +6,17 @@ use Prim.Native.Nat.{ℕ, _+_, _*_, _-_, _/_}
 use lib.Dec.{ltb, eqb}
 use lib.IntN.{ℤ, pos}
 use Rattle.integers.specs.Signs.{sgn}
+use Rattle.decimals.specs.Decimals.{minus-sign, zero-digit, nine-digit}
 use Rattle.date_lines.specs.declared.reader.Line.{Line}
 use Rattle.date_lines.specs.declared.reader.Reading.{Reading}
 use Rattle.date_lines.specs.declared.reader.Reading.the-variants.{Three, Bad}
 
--- The bytes of a line, and the one that ends it.
+-- The bytes of a line beside those of its numbers: the one that ends it, and the one that parts two numbers.
 abbrev pub line-feed : ℕ
 line-feed = 10
 
 abbrev pub space : ℕ
 space = 32
-
-abbrev pub minus-sign : ℕ
-minus-sign = 45
-
-abbrev pub zero-digit : ℕ
-zero-digit = 48
-
-abbrev pub nine-digit : ℕ
-nine-digit = zero-digit + 9
 
 -- The faults: the line is empty; a byte that no number has there; a space that does not part two numbers; a number past 64 bits; fewer than
 -- three numbers; more.

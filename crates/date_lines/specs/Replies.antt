@@ -2,36 +2,28 @@
 use mathlib.Core.Path.{_≡_}
 use mathlib.Core.Bool.{cond}
 use mathlib.Core.List.{List, [], _∷_, _++_}
-use Prim.Native.Nat.{ℕ, zero, suc, _+_, _/_, _%_}
-use lib.Dec.{ltb, eqb}
+use Prim.Native.Nat.{ℕ}
+use lib.Dec.{eqb}
 use lib.ListN.{length}
 use lib.Seq.{sets}
 use Rattle.arith.specs.machine.Signed.{natural-or}
 use Rattle.calendar.specs.Calendar.{day-of-date}
 use Rattle.calendar.specs.declared.DayAnswer.{DayAnswer}
 use Rattle.calendar.specs.declared.DayAnswer.the-variants.{Day, NoDay}
-use Rattle.date_lines.specs.Lines.{line-feed, zero-digit, fault-empty, fault-byte, fault-space, fault-large, fault-few, fresh, take, reading}
+use Rattle.decimals.specs.Decimals.{most-digits, decimal}
+use Rattle.date_lines.specs.Lines.{line-feed, fault-empty, fault-byte, fault-space, fault-large, fault-few, fresh, take, reading}
 use Rattle.date_lines.specs.declared.Progress.{Progress}
 use Rattle.date_lines.specs.declared.reader.Line.{Line}
 use Rattle.date_lines.specs.declared.reader.Reading.{Reading}
 use Rattle.date_lines.specs.declared.reader.Reading.the-variants.{Three, Bad}
 
--- The decimal digits of n, in at most so many places.
-unfoldable pub decimal : ℕ → ℕ → List ℕ
-decimal zero n = []
-decimal (suc places) n = cond (ltb n 10) ((zero-digit + n) ∷ []) (decimal places (n / 10) ++ ((zero-digit + n % 10) ∷ []))
-
 -- `refused 1` and a line feed: a date to its day number is never refused otherwise.
 unfoldable pub refused : List ℕ
 refused = 114 ∷ 101 ∷ 102 ∷ 117 ∷ 115 ∷ 101 ∷ 100 ∷ 32 ∷ 49 ∷ 10 ∷ []
 
--- The digits that a number of 64 bits may have.
-abbrev pub day-places : ℕ
-day-places = 20
-
 -- A day number, or that there is none.
 unfoldable pub day-text : DayAnswer → List ℕ
-day-text (Day n) = decimal day-places (natural-or n 0) ++ (line-feed ∷ [])
+day-text (Day n) = decimal most-digits (natural-or n 0) ++ (line-feed ∷ [])
 day-text (NoDay r) = refused
 
 -- What is wrong with a line, and a line feed: `empty`, `byte`, `space`, `too large`, `too few` or `too many`.

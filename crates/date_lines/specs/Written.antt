@@ -1,11 +1,10 @@
--- The words of the theorems in proofs/Theorems: lines and numbers as they are written.
+-- The words of the theorems in proofs/Theorems: lines as they are written. Their numbers are those of decimals/specs/Numerals.
 use mathlib.Core.Path.{_≡_}
-use mathlib.Core.Bool.{Bool, true, false}
 use mathlib.Core.List.{List, [], _∷_, _++_}
-use Prim.Native.Nat.{ℕ, _+_, _*_, _-_, _≤_}
+use Prim.Native.Nat.{ℕ}
 use lib.IntN.{ℤ}
-use Rattle.integers.specs.Signs.{sgn}
-use Rattle.date_lines.specs.Lines.{line-feed, space, minus-sign, zero-digit, nine-digit, greatest}
+use Rattle.decimals.specs.Numerals.{Numeral}
+use Rattle.date_lines.specs.Lines.{line-feed, space, greatest}
 use Rattle.date_lines.specs.declared.reader.Reading.{Reading}
 use Rattle.date_lines.specs.declared.reader.Reading.the-variants.{Three, Bad}
 
@@ -14,43 +13,14 @@ abbrev pub NoFeed : List ℕ → Type 0
 NoFeed [] = Unit {0}
 NoFeed (b ∷ bs) = (b ≡ line-feed → ⊥) × NoFeed bs
 
--- Bytes that are digits.
-abbrev pub Digits : List ℕ → Type 0
-Digits [] = Unit {0}
-Digits (b ∷ ds) = (zero-digit ≤ b) × (b ≤ nine-digit) × Digits ds
-
--- The number that they are, after v.
-unfoldable pub value : ℕ → List ℕ → ℕ
-value v [] = v
-value v (b ∷ ds) = value (10 * v + (b - zero-digit)) ds
-
--- A number as it is written: a minus or none, a first digit, and more; one of 64 bits.
-pub record Decimal (minus : Bool) (first : ℕ) (more : List ℕ) : Type 0 where
-  pub digits : Digits (first ∷ more)
-  pub small : value 0 (first ∷ more) ≤ greatest minus
-
--- The bytes of a number.
-abbrev pub written : Bool → List ℕ → List ℕ
-written true ds = minus-sign ∷ ds
-written false ds = ds
-
--- The bytes that are written for the number n, which is one of 64 bits.
-pub record Numeral (bytes : List ℕ) (n : ℤ) : Type 0 where
-  pub minus : Bool
-  pub first : ℕ
-  pub more : List ℕ
-  pub decimal : Decimal minus first more
-  pub bytes-are : bytes ≡ written minus (first ∷ more)
-  pub is : n ≡ sgn minus (value 0 (first ∷ more))
-
 -- A line of three numbers, parted by single spaces, and nothing else.
 pub record ThreeNumbers (line : List ℕ) (y m d : ℤ) : Type 0 where
   pub ys : List ℕ
   pub ms : List ℕ
   pub ds : List ℕ
-  pub year : Numeral ys y
-  pub month : Numeral ms m
-  pub day : Numeral ds d
+  pub year : Numeral greatest ys y
+  pub month : Numeral greatest ms m
+  pub day : Numeral greatest ds d
   pub line-is : line ≡ ys ++ (space ∷ (ms ++ (space ∷ ds)))
 
 -- Each line is decided: it has three numbers and is read as these, or it has not and is read as a fault.

@@ -19,10 +19,8 @@ mod reply;
 
 // specs/Lines.antt has the same constants under the same names.
 
-// The byte that ends a line, and that of the digit 0.
+// The byte that ends a line.
 const LINE_FEED: u8 = 10;
-
-const ZERO_DIGIT: u8 = 48;
 
 // What may be wrong with a line.
 const FAULT_EMPTY: u64 = 1;

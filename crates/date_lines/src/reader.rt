@@ -9,17 +9,15 @@ use crate::FAULT_FEW;
 use crate::FAULT_LARGE;
 use crate::FAULT_MANY;
 use crate::FAULT_SPACE;
-use crate::ZERO_DIGIT;
 use arith::signed::of_parts;
+use decimals::MINUS_SIGN;
+use decimals::NINE_DIGIT;
+use decimals::ZERO_DIGIT;
 
 // specs/Lines.antt has the same constants under the same names.
 
-// Bytes that a line may have, beside its line feed.
+// The byte that parts two numbers.
 const SPACE: u8 = 32;
-
-const MINUS_SIGN: u8 = 45;
-
-const NINE_DIGIT: u8 = ZERO_DIGIT + 9;
 
 // The magnitudes of the least and of the greatest number of 64 bits, and the greatest that has room for one more digit.
 const LEAST_SIZE: u64 = 9223372036854775808;

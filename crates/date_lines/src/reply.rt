@@ -1,62 +1,21 @@
 // The text of a reply, written into a lent buffer. All of this is for lib.rt.
-ghost use mathlib.Core.Path.{_≡_};
-ghost use Prim.Native.Nat.{_+_, _≤_, _<_};
+ghost use Prim.Native.Nat.{_+_, _≤_};
 ghost use lib.ListN.{length};
-ghost use Rattle.date_lines.specs.Lines.{zero-digit};
-ghost use Rattle.date_lines.specs.Replies.{decimal, day-text, fault-text, reply, reply-limit};
-ghost use Rattle.date_lines.specs.machine.Writing.{Put};
+ghost use Rattle.date_lines.specs.Replies.{day-text, fault-text, reply, reply-limit};
+ghost use Rattle.decimals.specs.machine.Writing.{Put};
 use crate::FAULT_BYTE;
 use crate::FAULT_EMPTY;
 use crate::FAULT_FEW;
 use crate::FAULT_LARGE;
 use crate::FAULT_SPACE;
 use crate::LINE_FEED;
-use crate::ZERO_DIGIT;
 use crate::reader::Reading;
 use arith::signed::natural_or;
 use calendar::DayAnswer;
 use calendar::day_of_date;
-
-// The digits that a number of 64 bits may have; specs/Replies.antt has the same name.
-const DAY_PLACES: usize = 20;
-
-// Writes a text at a place, and answers the place after it.
-fn put_bytes(text: &[u8], out: &mut [u8], at: usize) -> usize
-    requires { ⌜ at + length (now text) ≤ length (now out) ⌝ }
-    ensures { λ r. ⌜ Put (now (out .entry)) at (now (text .entry)) r (now (out .exit)) ⌝ }
-{
-    let mut i = 0;
-    while i < text.len() {
-        out[at + i] = text[i];
-        i = i + 1;
-    }
-    at + i
-}
-
-// A digit's byte.
-fn digit(d: u64) -> u8
-    requires { ⌜ d < 10 ⌝ }
-    ensures { λ r. ⌜ r ≡ zero-digit + d ⌝ }
-{
-    ZERO_DIGIT + d as u8
-}
-
-// Writes the decimal digits of a number that has at most so many.
-fn put_decimal(n: u64, places: usize, out: &mut [u8], at: usize) -> usize
-    requires { ⌜ at + places ≤ length (now out) ⌝ }
-    ensures { λ r. ⌜ Put (now (out .entry)) at (decimal places n) r (now (out .exit)) ⌝ }
-{
-    if places == 0 {
-        return at;
-    }
-    if n < 10 {
-        out[at] = digit(n);
-        return at + 1;
-    }
-    let next = put_decimal(n / 10, places - 1, out, at);
-    out[next] = digit(n % 10);
-    next + 1
-}
+use decimals::MOST_DIGITS;
+use decimals::writing::put_bytes;
+use decimals::writing::put_decimal;
 
 // Writes a day number, or that it is refused.
 pub fn put_day(answer: DayAnswer, out: &mut [u8], at: usize) -> usize
@@ -65,7 +24,7 @@ pub fn put_day(answer: DayAnswer, out: &mut [u8], at: usize) -> usize
 {
     match answer {
         DayAnswer::Day(n) => {
-            let next = put_decimal(natural_or(n, 0), DAY_PLACES, out, at);
+            let next = put_decimal(natural_or(n, 0), MOST_DIGITS, out, at);
             out[next] = LINE_FEED;
             next + 1
         }

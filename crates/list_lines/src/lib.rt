@@ -4,15 +4,16 @@
 // A run is one line: its first and last minute, then their clock times. A refusal is its number and its words.
 ghost use Prim.Native.Nat.{_≤_};
 use calendar::InstantAnswer;
-use command_line::arguments::Argument;
 use command_line::arguments::Three;
 use command_line::arguments::instant_of_clock;
 use command_line::arguments::minute_of_day;
 use command_line::arguments::number_argument;
 use command_line::arguments::three_arguments;
-use command_line::files::Contents;
-use command_line::files::read_series;
+use command_line::files::Both;
+use command_line::files::first_bytes;
+use command_line::files::read_both;
 use command_line::words::write_refusal;
+use decimals::reading::Read;
 use libc::STDOUT_FILENO;
 use sunlist::ListAnswer;
 use units::Instant;
@@ -88,7 +89,7 @@ fn window_asked(first: usize) -> Asked
     let Three::Numbers(clock) = three_arguments(first + 5) else {
         return Asked::Unclear;
     };
-    let Argument::Number(keep_out) = number_argument(first + 8) else {
+    let Read::Number(keep_out) = number_argument(first + 8) else {
         return Asked::Unclear;
     };
     let hour = clock.first;
@@ -121,26 +122,14 @@ fn list(planet: &[u8], earth: &[u8], w: Window) {
     }
 }
 
-// The first m bytes of one buffer and the first n of the other.
-fn list_of_parts(planet: &[u8], m: usize, earth: &[u8], n: usize, w: Window) {
-    if m <= planet.len() {
-        if n <= earth.len() {
-            list(&planet[..m], &earth[..n], w);
-        }
-    }
-}
-
 // Reads both files into the rooms lent for them.
 fn list_of_files(first: usize, planet: &mut [u8], earth: &mut [u8], w: Window)
     requires { ⌜ first ≤ 900 ⌝ }
 {
-    let Contents::Bytes(m) = read_series(first, b"the planet", planet) else {
+    let Both::Bytes(m, n) = read_both(first, planet, earth) else {
         return;
     };
-    let Contents::Bytes(n) = read_series(first + 1, b"Earth", earth) else {
-        return;
-    };
-    list_of_parts(planet, m, earth, n, w);
+    list(first_bytes(planet, m), first_bytes(earth, n), w);
 }
 
 // The nine arguments from `first` on, answered on standard output.

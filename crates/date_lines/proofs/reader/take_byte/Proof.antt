@@ -1,7 +1,8 @@
 -- `take_byte` meets its contract. Assumes nothing.
 use native.Mathlib.Omega.{arith}
 use borrow.Author.Tests.{eq-eqb, ne-eqb, lt-ltb, le-ltb}
-use Rattle.date_lines.specs.Lines.{space, minus-sign, take}
+use Rattle.decimals.specs.Decimals.{minus-sign}
+use Rattle.date_lines.specs.Lines.{space, take}
 use borrow.Author.Needs.{needs}
 use Rattle.date_lines.proofs.reader.take_byte.Statement.{statement}
 use Rattle.date_lines.proofs.reader.take_byte.Tie as tie

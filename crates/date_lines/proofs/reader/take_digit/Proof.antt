@@ -1,7 +1,8 @@
 -- `take_digit` meets its contract. Assumes nothing.
 use native.Mathlib.Omega.{arith}
 use borrow.Author.Tests.{lt-ltb, le-ltb}
-use Rattle.date_lines.specs.Lines.{zero-digit, nine-digit, digit-limit, at-digit}
+use Rattle.decimals.specs.Decimals.{zero-digit, nine-digit}
+use Rattle.date_lines.specs.Lines.{digit-limit, at-digit}
 use mathlib.Core.Path.{_≡_}
 use mir.Syntax.{w64}
 use mir.Val.{toZ, ofZ}

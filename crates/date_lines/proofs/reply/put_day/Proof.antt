@@ -3,8 +3,10 @@ use native.Mathlib.Omega.{arith}
 use mathlib.Core.Path.{_≡_}
 use mir.Syntax.{w64}
 use mir.Val.{toZ, ofZ}
-use Rattle.date_lines.proofs.WrittenReplies.{decimal-length, day-put, refused-put}
-use Rattle.date_lines.specs.Replies.{refused, day-places}
+use Rattle.decimals.specs.Decimals.{most-digits}
+use Rattle.decimals.proofs.Puts.{decimal-length}
+use Rattle.date_lines.proofs.WrittenReplies.{day-put, refused-put}
+use Rattle.date_lines.specs.Replies.{refused}
 use borrow.Author.Needs.{needs}
 use Rattle.date_lines.proofs.reply.put_day.Statement.{statement}
 use Rattle.date_lines.proofs.reply.put_day.Tie as tie
@@ -23,14 +25,14 @@ slice-write-out c =
     let p = c .before .before in
     let n = p .before .before in
     let s = n .before .before .before .before .before in
-    omega (arith, p .put-decimal .ensures .0, p .put-decimal .kept .1 .1 .0, decimal-length day-places (n .natural-or .result), s .pre, s .good)
+    omega (arith, p .put-decimal .ensures .0, p .put-decimal .kept .1 .1 .0, decimal-length most-digits (n .natural-or .result), s .pre, s .good)
 
 add-result : tie.Need-add-result
 add-result c =
     let p = c .before .before in
     let n = p .before .before in
     let s = n .before .before .before .before .before in
-    omega (arith, p .put-decimal .ensures .0, p .put-decimal .kept .1 .1 .0, decimal-length day-places (n .natural-or .result), s .pre, s .good)
+    omega (arith, p .put-decimal .ensures .0, p .put-decimal .kept .1 .1 .0, decimal-length most-digits (n .natural-or .result), s .pre, s .good)
 
 enum-told : tie.Need-enum-told
 enum-told c = search needs

@@ -1,0 +1,7 @@
+-- The laws of decimals, in reading order; Theorems has what is published.
+-- What the functions that write leave in the output.
+pub mod Puts
+-- The loop that reads digits, and the sign.
+pub mod Taken
+-- The published theorems.
+pub mod Theorems

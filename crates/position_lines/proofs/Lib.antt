@@ -1,0 +1,2 @@
+-- What the functions that write a place leave in the output.
+pub mod WrittenLines

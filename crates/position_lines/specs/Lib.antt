@@ -1,0 +1,2 @@
+-- RULES, "Programs": what the program `position` prints for a place.
+pub mod Lines

@@ -1,0 +1,45 @@
+-- The three lines of a place: right ascension and declination in degrees, the distance in AU, each with the library's own whole number after it.
+use mathlib.Core.List.{List, [], _∷_, _++_}
+use Prim.Native.Nat.{ℕ, _+_, _*_, _/_}
+use lib.IntN.{ℤ, natAbs}
+use Rattle.integers.specs.Signs.{negative}
+use Rattle.decimals.specs.Texts.{text}
+use Rattle.decimals.specs.Decimals.{signed-decimal, fraction}
+use Rattle.place.specs.declared.Equatorial.{Equatorial}
+
+abbrev pub line-feed : ℕ
+line-feed = 10
+
+-- The digits after the point of a degree, and of an AU.
+abbrev pub degree-places : ℕ
+degree-places = 7
+
+abbrev pub distance-places : ℕ
+distance-places = 11
+
+-- A line: a name, n over ten to the number of places with the sign of k, a unit of measure, and k.
+unfoldable pub line-text : List ℕ → ℤ → ℕ → ℕ → List ℕ → List ℕ
+line-text name k places n measure = name ++ (fraction (negative k) places n ++ (measure ++ (signed-decimal k ++ (line-feed ∷ []))))
+
+-- The size of k hundredths of an arcsecond in 10^-7 degree, rounded: a hundredth of an arcsecond is 1/360,000 degree.
+abbrev pub degrees : ℤ → ℕ
+degrees k = (500 * natAbs k + 9) / 18
+
+unfoldable pub angle-text : List ℕ → ℤ → List ℕ
+angle-text name k = line-text name k degree-places (degrees k) (text " degrees, ")
+
+-- A distance is in parts of an AU, which are its last decimal.
+unfoldable pub distance-text : ℤ → List ℕ
+distance-text d = line-text (text "distance ") d distance-places (natAbs d) (text " AU, ")
+
+unfoldable pub place-text : Equatorial → List ℕ
+place-text p =
+    angle-text (text "right ascension ") (p .«right_ascension»)
+    ++ (angle-text (text "declination ") (p .declination) ++ distance-text (p .distance))
+
+-- No line is longer, and no place.
+abbrev pub line-most : ℕ
+line-most = 90
+
+abbrev pub place-most : ℕ
+place-most = 3 * line-most

@@ -1,0 +1,87 @@
+// The lines of a place, written into a lent buffer. All of this is for lib.rt.
+ghost use mathlib.Core.Path.{_≡_};
+ghost use Prim.Native.Nat.{_+_, _^_, _≤_};
+ghost use lib.IntN.{natAbs};
+ghost use lib.ListN.{length};
+ghost use Rattle.decimals.specs.machine.Writing.{Put};
+ghost use Rattle.place.specs.machine.Reach.{Small};
+ghost use Rattle.position_lines.specs.Lines.{line-text, angle-text, distance-text, place-text, line-most, place-most};
+use arith::signed::abs;
+use arith::signed::is_neg;
+use decimals::writing::put_bytes;
+use decimals::writing::put_fraction;
+use decimals::writing::put_signed;
+use place::Equatorial;
+use units::PARTS;
+
+// specs/Lines.antt has these under the same names.
+
+// The digits after the point of a degree, and of an AU.
+const DEGREE_PLACES: usize = 7;
+
+const DISTANCE_PLACES: usize = 11;
+
+// Room for the three lines.
+pub const PLACE_MOST: usize = 270;
+
+// A degree in the last of its decimals; a hundredth of an arcsecond, 1/360,000 degree, is 500/18 of it.
+const DEGREE: u64 = 10000000;
+
+// A name, n over unit with the sign of k, a unit of measure, and k.
+fn put_line(
+    name: &[u8],
+    k: i64,
+    places: usize,
+    n: u64,
+    unit: u64,
+    measure: &[u8],
+    out: &mut [u8],
+    at: usize,
+) -> usize
+    requires { ⌜ (unit ≡ 10 ^ places) × (at + (length (now name) + (44 + places) + length (now measure)) ≤ length (now out)) ⌝ }
+    ensures { λ r. ⌜ Put (now (out .entry)) at (line-text (now (name .entry)) k places n (now (measure .entry))) r (now (out .exit)) ⌝ }
+{
+    let below = is_neg(k);
+    let number = put_bytes(name, out, at);
+    let after = put_fraction(below, n, places, unit, out, number);
+    let whole = put_bytes(measure, out, after);
+    let feed = put_signed(k, out, whole);
+    put_bytes(b"\n", out, feed)
+}
+
+// Hundredths of an arcsecond, in degrees and as they are.
+fn put_angle(name: &[u8], k: i64, out: &mut [u8], at: usize) -> usize
+    requires { ⌜ (natAbs k ≤ 2 ^ 52) × (length (now name) ≤ 16) × (at + line-most ≤ length (now out)) ⌝ }
+    ensures { λ r. ⌜ Put (now (out .entry)) at (angle-text (now (name .entry)) k) r (now (out .exit)) ⌝ }
+{
+    let n = (500 * abs(k) + 9) / 18;
+    put_line(name, k, DEGREE_PLACES, n, DEGREE, b" degrees, ", out, at)
+}
+
+// Parts, in AU and as they are.
+fn put_distance(d: i64, out: &mut [u8], at: usize) -> usize
+    requires { ⌜ at + line-most ≤ length (now out) ⌝ }
+    ensures { λ r. ⌜ Put (now (out .entry)) at (distance-text d) r (now (out .exit)) ⌝ }
+{
+    let n = abs(d);
+    put_line(
+        b"distance ",
+        d,
+        DISTANCE_PLACES,
+        n,
+        PARTS,
+        b" AU, ",
+        out,
+        at,
+    )
+}
+
+// The three lines, from the start of the buffer.
+pub fn put_place(p: Equatorial, out: &mut [u8]) -> usize
+    requires { ⌜ Small p × (place-most ≤ length (now out)) ⌝ }
+    ensures { λ r. ⌜ Put (now (out .entry)) 0 (place-text p) r (now (out .exit)) ⌝ }
+{
+    let second = put_angle(b"right ascension ", p.right_ascension, out, 0);
+    let third = put_angle(b"declination ", p.declination, out, second);
+    put_distance(p.distance, out, third)
+}

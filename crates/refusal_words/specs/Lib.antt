@@ -1,0 +1,2 @@
+-- RULES, "Programs": refusals in words.
+pub mod Words
