@@ -6,4 +6,3 @@ pub mod Residues
 pub mod Naturals
 pub mod Split
 pub mod Ranges
-pub mod Squares

@@ -1,7 +1,6 @@
-// Exact arithmetic on 64-bit numbers: sign and magnitude, rounded quotients, remainders, products and squares that pass 64 bits, the floor root.
+// Exact arithmetic on 64-bit numbers: sign and magnitude, rounded quotients, remainders, products that pass 64 bits.
 pub mod compare;
 pub mod muldiv;
 pub mod residue;
-pub mod root;
 mod round;
 pub mod signed;

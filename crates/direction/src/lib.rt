@@ -7,13 +7,13 @@ ghost use Rattle.direction.specs.Angles.{units-angle};
 ghost use Rattle.direction.specs.Direction.{quarter-steps, turn-steps, steps-angle, not-past, in-quarter, direction, latitude};
 use arith::compare::product_le;
 use arith::muldiv::mul_div_round;
-use arith::root::length;
 use arith::signed::abs;
 use arith::signed::is_neg;
 use arith::signed::low;
 use arith::signed::of_parts;
 use arith::signed::wide;
 use cosine::working::cosine_sine;
+use roots::length;
 use units::TURN;
 
 // Hundredths of an arcsecond in a quarter turn, and in a turn.

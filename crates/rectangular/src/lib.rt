@@ -89,7 +89,7 @@ pub fn length(v: Vector) -> u64
     requires { ⌜ Components (2 ^ 45) v ⌝ }
     ensures { λ r. ⌜ (r ≡ length-of v) × (r < 2 ^ 46) ⌝ }
 {
-    arith::root::length(v.x, v.y, v.z)
+    roots::length(v.x, v.y, v.z)
 }
 
 // v with its length l.

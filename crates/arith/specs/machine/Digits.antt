@@ -1,10 +1,6 @@
--- The base of the digits of a long division, and the least sketch of a root.
+-- The base of the digits of a long division.
 use Prim.Native.Nat.{ℕ}
 
 -- 2^16: with a divisor and a factor of at most 2^47, a rest and a digit's product together fit 64 bits.
 abbrev pub base : ℕ
 base = 65536
-
--- The constant coefficient of the sketch.
-abbrev pub sketch-least : ℕ
-sketch-least = 1597633

@@ -1,9 +1,9 @@
 -- `arith::root::raised` meets its contract. Assumes nothing.
 use Prim.Native.Nat.{_+_, _-_, _*_, _≤_, _<_, _^_}
 use native.Mathlib.Omega.{arith}
-use Rattle.arith.proofs.Squares.{is-above, not-above, small-root, limbs-below, root-from, not-true, not-false}
-use Rattle.arith.proofs.root.raised.Statement.{statement}
-use Rattle.arith.proofs.root.raised.Tie as tie
+use Rattle.roots.proofs.Limbs.{is-above, not-above, small-root, limbs-below, root-from, not-true, not-false}
+use Rattle.roots.proofs.raised.Statement.{statement}
+use Rattle.roots.proofs.raised.Tie as tie
 
 abbrev Inv-loop : tie.InvT-loop
 Inv-loop start hi lo g₀ g = g * g ≤ hi * 2 ^ 46 + lo

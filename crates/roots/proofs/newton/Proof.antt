@@ -2,9 +2,9 @@
 use native.Mathlib.Omega.{arith}
 use borrow.Author.Needs.{needs}
 use Prim.Native.Nat.{_/_, _<_, _^_}
-use Rattle.arith.proofs.Squares.{quotient-below}
-use Rattle.arith.proofs.root.newton.Statement.{statement}
-use Rattle.arith.proofs.root.newton.Tie as tie
+use Rattle.roots.proofs.Limbs.{quotient-below}
+use Rattle.roots.proofs.newton.Statement.{statement}
+use Rattle.roots.proofs.newton.Tie as tie
 
 small : (c : tie.Start) → c .args .m / c .args .a < 2 ^ 26
 small c = quotient-below (c .args .m) (c .args .a) 1597633 (2 ^ 26) (c .pre .0) (omega arith)

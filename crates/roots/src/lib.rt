@@ -5,8 +5,8 @@ ghost use Prim.Native.Nat.{_+_, _*_, _/_, _%_, _<_, _≤_, _^_};
 ghost use lib.Dec.{ltb};
 ghost use lib.IntN.{natAbs, _+ℤ_, _*ℤ_};
 ghost use Rattle.integers.specs.Root.{root};
-ghost use Rattle.arith.specs.machine.Digits.{sketch-least};
-use crate::signed::abs;
+ghost use Rattle.roots.specs.machine.Sketch.{sketch-least};
+use arith::signed::abs;
 
 // A limb is below this, 2^46, and a half of one below its root, 2^23.
 const LIMB: u64 = HALF_LIMB * HALF_LIMB;

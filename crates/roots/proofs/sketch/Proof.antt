@@ -3,8 +3,8 @@ use Prim.Native.Nat.{ℕ, _-_, _*_, _/_, _≤_}
 use native.Mathlib.Omega.{arith}
 use native.Mathlib.Nat.{mul-le-mul}
 use borrow.Author.Needs.{needs}
-use Rattle.arith.proofs.root.sketch.Statement.{statement}
-use Rattle.arith.proofs.root.sketch.Tie as tie
+use Rattle.roots.proofs.sketch.Statement.{statement}
+use Rattle.roots.proofs.sketch.Tie as tie
 
 -- the polynomial's partial values at t, and how large their products with t are
 abbrev A : ℕ → ℕ

@@ -3,10 +3,10 @@ use Prim.Native.Nat.{ℕ, _+_, _*_, _≤_, _<_, _^_}
 use native.Mathlib.Omega.{arith}
 use borrow.Author.Needs.{needs}
 use lib.Dec.{lit<}
 use Rattle.arith.proofs.Long.{divided, quotient}
-use Rattle.arith.proofs.Squares.{sum-is, small-root}
-use Rattle.arith.proofs.root.squares.Statement.{statement}
-use Rattle.arith.proofs.root.squares.Tie as tie
+use Rattle.roots.proofs.Limbs.{sum-is, small-root}
+use Rattle.roots.proofs.squares.Statement.{statement}
+use Rattle.roots.proofs.squares.Tie as tie
 
 abbrev N : tie.Start → ℕ
 N c = c .args .x * c .args .x + c .args .y * c .args .y + c .args .z * c .args .z

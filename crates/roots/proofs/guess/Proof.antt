@@ -4,8 +4,8 @@ use native.Mathlib.Omega.{arith}
 use native.Mathlib.Nat.{div-le-self}
 use lib.Count.{leadingZeros}
 use borrow.Author.Needs.{needs}
-use Rattle.arith.proofs.root.guess.Statement.{statement}
-use Rattle.arith.proofs.root.guess.Tie as tie
+use Rattle.roots.proofs.guess.Statement.{statement}
+use Rattle.roots.proofs.guess.Tie as tie
 
 mul-n : tie.Need-mul-n
 mul-n c = search needs

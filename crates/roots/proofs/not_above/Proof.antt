@@ -1,8 +1,8 @@
 -- `arith::root::not_above` meets its contract. Assumes nothing.
 use borrow.Author.Needs.{needs}
-use Rattle.arith.proofs.Squares.{square-fits}
-use Rattle.arith.proofs.root.not_above.Statement.{statement}
-use Rattle.arith.proofs.root.not_above.Tie as tie
+use Rattle.roots.proofs.Limbs.{square-fits}
+use Rattle.roots.proofs.not_above.Statement.{statement}
+use Rattle.roots.proofs.not_above.Tie as tie
 
 mul-if1 : tie.Need-mul-if1
 mul-if1 c = record { fits = square-fits (c .args .s) (c .pre .1) }

@@ -1,9 +1,9 @@
 -- `arith::root::lowered` meets its contract. Assumes nothing.
 use Prim.Native.Nat.{_≤_, _<_, _^_}
 use native.Mathlib.Omega.{arith}
-use Rattle.arith.proofs.Squares.{is-above, not-above, above-zero}
-use Rattle.arith.proofs.root.lowered.Statement.{statement}
-use Rattle.arith.proofs.root.lowered.Tie as tie
+use Rattle.roots.proofs.Limbs.{is-above, not-above, above-zero}
+use Rattle.roots.proofs.lowered.Statement.{statement}
+use Rattle.roots.proofs.lowered.Tie as tie
 
 abbrev Inv-loop : tie.InvT-loop
 Inv-loop start hi lo g₀ g = g ≤ 2 ^ 46

@@ -3,10 +3,10 @@ use native.Mathlib.Omega.{arith}
 use borrow.Author.Needs.{needs}
 use Prim.Native.Nat.{_*_, _^_}
 use lib.Dec.{lit<}
 use Rattle.arith.proofs.Long.{Divided, divided}
-use Rattle.arith.proofs.Squares.{limbs-less, upper-most}
-use Rattle.arith.proofs.root.above.Statement.{statement}
-use Rattle.arith.proofs.root.above.Tie as tie
+use Rattle.roots.proofs.Limbs.{limbs-less, upper-most}
+use Rattle.roots.proofs.above.Statement.{statement}
+use Rattle.roots.proofs.above.Tie as tie
 
 two : (c : tie.After-square) → Divided (c .before .args .g * c .before .args .g) (2 ^ 46) (c .square .result .hi) (c .square .result .lo)
 two c = divided _ _ _ _ (lit< tt) (c .square .ensures)

@@ -5,11 +5,11 @@ use borrow.Author.Needs.{needs}
 use lib.Dec.{lit<}
 use lib.IntN.{natAbs, _+ℤ_, _*ℤ_}
 use Rattle.integers.specs.Root.{root}
 use Rattle.arith.proofs.Signs.{back}
 use Rattle.arith.proofs.Long.{Divided, divided}
-use Rattle.arith.proofs.Squares.{squares-value, upper-below}
-use Rattle.arith.proofs.root.length.Statement.{statement}
-use Rattle.arith.proofs.root.length.Tie as tie
+use Rattle.roots.proofs.Limbs.{squares-value, upper-below}
+use Rattle.roots.proofs.length.Statement.{statement}
+use Rattle.roots.proofs.length.Tie as tie
 
 abs-requires : tie.Need-abs-requires
 abs-requires c κs = search needs

@@ -1,10 +1,10 @@
 -- `arith::root::square` meets its contract: three bounds on products of halves serve every need. Assumes nothing.
 use native.Mathlib.Omega.{arith}
 use borrow.Author.Needs.{needs}
 use Rattle.arith.proofs.Long.{quotient}
-use Rattle.arith.proofs.Squares.{square-is, halves}
-use Rattle.arith.proofs.root.square.Statement.{statement}
-use Rattle.arith.proofs.root.square.Tie as tie
+use Rattle.roots.proofs.Limbs.{square-is, halves}
+use Rattle.roots.proofs.square.Statement.{statement}
+use Rattle.roots.proofs.square.Tie as tie
 
 mul-m : tie.Need-mul-m
 mul-m c = omega (arith, halves (c .args .x) (c .pre))

@@ -1,0 +1,2 @@
+-- What the contracts cite is in the crate `integers`, but for this.
+pub mod machine
