@@ -95,7 +95,7 @@ pub struct Coordinates {
 // Why a call gives no answer, in the order of its numbers. One more refusal wants, and nothing else:
 // - its case here, and an arm in `number` and in `figure` below (whose proof has a `cc` for each arm that has a figure);
 // - a line in both definitions of specs/Refusals.antt;
-// - its words, in `write_words` of the crate command_line;
+// - its words, in the crate refusal_words: `words` of specs/Words.antt, and `put_words`;
 // - a line in the table of include/stephylax.h;
 // - its case in the host's enum, host/src/refusal.rs.
 pub enum Refusal {
