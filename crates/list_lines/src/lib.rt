@@ -2,7 +2,11 @@
 //     list PLANET EARTH YEAR MONTH DAY HOUR MINUTE MINUTES KEEP-OUT
 // PLANET and EARTH are files of packed series of up to 24,576 bytes each, the date and time are TD, the keep-out is in arcminutes.
 // A run is one line: its first and last minute, then their clock times. A refusal is its number and its words.
+mod lines;
+
 ghost use Prim.Native.Nat.{_≤_};
+use crate::lines::RUN_MOST;
+use crate::lines::put_run;
 use calendar::InstantAnswer;
 use command_line::arguments::Three;
 use command_line::arguments::instant_of_clock;
@@ -24,32 +28,10 @@ const DAY: u64 = 1440;
 // A byte more than the longest file that is taken.
 const ROOM: usize = 24577;
 
-// A number below a hundred as two digits.
-fn two_digits(n: u64) {
-    if n < 10 {
-        io::write_all(STDOUT_FILENO, b"0");
-    }
-    io::print_decimal(STDOUT_FILENO, n);
-}
-
-// The clock time of minute j, where minute 0 is at this minute of the day.
-fn print_clock(start: u64, j: u64) {
-    let at = (start % DAY + j % DAY) % DAY;
-    two_digits(at / 60);
-    io::write_all(STDOUT_FILENO, b":");
-    two_digits(at % 60);
-}
-
-// One run: "12 to 40, 00:12 to 00:40".
 fn print_run(start: u64, first: u64, last: u64) {
-    io::print_decimal(STDOUT_FILENO, first);
-    io::write_all(STDOUT_FILENO, b" to ");
-    io::print_decimal(STDOUT_FILENO, last);
-    io::write_all(STDOUT_FILENO, b", ");
-    print_clock(start, first);
-    io::write_all(STDOUT_FILENO, b" to ");
-    print_clock(start, last);
-    io::write_all(STDOUT_FILENO, b"\n");
+    let mut line = [0u8; RUN_MOST];
+    let n = put_run(start, first, last, &mut line);
+    io::write_all(STDOUT_FILENO, &line[..n]);
 }
 
 // The runs among the first count numbers.

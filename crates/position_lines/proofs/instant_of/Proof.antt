@@ -17,7 +17,7 @@ returns c =
     let c1 : Cell (a .clock .first) ≡ a .clock .first = search needs in
     let c2 : Cell (a .clock .second) ≡ a .clock .second = search needs in
     let c3 : Cell (a .clock .third) ≡ a .clock .third = search needs in
-    rw (d1, d2, d3, c1, c2, c3) at (c .instant-of-clock .ensures)
+    simp (d1, d2, d3, c1, c2, c3) at (c .instant-of-clock .ensures)
 
 pub instant-of-spec : {M : Type 1} → statement M
 instant-of-spec = tie.close (tie.spec instant-of-clock-requires returns)

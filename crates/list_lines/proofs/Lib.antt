@@ -1,0 +1,2 @@
+-- What the functions that write a run leave in the output.
+pub mod WrittenRuns

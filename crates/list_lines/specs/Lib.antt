@@ -1,0 +1,2 @@
+-- RULES, "Programs": what the program `list` prints for a run.
+pub mod Lines
