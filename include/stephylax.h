@@ -16,20 +16,21 @@
  *   no.  given exactly when (enum stephylax_refusal names each)               figure
  *    1   year, month, day (the skipped days of 1582 too), ms or a day         first bad field, 1 to 4 in that order;
  *        number does not exist                                                5 for a day number
- *    2   t, or the light-time instant, passes its limit                       that instant
- *    3   a text byte cannot continue a line                                   its offset
- *    4   a number or count passes its limit, or a packed number goes past     offset *
- *        nine groups
+ *    2   the instant asked for, or the one that the light left at, is more    that instant
+ *        than two millennia from 0
+ *    3   no line goes on with this byte of a text                             its offset
+ *    4   a number is too large, a count is too large, or a packed number      offset *
+ *        has more than nine groups
  *    5   the amplitudes of a block total more than their limit                offset *
- *    6   the series is too coarse                                             offset *
- *    7   the output does not fit                                              the length it would need; for a text
+ *    6   the terms so far are too coarse to be summed within 10^-6            offset *
+ *    7   there is no room for the output                                      the room it wants; for a text
  *                                                                             the offset *
- *    8   the input ended before block 18 did                                  its length
- *    9   a byte follows block 18                                              its offset
+ *    8   the input is over before its 18 blocks are                           its length
+ *    9   there is a byte more after the last block                            its offset
  *   10   a packed number is not in its shortest form                          offset *
  *   11   a place is not usable                                                the minute of a list, else 0
- *   12   keep-out outside 60 to 2,700 arcminutes, or minutes outside          0
- *        1 to 1,440
+ *   12   the keep-out is not from 60 to 2,700 arcminutes, or the minutes      0
+ *        are not from 1 to 1,440
  *
  * Offsets count bytes from 0 at the beginning of the whole input. The offset * of a text is that of the line feed which ends
  * the line; that of a packed series is that of the number's last byte (of the ninth, if the number goes past nine groups).

@@ -1,5 +1,5 @@
-// A signed number as a sign and a magnitude, and one signed operation each, so that a caller has the whole number itself and not its bits.
-// All of these are for this crate and those above.
+// For this crate and those above: a signed number as a sign and a magnitude, and one signed operation each, so that a caller has the whole
+// number itself and not its bits.
 ghost use mathlib.Core.Path.{_≡_};
 ghost use Prim.Native.Nat.{_<_, _^_};
 ghost use mathlib.Core.Bool.{true};

@@ -1,4 +1,4 @@
-// Arguments that are numbers, and a clock time made of them.
+// Arguments that are numbers, and a clock time made of them. For the programs.
 ghost use mathlib.Core.Path.{_≡_};
 ghost use Prim.Native.Nat.{_≤_};
 ghost use Rattle.command_line.specs.Clock.{ms-of-day, instant-of-clock, minute-of-day};

@@ -1,4 +1,4 @@
-// Files of packed series in, and bytes out.
+// Files of packed series in, and bytes out. For the programs.
 ghost use mathlib.Core.Path.{_≡_};
 ghost use Prim.Native.Nat.{_≤_};
 ghost use lib.ListN.{take};

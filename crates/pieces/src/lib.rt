@@ -1,4 +1,4 @@
-// The sum of a block of a term table, in pieces of up to 128 terms. The angles of a piece are worked out first, and each term is put
+// The sum of a block of a term table, in pieces of up to 128 terms. For the crates above. The angles of a piece are worked out first, and each term is put
 // into one of two tables by the parity of its quarter; then each table is summed. So no jump hangs on a quarter, which is as good as
 // random from term to term. A table has one place more than a piece has terms: a term of amplitude 0 stands past the last one, for a
 // last pair to end with. Of a term, ea and ev (at an even quarter) or oa and ov (at an odd one) hold the a and the v of

@@ -1,4 +1,4 @@
-// Blocks: the lengths of their texts, and writing them into a buffer with room.
+// Blocks: the lengths of their texts, and writing them into a buffer with room. For this crate alone.
 use crate::digits::put_byte;
 use crate::digits::put_whole;
 use crate::digits::whole_length;

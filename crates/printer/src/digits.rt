@@ -1,4 +1,4 @@
-// Digits and decimals: their lengths, and writing them into a buffer with room.
+// Digits and decimals: their lengths, and writing them into a buffer with room. For this crate alone.
 use units::PARTS;
 ghost use mathlib.Core.Path.{_≡_};
 ghost use mathlib.Core.List.{[], _∷_};

@@ -1,4 +1,4 @@
-// Term lines: their lengths, and writing them into a buffer with room.
+// Term lines: their lengths, and writing them into a buffer with room. For this crate alone.
 use crate::digits::decimal_length;
 use crate::digits::put_byte;
 use crate::digits::put_decimal;

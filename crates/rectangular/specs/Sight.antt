@@ -22,7 +22,7 @@ greatest-radius = 64 * parts
 unfoldable pub radius-usable : ℤ → Bool
 radius-usable r = leZ (pos least-radius) r && leZ r (pos greatest-radius)
 
--- A usable D is at least 0.1 AU, and 16 D at least the sum of both R.
+-- D is usable from 0.1 AU on, if both R together are not above 16 D.
 abbrev pub least-distance : ℕ
 least-distance = parts / 10
 

@@ -1,4 +1,4 @@
--- P1: the working and the reference cosine of an allowed term differ by at most 7/U, and by 0 if it is constant. Assumes nothing.
+-- P1: an allowed term has its working cosine within 7/U of the reference, and equal to it if the term is constant. Assumes nothing.
 use mathlib.Core.Path.{_≡_, sym, ap, subst, subst₂}
 use mathlib.Core.List.{[], _∷_}
 use Prim.Native.Nat.{ℕ, _*_, _+_, _/_, _<_}

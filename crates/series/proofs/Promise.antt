@@ -1,4 +1,4 @@
--- P2: L, B and R of an accepted series are within 10^-6 of the exact sums. Assumes nothing.
+-- P2: what an accepted series answers for L, B and R is no farther than 10^-6 from its exact sums. Assumes nothing.
 use mathlib.Core.Path.{_≡_, subst}
 use mathlib.Core.List.{List}
 use Prim.Native.Nat.{ℕ, _*_, _≤_}

@@ -1,4 +1,4 @@
-// The judgement of a line's numbers: refusals 4, 5 and 6. The limits are those of every series (crate limits); a text adds that b has
+// The judgement of a line's numbers: refusals 4, 5 and 6. For this crate alone. The limits are those of every series (crate limits); a text adds that b has
 // no minus.
 use crate::Line;
 use limits::Tally;

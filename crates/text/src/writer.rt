@@ -1,4 +1,4 @@
-// The writer of a term's packed bytes (refusal 7: no room for them).
+// The writer of a term's packed bytes (refusal 7: no room for them). For this crate alone.
 use crate::Line;
 use packed_numbers::Put;
 use packed_numbers::groups_of;

@@ -97,7 +97,7 @@ pub record Sound (c m d : ℕ) : Type 0 where
   pub small : c ≤ last-index
   pub exists : bad-field c m d ≡ 0
 
--- Months 1 and 2 count as 13 and 14 of the year before.
+-- January and February are months 13 and 14 of the year before.
 abbrev pub march-year : ℕ → ℕ → ℕ
 march-year c m = cond (ltb m 3) (c - 1) c
 

@@ -1,4 +1,4 @@
--- `arith::root::above` meets its contract. Assumes nothing.
+-- `roots::above` meets its contract. Assumes nothing.
 use native.Mathlib.Omega.{arith}
 use borrow.Author.Needs.{needs}
 use Prim.Native.Nat.{_*_, _^_}

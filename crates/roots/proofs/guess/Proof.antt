@@ -1,4 +1,4 @@
--- `arith::root::guess` is safe. Nothing is claimed of its result. Assumes nothing.
+-- `roots::guess` is safe. Nothing is claimed of its result. Assumes nothing.
 use Prim.Native.Nat.{ℕ, _+_, _*_, _/_, _%_, _^_}
 use native.Mathlib.Omega.{arith}
 use native.Mathlib.Nat.{div-le-self}

@@ -1,4 +1,4 @@
--- `arith::root::length` meets its contract. Assumes nothing.
+-- `roots::length` meets its contract. Assumes nothing.
 use mathlib.Core.Path.{_≡_, _∙_, sym, ap, subst}
 use Prim.Native.Nat.{ℕ, _+_, _*_, _<_, _^_}
 use borrow.Author.Needs.{needs}

@@ -1,4 +1,4 @@
--- `arith::root::lowered` meets its contract. Assumes nothing.
+-- `roots::lowered` meets its contract. Assumes nothing.
 use Prim.Native.Nat.{_≤_, _<_, _^_}
 use native.Mathlib.Omega.{arith}
 use Rattle.roots.proofs.Limbs.{is-above, not-above, above-zero}

@@ -1,4 +1,4 @@
--- `arith::root::newton` meets its contract. Assumes nothing.
+-- `roots::newton` meets its contract. Assumes nothing.
 use native.Mathlib.Omega.{arith}
 use borrow.Author.Needs.{needs}
 use Prim.Native.Nat.{_/_, _<_, _^_}

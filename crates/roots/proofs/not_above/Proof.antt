@@ -1,4 +1,4 @@
--- `arith::root::not_above` meets its contract. Assumes nothing.
+-- `roots::not_above` meets its contract. Assumes nothing.
 use borrow.Author.Needs.{needs}
 use Rattle.roots.proofs.Limbs.{square-fits}
 use Rattle.roots.proofs.not_above.Statement.{statement}

@@ -1,4 +1,4 @@
--- `arith::root::raised` meets its contract. Assumes nothing.
+-- `roots::raised` meets its contract. Assumes nothing.
 use Prim.Native.Nat.{_+_, _-_, _*_, _≤_, _<_, _^_}
 use native.Mathlib.Omega.{arith}
 use Rattle.roots.proofs.Limbs.{is-above, not-above, small-root, limbs-below, root-from, not-true, not-false}

@@ -1,4 +1,4 @@
--- `arith::root::rest` meets its contract. Assumes nothing.
+-- `roots::rest` meets its contract. Assumes nothing.
 use borrow.Author.Needs.{needs}
 use Rattle.roots.proofs.Limbs.{square-fits}
 use Rattle.roots.proofs.rest.Statement.{statement}

@@ -1,4 +1,4 @@
--- `arith::root::sketch` meets its contract. Assumes nothing.
+-- `roots::sketch` meets its contract. Assumes nothing.
 use Prim.Native.Nat.{ℕ, _-_, _*_, _/_, _≤_}
 use native.Mathlib.Omega.{arith}
 use native.Mathlib.Nat.{mul-le-mul}

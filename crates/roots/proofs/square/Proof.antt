@@ -1,4 +1,4 @@
--- `arith::root::square` meets its contract: three bounds on products of halves serve every need. Assumes nothing.
+-- `roots::square` meets its contract: three bounds on products of halves serve every need. Assumes nothing.
 use native.Mathlib.Omega.{arith}
 use borrow.Author.Needs.{needs}
 use Rattle.arith.proofs.Long.{quotient}

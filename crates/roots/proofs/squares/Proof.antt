@@ -1,4 +1,4 @@
--- `arith::root::squares` meets its contract. Assumes nothing.
+-- `roots::squares` meets its contract. Assumes nothing.
 use Prim.Native.Nat.{ℕ, _+_, _*_, _≤_, _<_, _^_}
 use native.Mathlib.Omega.{arith}
 use borrow.Author.Needs.{needs}
