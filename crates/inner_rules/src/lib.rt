@@ -25,7 +25,7 @@ use direction::latitude_of;
 use nutation::angles_at;
 use nutation::mean_obliquity_at;
 use nutation::rows::nutation_at;
-use place::steps::light;
+use place::light_time::light;
 use rectangular::Sight;
 use rectangular::Vector;
 use rectangular::from_earth::sight;

@@ -5,7 +5,8 @@ ghost use Rattle.place.specs.Mount.{mount-answer};
 
 mod bodies;
 mod doubles;
-pub mod steps;
+pub mod light_time;
+mod steps;
 
 use crate::bodies::sighting;
 use crate::doubles::figures;

@@ -1,4 +1,4 @@
-// The steps to an apparent place. What is public is for this crate, and for the tests of inner rules.
+// The steps to an apparent place. For this crate alone.
 ghost use mathlib.Core.Path.{_≡_};
 ghost use Prim.Native.Nat.{_<_, _≤_, _^_};
 ghost use lib.IntN.{pos, natAbs};
@@ -6,12 +6,12 @@ ghost use Rattle.rectangular.specs.machine.Components.{Components};
 ghost use Rattle.integers.specs.Division.{modulo};
 ghost use Rattle.units.specs.Units.{turn, t-limit};
 ghost use Rattle.direction.specs.Direction.{turn-steps, steps-angle};
-ghost use Rattle.place.specs.Apparent.{light-time, earlier as earlier-of, rebuilt, to-equator as to-equator-of, apparent as apparent-of};
+ghost use Rattle.place.specs.Apparent.{earlier as earlier-of, rebuilt, to-equator as to-equator-of, apparent as apparent-of};
 ghost use Rattle.place.specs.Apparent.{equatorial as equatorial-of};
 ghost use Rattle.place.specs.machine.Reach.{reach, equator-reach};
 use crate::Apparent;
 use crate::Equatorial;
-use arith::muldiv::mul_div_round_wide;
+use crate::light_time::light;
 use arith::muldiv::scale;
 use arith::residue::residue;
 use arith::signed::add;
@@ -27,27 +27,7 @@ use rectangular::Vector;
 use rectangular::from_angles;
 use rectangular::length;
 use units::Instant;
-use units::PARTS;
 use units::TURN;
-
-// The same constants stand in specs/Apparent.antt.
-
-// Light takes LIGHT_NS nanoseconds for an AU. The divisor, nanoseconds to a millisecond times parts to an AU, comes as two factors.
-const LIGHT_NS: u64 = 499004781984;
-
-const NS_PER_MS: u64 = 1000000;
-
-const LIGHT_STEP: u64 = 10000000;
-
-const LIGHT_REST: u64 = NS_PER_MS * PARTS / LIGHT_STEP;
-
-// The light time of a distance, in ms.
-pub fn light(distance: u64) -> i64
-    requires { ⌜ distance < 2 ^ 46 ⌝ }
-    ensures { λ r. ⌜ r ≡ light-time distance ⌝ }
-{
-    mul_div_round_wide(LIGHT_NS, distance, LIGHT_STEP, LIGHT_REST)
-}
 
 // The instant at which light left that is seen at t from a distance.
 pub fn earlier(t: Instant, distance: u64) -> Instant

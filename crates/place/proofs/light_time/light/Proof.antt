@@ -1,8 +1,8 @@
--- `place::steps::light` meets its contract. Assumes nothing.
+-- `place::light_time::light` meets its contract. Assumes nothing.
 use Rattle.place.proofs.Light.{light-told}
 use borrow.Author.Needs.{needs}
-use Rattle.place.proofs.steps.light.Statement.{statement}
-use Rattle.place.proofs.steps.light.Tie as tie
+use Rattle.place.proofs.light_time.light.Statement.{statement}
+use Rattle.place.proofs.light_time.light.Tie as tie
 
 mul-div-round-wide-requires : tie.Need-mul-div-round-wide-requires
 mul-div-round-wide-requires c κs = search needs
