@@ -68,9 +68,9 @@ readelf -lW "$library" | grep GNU_STACK | grep -q RWE && fail "the shared librar
 
 # The command finds its data beside its own folder, and not in the repository: Venus under Mercury's name is counted as Venus.
 command=$prefix/bin/stephylax
-"$command" check mercury | grep -q 6827 || fail "the installed command does not know Mercury"
+"$command" check mercury | grep -q 6,827 || fail "the installed command does not know Mercury"
 cp "$prefix/share/stephylax/vsop87d/venus.txt" "$prefix/share/stephylax/vsop87d/mercury.txt"
-"$command" check mercury | grep -q 1682 || fail "the installed command has other data than those installed with it"
+"$command" check mercury | grep -q 1,682 || fail "the installed command has other data than those installed with it"
 cp "$repository/data/vsop87d/mercury.txt" "$prefix/share/stephylax/vsop87d/mercury.txt"
 
 # The man page has every line of the help.

@@ -18,7 +18,7 @@ fn files() {
     let path = large.to_str().unwrap();
     fails(&["check", path], 3, &format!("{path} is too large"));
     std::fs::remove_file(&large).unwrap();
-    assert!(printed(&["check", "earth"]).starts_with("Earth: a good series of 2425 terms, 37786 bytes packed, "));
+    assert!(printed(&["check", "earth"]).starts_with("Earth: a good series of 2,425 terms, 37,786 bytes packed, "));
 }
 
 #[test]
@@ -27,7 +27,7 @@ fn packing_and_back() {
     let series = published("venus");
     let path = packed.to_str().unwrap();
     prints(&["pack", &published_file("venus"), path], "");
-    assert!(printed(&["check", path]).starts_with("venus: a good series of 1682 terms, 26247 bytes packed, "));
+    assert!(printed(&["check", path]).starts_with("venus: a good series of 1,682 terms, 26,247 bytes packed, "));
     let back = run(&["unpack", path]);
     assert_eq!(back.stdout, series);
     let piped = run_with(&series, command(&["pack"]));

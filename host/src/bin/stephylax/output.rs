@@ -1,6 +1,7 @@
 //! Bytes in and out: standard input and output, and files, which are written beside and then renamed.
 
 use crate::failure::Failure;
+use crate::tables::parted;
 use std::fs::{File, OpenOptions};
 use std::io::{Error, ErrorKind, Read, Write};
 use std::os::fd::AsFd;
@@ -30,7 +31,8 @@ pub fn read(path: &Path) -> Result<Vec<u8>, Failure> {
     let mut bytes = Vec::new();
     source.take(LONGEST_FILE + 1).read_to_end(&mut bytes).map_err(fail)?;
     if LONGEST_FILE < bytes.len() as u64 {
-        return Err(Failure::File(format!("{} is too large: more than {LONGEST_FILE} bytes", path.display())));
+        let most = parted(LONGEST_FILE as i64);
+        return Err(Failure::File(format!("{} is too large: more than {most} bytes", path.display())));
     }
     Ok(bytes)
 }
