@@ -118,3 +118,22 @@ fn streams_that_fail() {
     let status = command(&["day", "2026-02-31"]).stderr(Stdio::from(writer)).status().unwrap();
     assert_eq!(status.code(), Some(1));
 }
+
+/// Closed from the start: what has nothing to print, or prints to a file, is answered. Thrown away is not closed.
+#[test]
+fn a_closed_stream() {
+    let packed = scratch("closed.packed");
+    let (venus, packed) = (published_file("venus"), packed.to_str().unwrap());
+    let quiet = ["sun-list", "venus", "2019-11-11", "--minutes", "9", "--quiet"];
+    for (words, status) in [(&["check", "venus"][..], 3), (&["--help"], 3), (&quiet, 4), (&["pack", &venus, packed], 0)]
+    {
+        let mut shell = std::process::Command::new("sh");
+        shell.args(["-c", "exec \"$@\" >&-", "sh", env!("CARGO_BIN_EXE_stephylax")]).args(words);
+        let output = shell.env_remove("STEPHYLAX_DATA").output().unwrap();
+        assert_eq!(output.status.code(), Some(status), "{words:?}");
+        let said = if status == 3 { "stephylax: standard output is closed\n" } else { "" };
+        assert_eq!(text(&output.stderr), said, "{words:?}");
+        let nowhere = command(words).stdout(Stdio::null()).status().unwrap();
+        assert_eq!(nowhere.code(), Some(if status == 3 { 0 } else { status }), "{words:?}");
+    }
+}
