@@ -76,14 +76,15 @@ install: $(COMMAND) $(ARCHIVE) $(SHARED) $(MADE)
 	install -m 644 $(SERIES) $(SHARE)/stephylax/vsop87d
 	install -m 644 target/install/stephylax.1 $(SHARE)/man/man1/stephylax.1
 	install -m 644 packaging/stephylax.bash $(COMPLETIONS)/stephylax
-	install -m 644 python/stephylax.py python/example.py $(PYTHONHERE)
+	install -m 644 python/stephylax.py $(PYTHONHERE)/stephylax.py
+	install -m 644 python/example.py $(SHARE)/stephylax/example.py
 
 # The folders from the innermost out; one that holds something else stays.
 uninstall:
 	rm -f $(BIN)/stephylax $(INCLUDE)/stephylax.h $(LIB)/libstephylax.a $(LIB)/$(notdir $(SHARED)) $(LIB)/$(SONAME) $(LIB)/libstephylax.so
 	rm -f $(LIB)/pkgconfig/stephylax.pc $(SHARE)/man/man1/stephylax.1 $(COMPLETIONS)/stephylax
 	rm -f $(addprefix $(SHARE)/stephylax/vsop87d/,$(notdir $(SERIES)))
-	rm -f $(PYTHONHERE)/stephylax.py $(PYTHONHERE)/example.py $(PYTHONHERE)/__pycache__/stephylax.*.pyc $(PYTHONHERE)/__pycache__/example.*.pyc
+	rm -f $(PYTHONHERE)/stephylax.py $(PYTHONHERE)/__pycache__/stephylax.*.pyc $(SHARE)/stephylax/example.py
 	for folder in $(PYTHONHERE)/__pycache__ $(PYTHONHERE) $(SHARE)/stephylax/vsop87d $(SHARE)/stephylax $(COMPLETIONS) \
 		$(SHARE)/bash-completion $(SHARE)/man/man1 $(SHARE)/man $(SHARE) $(LIB)/pkgconfig $(LIB) $(INCLUDE) $(BIN); do \
 		rmdir $$folder 2>/dev/null || :; done

@@ -1,11 +1,11 @@
 # Completion of the command stephylax for bash. The commands and the options are those that `stephylax --help` tells.
 
-# The options in the lines of a command, and in the lines on all commands.
+# The options in the lines of a command, and in the line on every command.
 _stephylax_options() {
     awk -v command="$1" '
-        /^Exit status/ { exit }
+        /^$/ { its = 0 }
         /^  stephylax / { its = ($2 == command) }
-        /^[^ ]/ { its = 1 }
+        /^Every command/ { its = 1 }
         its { while (match($0, /--[a-z][a-z-]*/)) { print substr($0, RSTART, RLENGTH); $0 = substr($0, RSTART + RLENGTH) } }'
 }
 
@@ -17,6 +17,23 @@ _stephylax_names() {
     for path in "$folder"/*.txt; do
         [[ -e $path ]] && basename "$path" .txt
     done
+}
+
+# What the word becomes where a series stands: a name, or a file if it is a path or follows `text:` or `packed:`. bash parts words
+# at a colon, unless it is told not to.
+_stephylax_series() { # COMMAND
+    local word=${COMP_WORDS[COMP_CWORD]} before=${COMP_WORDS[COMP_CWORD - 1]} kind=
+    if [[ $word == : ]]; then
+        kind=$before word=
+    elif [[ $before == : ]]; then
+        kind=${COMP_WORDS[COMP_CWORD - 2]}
+    fi
+    case $kind:$word in
+    text:* | packed:*) compgen -f -- "$word" ;;
+    :text:* | :packed:*) compgen -f -P "${word%%:*}:" -- "${word#*:}" ;;
+    :*/*) compgen -f -- "$word" ;;
+    :*) compgen -W "$(_stephylax_names "$1")" -- "$word" ;;
+    esac
 }
 
 _stephylax() {
@@ -36,9 +53,10 @@ _stephylax() {
         if [[ $word == -* ]]; then
             words=$(_stephylax_options "${COMP_WORDS[1]}" <<<"$help")
             mapfile -t COMPREPLY < <(compgen -W "$words" -- "$word" | sort -u)
+        elif [[ ${COMP_WORDS[1]} == *pack ]]; then
+            mapfile -t COMPREPLY < <(compgen -f -- "$word")
         else
-            words=$(_stephylax_names "${COMP_WORDS[0]}")
-            mapfile -t COMPREPLY < <(compgen -W "$words" -- "$word"; compgen -f -- "$word")
+            mapfile -t COMPREPLY < <(_stephylax_series "${COMP_WORDS[0]}")
         fi
         ;;
     esac

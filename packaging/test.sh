@@ -68,9 +68,9 @@ readelf -lW "$library" | grep GNU_STACK | grep -q RWE && fail "the shared librar
 
 # The command finds its data beside its own folder, and not in the repository: Venus under Mercury's name is counted as Venus.
 command=$prefix/bin/stephylax
-"$command" check mercury | grep -q 6827 || fail "the installed command does not know Mercury"
+"$command" check mercury | grep -q 6,827 || fail "the installed command does not know Mercury"
 cp "$prefix/share/stephylax/vsop87d/venus.txt" "$prefix/share/stephylax/vsop87d/mercury.txt"
-"$command" check mercury | grep -q 1682 || fail "the installed command has other data than those installed with it"
+"$command" check mercury | grep -q 1,682 || fail "the installed command has other data than those installed with it"
 cp "$repository/data/vsop87d/mercury.txt" "$prefix/share/stephylax/vsop87d/mercury.txt"
 
 # The man page has every line of the help.
@@ -81,7 +81,7 @@ if is_there groff; then
     same "what groff says of the man page" "$(groff -man -Tascii -ww -z "$page" 2>&1)" ""
 fi
 
-# Completion: commands, options, names.
+# Completion: commands, options, names; files only where the command takes them.
 completed() { # WORDS..: what they become
     PATH="$prefix/bin:$PATH" bash -c '
         . "$0"; COMP_WORDS=("$@"); COMP_CWORD=$(($# - 1)); _stephylax; echo "${COMPREPLY[*]}"' \
@@ -91,19 +91,48 @@ if is_there bash; then
     same "completion of su" "$(completed stephylax su)" sun-list
     same "completion of --keep" "$(completed stephylax sun-list mercury --keep)" --keep-out
     same "completion of merc" "$(completed stephylax check merc)" mercury
+    same "completion of --da" "$(completed stephylax check --da)" --data
+    for takes_none in day date pack unpack; do
+        same "completion of $takes_none --da" "$(completed stephylax $takes_none --da)" ""
+        same "completion of $takes_none --js" "$(completed stephylax $takes_none --js)" --json
+    done
+    touch venus-series
+    same "completion of ven" "$(completed stephylax sun-list ven)" venus
+    same "completion of ./ven" "$(completed stephylax sun-list ./ven)" ./venus-series
+    same "completion of $PWD/ven" "$(completed stephylax sun-list "$PWD/ven")" "$PWD/venus-series"
+    same "completion of --earth ./ven" "$(completed stephylax sun-list mercury --earth ./ven)" ./venus-series
+    # bash parts words at a colon, unless it is told not to.
+    for kind in text packed; do
+        same "completion of $kind : ven" "$(completed stephylax check $kind : ven)" venus-series
+        same "completion of $kind :" "$(completed stephylax check $kind : | tr ' ' '\n' | grep ven)" venus-series
+        same "completion of $kind:ven" "$(completed stephylax check $kind:ven)" $kind:venus-series
+    done
+    same "completion of pack ven" "$(completed stephylax pack ven)" venus-series
+    same "completion of unpack x ven" "$(completed stephylax unpack x ven)" venus-series
 fi
 
 # Python.
 python=$prefix/share/stephylax/python
 same "the library that Python finds" "$(PYTHONPATH=$python python3 -c 'import stephylax; print(stephylax._library._name)')" "$library"
-same "the example in Python" "$(python3 "$python/example.py" 2019-11-11 60)" "mercury  shut from 04:56 to 23:59
+shut="mercury  shut from 04:56 to 23:59
 venus    open all day"
+same "the example in Python" "$(python3 "$prefix/share/stephylax/example.py" 2019-11-11 60)" "$shut"
+same "the module's folder" "$(ls "$python")" stephylax.py
 
 # Compiled Python goes too; then nothing is left.
 PYTHONPATH=$python PYTHONDONTWRITEBYTECODE='' python3 -c 'import stephylax'
 cd "$repository"
 made uninstall PREFIX="$prefix"
 same "what is left" "$(find "$prefix" -mindepth 1 2>/dev/null)" ""
+
+# A folder of packages keeps all of its own modules, and the example finds the one that went there.
+mkdir -p "$work/packages"
+echo other >"$work/packages/example.py"
+made install PREFIX="$prefix" PYTHONDIR="$work/packages"
+same "the example with packages" \
+    "$(LD_LIBRARY_PATH=$prefix/lib PYTHONPATH=$work/packages python3 "$prefix/share/stephylax/example.py" 2019-11-11 60)" "$shut"
+made uninstall PREFIX="$prefix" PYTHONDIR="$work/packages"
+same "what is left of the packages" "$(cat "$work/packages"/*)" other
 
 # DESTDIR stands before what is written, and is not told to anyone.
 made install DESTDIR="$work/stage" PREFIX=/usr

@@ -7,13 +7,23 @@ import datetime
 import pathlib
 import sys
 
+# Installed, this file stands beside the folder of the module, unless that went among other packages.
+HERE = pathlib.Path(__file__).resolve().parent
+sys.path.append(str(HERE / "python"))
+
 import stephylax
 
 
 def folder():
     """The published series: of the repository, or of the prefix that this file is installed under."""
-    here = pathlib.Path(__file__).resolve().parent
-    return next(path for path in (here.parent / "data" / "vsop87d", here.parent / "vsop87d") if path.is_dir())
+    paths = (HERE.parent / "data" / "vsop87d", HERE / "vsop87d")
+    found = next((path for path in paths if path.is_dir()), None)
+    return found or sys.exit(f"the series are not in {paths[0]} nor in {paths[1]}: give their folder as the third word")
+
+
+def today():
+    """The day of UTC."""
+    return datetime.datetime.now(datetime.timezone.utc).date()
 
 
 def clock(minute):
@@ -21,7 +31,7 @@ def clock(minute):
 
 
 def main(words):
-    day = [int(field) for field in words[0].split("-")] if words else datetime.date.today()
+    day = [int(field) for field in words[0].split("-")] if words else today()
     keep_out = int(words[1]) if len(words) > 1 else 600
     data = pathlib.Path(words[2]) if len(words) > 2 else folder()
     series = {name: stephylax.read_text((data / f"{name}.txt").read_bytes()) for name in ("mercury", "venus", "earth")}

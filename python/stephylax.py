@@ -8,7 +8,8 @@ cannot be changed, a bytearray that another thread holds can.
 
 An instant is a whole number of milliseconds of TD from 2000-01-01 12h, or a date: (year, month, day) or (year, month, day, ms),
 Julian through 1582-10-04 and Gregorian from 1582-10-15, with a year 0; or a datetime.date or datetime.datetime from 1582-10-15
-on, without a time zone, which is read as TD. What the library cannot be asked is a ValueError, TypeError or OverflowError.
+on, without a time zone, which is read as TD. What the library cannot be asked is a ValueError, TypeError or OverflowError;
+an output that is read only, or memory that is not contiguous, is a BufferError.
 
 The library is the file that the environment variable STEPHYLAX_LIBRARY names; else libstephylax.so.0 beside this module, in
 `target/shared` of its repository, in `lib` of a folder above it (of the prefix that it is installed under), or where the system
@@ -23,6 +24,8 @@ import os
 import pathlib
 import threading
 from typing import NamedTuple
+
+__version__ = "0.1.0"
 
 __all__ = [
     "Answer", "Coordinates", "Date", "Moment", "Mount", "Place", "Refusal", "Refused", "Run", "TextReader",
@@ -263,6 +266,9 @@ def _modern(date):
         raise ValueError("datetime counts days before 1582-10-15 otherwise than the calendar here: use a tuple")
 
 
+_DATES = "a date is (year, month, day), (year, month, day, ms), a datetime.date or a datetime.datetime"
+
+
 def _fields(when):
     """Year, month, day and ms, of what was given for a date."""
     if isinstance(when, datetime.date):
@@ -276,14 +282,22 @@ def _fields(when):
                 raise ValueError("a time here has whole milliseconds")
         _modern(fields)
         return (*fields, ms)
+    if isinstance(when, (str, bytes, bytearray)) or not hasattr(when, "__iter__"):
+        raise TypeError(_DATES)
     fields = tuple(when)
     if len(fields) not in (3, 4):
-        raise ValueError("a date is (year, month, day) or (year, month, day, ms)")
+        raise ValueError(_DATES)
     return fields if len(fields) == 4 else (*fields, 0)
 
 
-def _date(given):
-    """Year, month, day and ms, of a date in one argument or in several."""
+def _named(year, month, day, ms=0):
+    return (year, month, day, ms)
+
+
+def _date(given, names):
+    """Year, month, day and ms, of a date in one argument or in several, these by name too."""
+    if names:
+        given = _named(*given, **names)
     return tuple(map(_i64, _fields(given[0] if len(given) == 1 else given)))
 
 
@@ -346,7 +360,7 @@ class _Lent:
         if self.output:
             start, length = slices[-2:]
             if start % self.width or length % self.width:
-                raise ValueError(f"the output is not of whole numbers of {self.width} bytes")
+                raise ValueError(f"the output is not aligned to, or not of whole numbers of, {self.width} bytes")
             for at, n in zip(slices[:-2:2], slices[1:-2:2]):
                 if at < start + length and start < at + n:
                     raise ValueError("the output overlaps the input")
@@ -368,10 +382,10 @@ def _written(output, length):
 # The calls.
 
 
-def day_of_date(*date):
-    """The noon day number of a date, 0 to 5,373,484. Takes (year, month, day), a tuple of them, or a datetime.date; a time of day is
-    not looked at. Refused: 1."""
-    year, month, day, _ = _date(date)
+def day_of_date(*date, **names):
+    """The noon day number of a date, 0 to 5,373,484. Takes (year, month, day), also by these names, a tuple of them, or a
+    datetime.date; a time of day is not looked at. Refused: 1."""
+    year, month, day, _ = _date(date, names)
     return _taken(_c["day_of_date"](year, month, day)).day_number
 
 
@@ -381,10 +395,10 @@ def date_of_day(day_number):
     return Date(d.year, d.month, d.day)
 
 
-def instant_of_date(*date):
+def instant_of_date(*date, **names):
     """The instant of a date and the milliseconds since its midnight (0 if left out). Takes what `day_of_date` takes, a fourth
-    number, or a datetime. Refused: 1, 2."""
-    return _taken(_c["instant_of_date"](*_date(date))).t
+    number, `ms`, or a datetime. Refused: 1, 2."""
+    return _taken(_c["instant_of_date"](*_date(date, names))).t
 
 
 def date_of_instant(t):

@@ -12,6 +12,7 @@ import re
 import struct
 import subprocess
 import sys
+import tempfile
 import threading
 import unittest
 
@@ -305,9 +306,25 @@ class Dates(unittest.TestCase):
             stephylax.instant_of_date(datetime.datetime(2019, 11, 11, tzinfo=datetime.timezone.utc))
         with self.assertRaises(ValueError):
             stephylax.instant_of_date(datetime.datetime(2019, 11, 11, microsecond=1))
-        for wrong in ((), (2019,), (2019, 11), (2019, 11, 11, 0, 0)):
-            with self.assertRaises((ValueError, TypeError)):
+        for wrong in ((), (2019, 11), (2019, 11, 11, 0, 0), ((2019, 11),)):
+            with self.assertRaisesRegex(ValueError, "^a date is "):
                 stephylax.instant_of_date(*wrong)
+        for wrong in (2019, 0.5, None, "2019-11-11", "123", b"123", bytearray(b"123")):
+            for call in (stephylax.day_of_date, stephylax.instant_of_date):
+                with self.assertRaisesRegex(TypeError, "^a date is "):
+                    call(wrong)
+        for wrong in (0.5, None, "now"):
+            with self.assertRaisesRegex(TypeError, "^a date is "):
+                stephylax.coordinates_at(SERIES["earth"], wrong)
+
+    def test_names(self):
+        """The fields of a date by name."""
+        self.assertEqual(stephylax.day_of_date(year=2000, month=1, day=1), 2451545)
+        self.assertEqual(stephylax.day_of_date(2000, 1, day=1), 2451545)
+        self.assertEqual(stephylax.instant_of_date(2000, 1, 1, ms=43200001), 1)
+        for wrong in ({"year": 2000}, {"year": 2000, "month": 1, "day": 1, "hour": 1}):
+            with self.assertRaises(TypeError):
+                stephylax.day_of_date(**wrong)
 
     def test_numbers(self):
         """A number of more than 64 bits is not cut, and one that is not whole is not rounded."""
@@ -361,7 +378,7 @@ class Memory(unittest.TestCase):
         self.assertEqual(outcome(stephylax.read_text, view[:20], view[20:]), (8, 20))
         numbers = memoryview(bytearray(80))
         for runs in (numbers[1:73], numbers[:79]):
-            with self.assertRaises(ValueError):
+            with self.assertRaisesRegex(ValueError, "not aligned to, or not of whole numbers of, 8 bytes"):
                 stephylax.sun_list(SERIES["venus"], SERIES["earth"], 0, 1, 60, runs)
 
     def test_not_copied(self):
@@ -435,6 +452,11 @@ class Finding(unittest.TestCase):
         run = self.python("import stephylax; print(stephylax._library._name)", STEPHYLAX_LIBRARY=library)
         self.assertEqual(run.stdout.strip(), library, run.stderr)
 
+    def test_version(self):
+        """The module has the version of the whole."""
+        package = (REPOSITORY / "host" / "Cargo.toml").read_text()
+        self.assertEqual(stephylax.__version__, re.search(r'^version = "(.*)"$', package, re.MULTILINE).group(1))
+
     def test_missing(self):
         run = self.python("import stephylax", STEPHYLAX_LIBRARY="/nowhere/libstephylax.so.0")
         self.assertEqual(run.returncode, 1)
@@ -454,6 +476,27 @@ class Finding(unittest.TestCase):
         run = subprocess.run([sys.executable, str(example), "1582-10-10"], capture_output=True, text=True, cwd=REPOSITORY)
         self.assertEqual(run.returncode, 1)
         self.assertTrue(run.stderr.startswith("refused 1 (3): "), run.stderr)
+
+    def test_example_elsewhere(self):
+        """Where the series are not found the example says so; with their folder it runs, for the day of UTC if none is given."""
+        text = (pathlib.Path(__file__).parent / "example.py").read_text()
+        data = str(REPOSITORY / "data" / "vsop87d")
+        with tempfile.TemporaryDirectory() as folder:
+            example = pathlib.Path(folder, "deep", "example.py")
+            example.parent.mkdir()
+            example.write_text(text)
+            given = dict(os.environ, PYTHONPATH=str(pathlib.Path(__file__).parent), TZ="XXX-24")
+            run = [sys.executable, "-B", str(example), "2019-11-11", "60"]
+            lost = subprocess.run(run, env=given, capture_output=True, text=True, cwd="/")
+            self.assertEqual((lost.returncode, lost.stdout), (1, ""))
+            self.assertRegex(lost.stderr, "^the series are not in .*: give their folder as the third word\n$")
+            found = subprocess.run([*run, data], env=given, capture_output=True, text=True, cwd="/")
+            self.assertEqual(found.stdout, "mercury  shut from 04:56 to 23:59\nvenus    open all day\n", found.stderr)
+            program = f"import sys; sys.path.insert(0, {str(example.parent)!r}); import example; print(example.today())"
+            before = datetime.datetime.now(datetime.timezone.utc).date()
+            day = subprocess.run([sys.executable, "-B", "-c", program], env=given, capture_output=True, text=True, cwd="/")
+            after = datetime.datetime.now(datetime.timezone.utc).date()
+            self.assertIn(day.stdout.strip(), (str(before), str(after)), day.stderr)
 
 
 if __name__ == "__main__":

@@ -112,7 +112,7 @@ impl Refusal {
             Refusal::NoSuchDate(Field::Milliseconds) => {
                 "the time of day does not exist: it goes from 00:00 to 23:59:59.999".to_string()
             }
-            Refusal::NoSuchDate(Field::DayNumber) => "there is no such day number: they go from 0 to 5373484".to_string(),
+            Refusal::NoSuchDate(Field::DayNumber) => "there is no such day number: they go from 0 to 5,373,484".to_string(),
             Refusal::PastLimit(t) => {
                 format!("the instant {t} ms is more than two millennia from 2000-01-01 12h TD")
             }
@@ -137,7 +137,7 @@ impl Refusal {
                     .to_string()
             }
             Refusal::BadWindow => {
-                "the keep-out angle is outside 60 to 2700 arcminutes, or the minutes are outside 1 to 1440".to_string()
+                "the keep-out angle is outside 60 to 2,700 arcminutes, or the minutes are outside 1 to 1,440".to_string()
             }
         }
     }

@@ -39,8 +39,8 @@ fn mercury_near_the_sun_in_2019() {
     assert_eq!(runs, [296, 1439, 7, 7]);
 }
 
-/// A row of nutation in the order of document 000's table: longitude and its rate, obliquity and its rate (rates in tenths of the
-/// figures' unit), then the multipliers of D, M, M', F and the node.
+/// A row of nutation in the order of the published table of 1980: longitude and its rate, obliquity and its rate (rates in
+/// tenths of the figures' unit), then the multipliers of D, M, M', F and the node.
 type Row = [i64; 9];
 
 /// A figure with one decimal at most, in tenths.
@@ -87,5 +87,5 @@ fn nutation_table_is_iau_1980() {
     assert_eq!(wanted.len(), 106);
     assert_eq!(sorted(library_rows()), wanted, "the library");
     assert_eq!(sorted(TABLE.to_vec()), wanted, "the independent implementation");
-    assert_eq!(library_rows(), TABLE.to_vec(), "document 000's order");
+    assert_eq!(library_rows(), TABLE.to_vec(), "the order of the published table");
 }

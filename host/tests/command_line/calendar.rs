@@ -38,6 +38,16 @@ fn years_have_four_digits() {
     fails(&["day", "99999999999999999999-01-01"], 2, "year");
 }
 
+/// A word that is no date is shown whole, though it has a `t`.
+#[test]
+fn words_that_are_no_dates() {
+    for word in ["today", "Tuesday", "nowT18:30", "-t"] {
+        fails(&["day", word], 2, &format!("`{word}` is not a date like 2026-11-15"));
+    }
+    fails(&["day", "2026-11t18:30"], 2, "`2026-11` is not a date like 2026-11-15");
+    prints(&["day", "2000-01-01t12:00"], &printed(&["day", "2000-01-01", "12:00"]));
+}
+
 #[test]
 fn times() {
     for time in ["18.30", "18:60", "18:30:60", "18:30:05.", "18:30.", "18:30.5", "18:30:05.1234", "18", ":30", "18:"] {
@@ -58,5 +68,9 @@ fn now() {
     let wanted = (clock - 946_728_000 + 69) * 1000;
     assert!((wanted..=wanted + 60_000).contains(&t) && t % 1000 == 0, "{t} against {wanted}");
     assert_eq!(printed(&["place", "venus", "now", "--mount"]).split_ascii_whitespace().count(), 3);
-    fails(&["day", "now", "18:30"], 2, "`now` is not a date");
+    for words in
+        [&["day", "now", "18:30"][..], &["place", "venus", "now", "18:30"], &["sun-list", "venus", "now", "1", "2"]]
+    {
+        fails(words, 2, "`now` takes no time");
+    }
 }

@@ -18,7 +18,7 @@ fn files() {
     let path = large.to_str().unwrap();
     fails(&["check", path], 3, &format!("{path} is too large"));
     std::fs::remove_file(&large).unwrap();
-    assert!(printed(&["check", "earth"]).starts_with("Earth: a good series of 2425 terms, 37786 bytes packed, "));
+    assert!(printed(&["check", "earth"]).starts_with("Earth: a good series of 2,425 terms, 37,786 bytes packed, "));
 }
 
 #[test]
@@ -27,7 +27,7 @@ fn packing_and_back() {
     let series = published("venus");
     let path = packed.to_str().unwrap();
     prints(&["pack", &published_file("venus"), path], "");
-    assert!(printed(&["check", path]).starts_with("venus: a good series of 1682 terms, 26247 bytes packed, "));
+    assert!(printed(&["check", path]).starts_with("venus: a good series of 1,682 terms, 26,247 bytes packed, "));
     let back = run(&["unpack", path]);
     assert_eq!(back.stdout, series);
     let piped = run_with(&series, command(&["pack"]));
@@ -117,4 +117,23 @@ fn streams_that_fail() {
     drop(reader);
     let status = command(&["day", "2026-02-31"]).stderr(Stdio::from(writer)).status().unwrap();
     assert_eq!(status.code(), Some(1));
+}
+
+/// Closed from the start: what has nothing to print, or prints to a file, is answered. Thrown away is not closed.
+#[test]
+fn a_closed_stream() {
+    let packed = scratch("closed.packed");
+    let (venus, packed) = (published_file("venus"), packed.to_str().unwrap());
+    let quiet = ["sun-list", "venus", "2019-11-11", "--minutes", "9", "--quiet"];
+    for (words, status) in [(&["check", "venus"][..], 3), (&["--help"], 3), (&quiet, 4), (&["pack", &venus, packed], 0)]
+    {
+        let mut shell = std::process::Command::new("sh");
+        shell.args(["-c", "exec \"$@\" >&-", "sh", env!("CARGO_BIN_EXE_stephylax")]).args(words);
+        let output = shell.env_remove("STEPHYLAX_DATA").output().unwrap();
+        assert_eq!(output.status.code(), Some(status), "{words:?}");
+        let said = if status == 3 { "stephylax: standard output is closed\n" } else { "" };
+        assert_eq!(text(&output.stderr), said, "{words:?}");
+        let nowhere = command(words).stdout(Stdio::null()).status().unwrap();
+        assert_eq!(nowhere.code(), Some(if status == 3 { 0 } else { status }), "{words:?}");
+    }
 }

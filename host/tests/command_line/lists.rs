@@ -22,9 +22,9 @@ fn table() {
     assert!(lines[3].starts_with("Mercury: 1 run, 1,144 of 1,440 minutes listed; separation 1.50° at the first, 0.86°"));
     assert!(
         lines[4..6] == ["Series:", lines[5]]
-            && lines[5].starts_with("  Mercury: 6827 terms, 103809 bytes packed, fnv1a64 ")
+            && lines[5].starts_with("  Mercury: 6,827 terms, 103,809 bytes packed, fnv1a64 ")
     );
-    assert!(lines[6].starts_with("  Earth: 2425 terms, 37786 bytes packed, fnv1a64 ") && lines.len() == 7, "{list}");
+    assert!(lines[6].starts_with("  Earth: 2,425 terms, 37,786 bytes packed, fnv1a64 ") && lines.len() == 7, "{list}");
 }
 
 #[test]
@@ -36,7 +36,7 @@ fn csv() {
     let csv = printed(&days);
     let comments: Vec<&str> = csv.lines().take_while(|line| line.starts_with('#')).collect();
     assert_eq!(comments[1], "# minutes from 2019-11-11T00:00 TD: 2880; keep-out in arcminutes: 60");
-    assert!(comments[2].starts_with("# Mercury: 6827 terms, ") && comments[3].starts_with("# Earth: 2425 terms, "));
+    assert!(comments[2].starts_with("# Mercury: 6,827 terms, ") && comments[3].starts_with("# Earth: 2,425 terms, "));
 }
 
 /// Several planets are in one table, each with its own rows.
@@ -53,7 +53,7 @@ fn several_planets() {
         table.contains("Mercury: none of 60 minutes listed; ")
             && table.contains("Venus: 1 run, 60 of 60 minutes listed; ")
     );
-    assert!(table.contains("\n  Mercury: 6827 terms, ") && table.contains("\n  Venus: 1682 terms, "));
+    assert!(table.contains("\n  Mercury: 6,827 terms, ") && table.contains("\n  Venus: 1,682 terms, "));
 }
 
 /// 0 says that a minute is listed, 4 that none is.
@@ -70,9 +70,12 @@ fn quiet() {
 
 #[test]
 fn refusals() {
-    fails(&["sun-list", "mercury", "2019-11-11", "--keep-out", "59"], 1, "refused 12 (0)");
-    for none in [["--minutes", "0"], ["--days", "0"], ["--days", "-3"]] {
-        fails(&[&["sun-list", "mercury", "2019-11-11"], &none[..]].concat(), 1, "refused 12 (0)");
+    // A window may be longer than the library's, and no planet is at fault.
+    let bad = "stephylax: refused 12 (0): the keep-out angle is outside 60 to 2,700 arcminutes, or the window has no minute\n";
+    for window in
+        [["--keep-out=59", "--days=3"], ["--keep-out", "2701"], ["--minutes", "0"], ["--days", "0"], ["--days", "-3"]]
+    {
+        assert_eq!(says(&[&["sun-list", "mercury", "2019-11-11"], &window[..]].concat(), 1), bad);
     }
     fails(&["sun-list", "earth", "2019-11-11"], 1, "refused 11 (0)");
     // The last minute is asked for first; its instant is the figure, and the angle is judged before it.
@@ -80,7 +83,8 @@ fn refusals() {
     let last = first + (days * 1440 - 1) * 60_000;
     let long = ["sun-list", "mercury", "3999-01-04", "--days", "500"];
     prints(&["day", "3999-01-04", "00:00"], &format!("3181668\nt = {first} ms from 2000-01-01 12:00 TD\n"));
-    fails(&long, 1, &format!("refused 2 ({last})"));
+    let past = format!("the instant {last} ms is more than two millennia from 2000-01-01 12h TD");
+    assert_eq!(says(&long, 1), format!("stephylax: refused 2 ({last}): {past}\n"));
     fails(&[&long[..], &["--keep-out", "2701"]].concat(), 1, "refused 12 (0)");
     for endless in ["9999999999999", "9223372036854775807"] {
         fails(&["sun-list", "mercury", "2019-11-11", "--days", endless], 2, "the window is too long to be counted");
@@ -105,12 +109,13 @@ fn an_unusable_minute_of_a_long_window() {
 fn progress() {
     let words = ["sun-list", "mercury", "2019-11-11", "--days", "12", "--csv"];
     assert!(!printed(&words).is_empty());
-    let terminal = "import os, pty, subprocess, sys\n\
+    // A terminal takes a few thousand bytes and then waits for its reader; its end is an error.
+    let terminal = "import contextlib, os, pty, shutil, subprocess, sys\n\
         ours, theirs = pty.openpty()\n\
-        done = subprocess.run(sys.argv[1:], stdout=subprocess.DEVNULL, stderr=theirs)\n\
+        child = subprocess.Popen(sys.argv[1:], stdout=subprocess.DEVNULL, stderr=theirs)\n\
         os.close(theirs)\n\
-        sys.stdout.buffer.write(os.read(ours, 65536))\n\
-        sys.exit(done.returncode)\n";
+        with contextlib.suppress(OSError): shutil.copyfileobj(open(ours, 'rb', 0), sys.stdout.buffer)\n\
+        sys.exit(child.wait())\n";
     let mut python = std::process::Command::new("python3");
     python.args(["-c", terminal, env!("CARGO_BIN_EXE_stephylax")]).args(words);
     let shown = python.output().expect("python3 runs");

@@ -48,7 +48,7 @@ fn what_it_shows() {
     assert_eq!(
         picked(&day, sources),
         concat!(
-            r#"["Mercury: 6827 terms, 103809 bytes packed", "Earth: 2425 terms, 37786 bytes packed", "stephylax "#,
+            r#"["Mercury: 6,827 terms, 103,809 bytes packed", "Earth: 2,425 terms, 37,786 bytes packed", "stephylax "#,
             env!("CARGO_PKG_VERSION"),
             "\"]"
         )

@@ -6,10 +6,12 @@ use crate::run::{fails, file, printed, radial, says};
 fn one_place() {
     let place = printed(&["place", "mercury", "2005-01-01"]);
     for figure in
-        ["17h 10m 10.3", "-21° 17′ 23.", "1.05919798645 AU", "  Mercury: 6827 terms, ", "  Earth: 2425 terms, "]
+        ["17h 10m 10.3", "-21° 17′ 23.", "1.05919798645 AU", "  Mercury: 6,827 terms, ", "  Earth: 2,425 terms, "]
     {
         assert!(place.contains(figure), "{place}");
     }
+    let csv = printed(&["place", "mercury", "2005-01-01", "00:30", "--csv"]);
+    assert_eq!(csv.lines().nth(1), Some("# apparent place of Mercury at 2005-01-01T00:30 TD"));
     fails(&["place", "mercury", "2026-02-31"], 1, "refused 1 (3)");
     fails(&["place", "earth", "2026-02-28"], 1, "refused 11 (0)");
     assert!(says(&["place", "earth", "2026-02-28"], 1).ends_with("; Earth at 2026-02-28 00:00 TD\n"));
@@ -19,7 +21,7 @@ fn one_place() {
 fn coordinates() {
     let said = printed(&["coordinates", "earth", "2000-01-01", "12:00"]);
     assert!(said.contains("175192386810") && said.contains("-396556") && said.contains("98332768187"), "{said}");
-    assert!(said.contains("\n  Earth: 2425 terms, "), "{said}");
+    assert!(said.contains("\n  Earth: 2,425 terms, "), "{said}");
 }
 
 /// The figures of the first place of a table, of CSV and of the mount are the same.
@@ -33,6 +35,10 @@ fn a_range_of_places() {
     assert!(lines[145].starts_with("2005-01-01 23:50  ") && lines[146] == "Series:" && lines.len() == 149, "{table}");
     let csv = printed(&[&range[..], &["--csv"]].concat());
     let rows: Vec<&str> = csv.lines().filter(|line| !line.starts_with('#')).collect();
+    assert_eq!(
+        csv.lines().nth(1),
+        Some("# apparent places of Mercury from 2005-01-01T00:00 TD: 144; step in milliseconds: 600000")
+    );
     assert_eq!(rows[0], "td,t,right_ascension,declination,distance");
     assert_eq!(rows[1], "2005-01-01T00:00,157809600000,92715532,-7664385,105919798645");
     assert!(rows[144].starts_with("2005-01-01T23:50,157895400000,") && rows.len() == 145);

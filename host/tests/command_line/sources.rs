@@ -8,15 +8,22 @@ use std::process::Command;
 
 const TRANSIT: [&str; 3] = ["2019-11-11", "--keep-out", "60"];
 
+/// A number below a million, its thousands parted.
+fn parted(n: i64) -> String {
+    if n < 1000 {
+        n.to_string()
+    } else {
+        format!("{},{:03}", n / 1000, n % 1000)
+    }
+}
+
 /// What is told of a published series.
 fn told(planet: &str, name: &str, from: &str) -> String {
     let mut packed = vec![0; 200_000];
     let length = stephylax::read_text(&published(planet), &mut packed).unwrap();
     let terms = stephylax::check(&packed[..length]).unwrap();
-    format!(
-        "{name}: {terms} terms, {length} bytes packed, fnv1a64 {:016x}, from {from} (text)",
-        hash(&packed[..length])
-    )
+    let (terms, bytes) = (parted(terms), parted(length as i64));
+    format!("{name}: {terms} terms, {bytes} bytes packed, fnv1a64 {:016x}, from {from} (text)", hash(&packed[..length]))
 }
 
 /// A comment and a cut text make, byte for byte, a good packed series. As a file it is a text, and refused.
@@ -44,7 +51,7 @@ fn kinds_are_told() {
     assert!(printed(&["check", &format!("packed:{path}")]).ends_with("(packed)\n"));
     fails(&["check", &format!("text:{path}")], 1, "refused 3 (");
     let piped = run_with(&published("venus"), command(&["check", "-"]));
-    assert!(text(&piped.stdout).starts_with("standard input: a good series of 1682 terms"));
+    assert!(text(&piped.stdout).starts_with("standard input: a good series of 1,682 terms"));
     assert!(text(&piped.stdout).ends_with(", from standard input (text)\n"));
 }
 

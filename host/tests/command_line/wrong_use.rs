@@ -1,6 +1,6 @@
 //! Words that do not make a command.
 
-use crate::run::{fails, printed};
+use crate::run::{fails, printed, says};
 
 #[test]
 fn words() {
@@ -13,6 +13,36 @@ fn words() {
     fails(&["sun-list", "2026-11-15", "venus"], 2, "the form is");
     fails(&["place", "mercury", "venus"], 2, "the form is");
     fails(&["check", "venus", "earth"], 2, "the form is");
+    fails(&["date"], 2, "the form is: stephylax date DAY_NUMBER, or stephylax date --t MILLISECONDS\n");
+}
+
+/// Wrong use tells the whole form of a command, as the help has it, with every option that the command takes.
+#[test]
+fn forms() {
+    let help = printed(&["--help"]);
+    let lists = "sun-list PLANET.. [DATE [TIME]] [--days N | --minutes N] [--keep-out ARCMINUTES] [--earth SERIES] \
+        [--data FOLDER] [--csv | --json | --quiet] [--svg FILE]";
+    let places = "place PLANET [DATE [TIME]] [--every STEP [--days N | --minutes N]] [--earth SERIES] [--data FOLDER] \
+        [--mount] [--csv | --json]";
+    let with_data = ["coordinates SERIES [DATE [TIME]] [--data FOLDER]", "check SERIES [--data FOLDER]"];
+    let others = ["day DATE [TIME]", "pack [TEXT_FILE [PACKED_FILE]]", "unpack [PACKED_FILE [TEXT_FILE]]"];
+    let words = help.split_ascii_whitespace().collect::<Vec<&str>>().join(" ");
+    for form in [lists, places].iter().chain(&with_data).chain(&others) {
+        let command = form.split(' ').next().unwrap();
+        let wrong: &[&str] = if command.ends_with("pack") { &["a", "b", "c"] } else { &[] };
+        fails(&[&[command], wrong].concat(), 2, &format!("the form is: stephylax {form}\n"));
+        assert!(words.contains(&format!("stephylax {form} ")), "{form}");
+        let data = says(&[command, "--data", "."], 2).contains("this command has no option --data");
+        assert_eq!(data, !form.contains("--data"), "{form}");
+    }
+}
+
+/// A planet is listed once.
+#[test]
+fn a_planet_twice() {
+    fails(&["sun-list", "venus", "mercury", "Venus", "2019-11-11"], 2, "`Venus` is named twice\n");
+    fails(&["sun-list", "./earth", "./earth"], 2, "`./earth` is named twice\n");
+    printed(&["sun-list", "venus", "./mercury", "mercury", "2019-11-11", "--minutes", "1", "--earth", "earth"]);
 }
 
 #[test]
@@ -28,7 +58,11 @@ fn options() {
     for step in ["10", "m", "0m", "-1m", "1.5h", "10min", "+1d", "9223372036854775807d"] {
         fails(&["place", "mercury", "--every", step], 2, &format!("--every: `{step}` is not a step"));
     }
-    fails(&["place", "mercury", "--every", "1s", "--days", "12"], 2, "these are 1036800 places");
+    fails(
+        &["place", "mercury", "--every", "1s", "--days", "12"],
+        2,
+        "these are 1,036,800 places; 1 to 1,000,000 can be given",
+    );
     fails(&["place", "mercury", "--every", "1s", "--days", "0"], 2, "these are 0 places");
 }
 

@@ -1,4 +1,4 @@
-//! Every public call of document 01 as a function with one shape, so that vectors and comparisons are written once.
+//! Every public call of docs/RULES.md as a function with one shape, so that vectors and comparisons are written once.
 
 use reference::plain;
 use reference::plain::text::{Answer, Reader};

@@ -14,7 +14,7 @@ pub mod sun_list;
 pub mod text;
 pub mod wide;
 
-/// A refusal: its number in document 01's table and the figure given with it.
+/// A refusal: its number in the table of docs/RULES.md and the figure given with it.
 #[derive(Clone, Copy, Debug, PartialEq, Eq)]
 pub struct Refused {
     pub number: u64,

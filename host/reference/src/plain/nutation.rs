@@ -1,4 +1,4 @@
-//! Nutation and obliquity: document 000's five arguments, its whole table, and its mean obliquity.
+//! Nutation and obliquity: the five arguments, the whole table published in 1980, and the mean obliquity.
 
 use super::cosine::{cosine, sine};
 use super::{rounded, within_turn, MILLENNIUM, TURN, U};

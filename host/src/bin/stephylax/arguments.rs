@@ -1,6 +1,7 @@
 //! Words of a command: what stands by itself, and options.
 
 use crate::failure::Failure;
+use crate::help::wrong_form;
 
 pub struct Arguments {
     pub words: Vec<String>,
@@ -50,12 +51,12 @@ impl Arguments {
         self.option(name).map(|value| whole_number(value, name)).transpose()
     }
 
-    /// Wrong use unless there are `least` to `most` words; `form` says what they are.
-    pub fn count(&self, least: usize, most: usize, form: &str) -> Result<(), Failure> {
+    /// Wrong use of this command unless there are `least` to `most` words.
+    pub fn count(&self, least: usize, most: usize, command: &str) -> Result<(), Failure> {
         if (least..=most).contains(&self.words.len()) {
             return Ok(());
         }
-        Err(Failure::Use(format!("the form is: stephylax {form}")))
+        Err(wrong_form(command))
     }
 
     /// Wrong use if more than one of these options is given.

@@ -10,7 +10,7 @@ use stephylax::{date_of_day, date_of_instant, day_of_date, instant_of_date, Date
 
 pub fn day(rest: &[String], report: &mut Report) -> Result<Done, Failure> {
     let arguments = Arguments::sorted(rest, &[], &[])?;
-    arguments.count(1, 2, "day DATE [TIME]")?;
+    arguments.count(1, 2, "day")?;
     let (number, t) = if arguments.words == ["now"] {
         let t = instant(&arguments.words)?;
         let Date { year, month, day, .. } = date_of_instant(t)?;
@@ -28,14 +28,13 @@ pub fn day(rest: &[String], report: &mut Report) -> Result<Done, Failure> {
 
 pub fn date(rest: &[String], report: &mut Report) -> Result<Done, Failure> {
     let arguments = Arguments::sorted(rest, &["--t"], &[])?;
-    let form = "date DAY_NUMBER   or   date --t MILLISECONDS";
     if let Some(t) = arguments.number("--t")? {
-        arguments.count(0, 0, form)?;
+        arguments.count(0, 0, "date")?;
         let answer = Json::Object(vec![("td", instant_word(t)?.into()), ("t", t.into())]);
         report.give(&format!("{} TD\n", instant_text(t)?), answer)?;
         return Ok(Done::Answered);
     }
-    arguments.count(1, 1, form)?;
+    arguments.count(1, 1, "date")?;
     let number = whole_number(&arguments.words[0], "day number")?;
     let date = date_text(date_of_day(number)?);
     let answer = Json::Object(vec![("date", date.as_str().into()), ("day_number", number.into())]);

@@ -3,6 +3,7 @@
 use crate::arguments::Arguments;
 use crate::dates::{instant, instant_text, instant_word, parted_at_date};
 use crate::failure::Failure;
+use crate::help::wrong_form;
 use crate::json::Json;
 use crate::place_tables::PART;
 use crate::report::Report;
@@ -13,7 +14,7 @@ pub fn coordinates(rest: &[String], report: &mut Report) -> Result<Done, Failure
     let arguments = Arguments::sorted(rest, &["--data"], &[])?;
     let (words, when) = parted_at_date(&arguments.words);
     let [word] = words[..] else {
-        return Err(Failure::Use("the form is: stephylax coordinates SERIES [DATE [TIME]]".to_string()));
+        return Err(wrong_form("coordinates"));
     };
     let t = instant(when)?;
     let series = &all(&[word], arguments.option("--data"))?[0];

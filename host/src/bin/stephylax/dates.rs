@@ -58,10 +58,15 @@ pub fn time(word: &str) -> Result<i64, Failure> {
     Ok(((hours * 60 + minutes) * 60 + seconds) * 1000 + thousandths)
 }
 
+/// Whether a word begins as a date or a time does.
+fn is_numeral(word: &str) -> bool {
+    let digits = word.strip_prefix(['-', '+']).unwrap_or(word);
+    digits.starts_with(|first: char| first.is_ascii_digit())
+}
+
 /// Whether a word is meant as a date or a time, and not as a series.
 fn is_when(word: &str) -> bool {
-    let digits = word.strip_prefix(['-', '+']).unwrap_or(word);
-    word == NOW || digits.starts_with(|first: char| first.is_ascii_digit()) && !word.contains('/')
+    word == NOW || is_numeral(word) && !word.contains('/')
 }
 
 /// Parts the words of a command where its date begins.
@@ -70,11 +75,17 @@ pub fn parted_at_date(words: &[String]) -> (Vec<&str>, &[String]) {
     (words[..at].iter().map(String::as_str).collect(), &words[at..])
 }
 
+/// Parts DATETTIME. A word that is no date keeps its `t`.
+fn parted_at_t(word: &str) -> Option<(&str, &str)> {
+    word.split_once(['T', 't']).filter(|(day, _)| is_numeral(day))
+}
+
 /// A date, and a time if there is one, of the words DATE, DATE TIME or DATETTIME; today if there are none.
 pub fn date_and_time(words: &[String]) -> Result<([i64; 3], Option<i64>), Failure> {
     match words {
         [] => Ok((today()?, None)),
-        [one] => match one.split_once(['T', 't']) {
+        [first, _, ..] if first == NOW => Err(Failure::Use("`now` takes no time: it is a date and a time".to_string())),
+        [one] => match parted_at_t(one) {
             Some((day, clock)) => Ok((date(day)?, Some(time(clock)?))),
             None => Ok((date(one)?, None)),
         },

@@ -21,6 +21,21 @@ impl From<Refusal> for Failure {
     }
 }
 
+/// What a refusal says. A window here may be longer than the library's day, as it is asked day by day.
+pub fn sentence(refusal: Refusal) -> String {
+    match refusal {
+        Refusal::BadWindow => {
+            "the keep-out angle is outside 60 to 2,700 arcminutes, or the window has no minute".to_string()
+        }
+        _ => refusal.sentence(),
+    }
+}
+
+/// The same after its number and its figure.
+fn told(refusal: Refusal) -> String {
+    format!("refused {} ({}): {}", refusal.number(), refusal.figure(), sentence(refusal))
+}
+
 impl Failure {
     pub fn refused_at(refusal: Refusal, at: String) -> Failure {
         Failure::Refused { refusal, at: Some(at) }
@@ -38,8 +53,8 @@ impl Failure {
     /// What is wrong, as it is told on standard error.
     pub fn words(&self) -> String {
         match self {
-            Failure::Refused { refusal, at: None } => refusal.to_string(),
-            Failure::Refused { refusal, at: Some(at) } => format!("{refusal}; {at}"),
+            Failure::Refused { refusal, at: None } => told(*refusal),
+            Failure::Refused { refusal, at: Some(at) } => format!("{}; {at}", told(*refusal)),
             Failure::MountRefused(number) => {
                 format!("refused {number}: the mount's place, though the place itself was answered")
             }

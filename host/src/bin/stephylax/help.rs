@@ -1,21 +1,47 @@
 //! The help text. docs/COMMANDS.md says more on every form of output.
 
+use crate::failure::Failure;
+
+/// What the forms of commands begin with, and how far the lines are indented at least that go on with one.
+const FORM: &str = "  stephylax ";
+const GOES_ON: &str = "            ";
+
+/// The forms of a command, as the help has them.
+fn forms(command: &str) -> Vec<String> {
+    let mut forms: Vec<String> = Vec::new();
+    let mut its = false;
+    for line in HELP.lines() {
+        if let Some(form) = line.strip_prefix(FORM) {
+            its = form.split(' ').next() == Some(command);
+            forms.extend(its.then(|| form.to_string()));
+        } else if let (true, Some(form)) = (its && line.starts_with(GOES_ON), forms.last_mut()) {
+            *form += &format!(" {}", line.trim_start());
+        }
+    }
+    forms
+}
+
+/// The words of a command are not of its form.
+pub fn wrong_form(command: &str) -> Failure {
+    Failure::Use(format!("the form is: stephylax {}", forms(command).join(", or stephylax ")))
+}
+
 pub const HELP: &str = "\
 stephylax: places of planets, and the minutes when one stands too near the Sun, from a proved library.
 
   stephylax sun-list PLANET.. [DATE [TIME]] [--days N | --minutes N] [--keep-out ARCMINUTES]
-                     [--earth SERIES] [--csv | --json | --quiet] [--svg FILE]
+                     [--earth SERIES] [--data FOLDER] [--csv | --json | --quiet] [--svg FILE]
       The runs of minutes at which a planet is within the keep-out angle of the Sun, seen from Earth. No such minute is
       missing, and none listed is more than two arcminutes farther out. One day and 600 arcminutes (10 degrees) unless
-      told otherwise; the angle may be 60 to 2700. --csv prints a table for programs; --quiet prints nothing and answers
-      by its exit status; --svg draws the separation over the window, with the listed minutes and the keep-out angle, a
-      band for each planet, after the list is printed (`-`: instead of the list, to standard output).
+      told otherwise; the angle may be 60 to 2,700. --csv prints a table for programs; --quiet prints nothing and
+      answers by its exit status; --svg draws the separation over the window, with the listed minutes and the keep-out
+      angle, a band for each planet, after the list is printed (`-`: instead of the list, to standard output).
   stephylax place PLANET [DATE [TIME]] [--every STEP [--days N | --minutes N]] [--earth SERIES]
-                  [--mount] [--csv | --json]
+                  [--data FOLDER] [--mount] [--csv | --json]
       The apparent place: right ascension, declination and distance. --every gives one at each step (30s, 10m, 6h, 1d)
       of a day, or of as many days or minutes as told. --mount prints the three doubles that a mount takes (degrees,
       degrees, AU), a line for each place.
-  stephylax coordinates SERIES [DATE [TIME]]
+  stephylax coordinates SERIES [DATE [TIME]] [--data FOLDER]
       Heliocentric longitude, latitude and radius.
   stephylax day DATE [TIME]
       The noon day number of a date; with a time also the instant t.
@@ -24,8 +50,9 @@ stephylax: places of planets, and the minutes when one stands too near the Sun, 
       The date of a day number, or of an instant t.
   stephylax pack [TEXT_FILE [PACKED_FILE]]
   stephylax unpack [PACKED_FILE [TEXT_FILE]]
-      Between the text of a series and its packed form. Standard input and output unless told otherwise.
-  stephylax check SERIES
+      Between the text of a series and its packed form. Standard input and output unless told otherwise; `pack` and
+      `unpack` take plain file names, and no planet's name.
+  stephylax check SERIES [--data FOLDER]
       How many terms a series has, or why it is refused.
   stephylax --version
       The version, and the toolchain and the commit that it was built with.
@@ -52,5 +79,5 @@ A refusal is printed with its number, its figure in brackets and a sentence:
    6 the series is too coarse (offset)                    7 the output does not fit (length, or offset in a text)
    8 the input ended early (its length)                   9 a byte follows the series (offset)
   10 a packed number is not shortest (offset)            11 a place is not usable (minute of the window, else 0)
-  12 keep-out outside 60 to 2700 arcminutes, or no minutes in the window
+  12 keep-out outside 60 to 2,700 arcminutes, or no minutes in the window
 ";

@@ -3,19 +3,19 @@
 use crate::arguments::Arguments;
 use crate::dates::{instant, parted_at_date};
 use crate::failure::Failure;
+use crate::help::wrong_form;
 use crate::json::Json;
 use crate::output::write;
 use crate::picture::picture;
 use crate::progress::Progress;
 use crate::report::Report;
 use crate::runs::{runs, Run};
-use crate::series::Series;
+use crate::series::{judge_different, Series};
 use crate::sight::{bodies, sources, Sight};
 use crate::tables::{csv, table};
 use crate::window::Window;
 use crate::Done;
 
-const FORM: &str = "sun-list PLANET.. [DATE [TIME]] [--days N | --minutes N] [--keep-out ARCMINUTES]";
 const KEEP_OUT: i64 = 600;
 
 /// A planet's list.
@@ -70,8 +70,9 @@ pub fn sun_list(rest: &[String], report: &mut Report) -> Result<Done, Failure> {
     judge_options(&arguments)?;
     let (planets, when) = parted_at_date(&arguments.words);
     if planets.is_empty() {
-        return Err(Failure::Use(format!("the form is: stephylax {FORM}")));
+        return Err(wrong_form("sun-list"));
     }
+    judge_different(&planets)?;
     let window = Window::asked(instant(when)?, &arguments)?;
     let keep_out = arguments.number("--keep-out")?.unwrap_or(KEEP_OUT);
     report.window = Some(window.json(("keep_out", keep_out))?);

@@ -21,6 +21,7 @@ mod report;
 mod runs;
 mod series;
 mod sight;
+mod started;
 mod tables;
 mod version;
 mod window;

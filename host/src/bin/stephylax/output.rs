@@ -1,6 +1,8 @@
 //! Bytes in and out: standard input and output, and files, which are written beside and then renamed.
 
 use crate::failure::Failure;
+use crate::started;
+use crate::tables::parted;
 use std::fs::{File, OpenOptions};
 use std::io::{Error, ErrorKind, Read, Write};
 use std::os::fd::AsFd;
@@ -12,6 +14,9 @@ const LONGEST_FILE: u64 = 64 << 20;
 
 /// Writes to standard output.
 pub fn put(bytes: &[u8]) -> Result<(), Failure> {
+    if started::without_output() && !bytes.is_empty() {
+        return Err(Failure::Output("standard output is closed".to_string()));
+    }
     let mut out = std::io::stdout().lock();
     out.write_all(bytes).and_then(|()| out.flush()).map_err(|error| match error.kind() {
         ErrorKind::BrokenPipe => Failure::Output("standard output was closed before all was written".to_string()),
@@ -30,7 +35,8 @@ pub fn read(path: &Path) -> Result<Vec<u8>, Failure> {
     let mut bytes = Vec::new();
     source.take(LONGEST_FILE + 1).read_to_end(&mut bytes).map_err(fail)?;
     if LONGEST_FILE < bytes.len() as u64 {
-        return Err(Failure::File(format!("{} is too large: more than {LONGEST_FILE} bytes", path.display())));
+        let most = parted(LONGEST_FILE as i64);
+        return Err(Failure::File(format!("{} is too large: more than {most} bytes", path.display())));
     }
     Ok(bytes)
 }

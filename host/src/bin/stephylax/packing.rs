@@ -10,9 +10,9 @@ use crate::Done;
 use std::path::Path;
 
 /// The series of the first file, and the name of the second; each is `-` if left out.
-fn files(rest: &[String], kind: Kind, form: &str, report: &mut Report) -> Result<(Series, String), Failure> {
+fn files(rest: &[String], kind: Kind, command: &str, report: &mut Report) -> Result<(Series, String), Failure> {
     let arguments = Arguments::sorted(rest, &[], &[])?;
-    arguments.count(0, 2, form)?;
+    arguments.count(0, 2, command)?;
     let file = |i: usize| arguments.words.get(i).map_or("-", String::as_str);
     let (from, to) = (Path::new(file(0)), file(1));
     if report.is_json() && to == "-" {
@@ -31,12 +31,12 @@ fn give(to: &str, bytes: &[u8], report: &mut Report) -> Result<Done, Failure> {
 }
 
 pub fn pack(rest: &[String], report: &mut Report) -> Result<Done, Failure> {
-    let (series, to) = files(rest, Kind::Text, "pack [TEXT_FILE [PACKED_FILE]]", report)?;
+    let (series, to) = files(rest, Kind::Text, "pack", report)?;
     give(&to, &series.packed, report)
 }
 
 pub fn unpack(rest: &[String], report: &mut Report) -> Result<Done, Failure> {
-    let (series, to) = files(rest, Kind::Packed, "unpack [PACKED_FILE [TEXT_FILE]]", report)?;
+    let (series, to) = files(rest, Kind::Packed, "unpack", report)?;
     // The first call tells the length that the text needs.
     let mut text = Vec::new();
     if let Err(stephylax::Refusal::NoRoom(length)) = stephylax::print(&series.packed, &mut text) {
@@ -48,7 +48,7 @@ pub fn unpack(rest: &[String], report: &mut Report) -> Result<Done, Failure> {
 
 pub fn check(rest: &[String], report: &mut Report) -> Result<Done, Failure> {
     let arguments = Arguments::sorted(rest, &["--data"], &[])?;
-    arguments.count(1, 1, "check SERIES")?;
+    arguments.count(1, 1, "check")?;
     let series = &all(&[&arguments.words[0]], arguments.option("--data"))?[0];
     report.sources = vec![series.json("input")];
     let terms = stephylax::check(&series.packed).map_err(|refusal| Failure::refused_at(refusal, series.blame()))?;

@@ -3,16 +3,17 @@
 use crate::arguments::Arguments;
 use crate::dates::{instant, instant_text, instant_word, parted_at_date};
 use crate::failure::Failure;
+use crate::help::wrong_form;
 use crate::json::Json;
 use crate::place_tables::{csv, mount_lines, one, table};
 use crate::progress::Progress;
 use crate::report::Report;
 use crate::sight::{bodies, sources, Sight};
+use crate::tables::{counted, parted};
 use crate::window::Window;
 use crate::Done;
 use stephylax::{Mount, Place};
 
-const FORM: &str = "place PLANET [DATE [TIME]] [--every STEP [--days N | --minutes N]] [--earth SERIES] [--mount]";
 /// How many places one command gives at most.
 const MOST_PLACES: i64 = 1_000_000;
 
@@ -51,7 +52,8 @@ impl Steps {
     fn asked(t0: i64, every: &str, arguments: &Arguments) -> Result<Steps, Failure> {
         let steps = Steps { window: Window::asked(t0, arguments)?, every: step(every)? };
         if !(1..=MOST_PLACES).contains(&steps.count()) {
-            return Err(Failure::Use(format!("these are {} places; 1 to {MOST_PLACES} can be given", steps.count())));
+            let (count, most) = (counted(steps.count(), "place"), parted(MOST_PLACES));
+            return Err(Failure::Use(format!("these are {count}; 1 to {most} can be given")));
         }
         Ok(steps)
     }
@@ -98,7 +100,7 @@ fn asked(arguments: &Arguments) -> Result<(&str, i64, Option<Steps>), Failure> {
     arguments.at_most_one(&["--json", "--csv"])?;
     let (planets, when) = parted_at_date(&arguments.words);
     let [planet] = planets[..] else {
-        return Err(Failure::Use(format!("the form is: stephylax {FORM}")));
+        return Err(wrong_form("place"));
     };
     let every = arguments.option("--every");
     let long = ["--days", "--minutes"].into_iter().find(|name| arguments.flag(name));
@@ -117,7 +119,7 @@ fn all(sight: Sight, t0: i64, steps: Option<&Steps>, mount: bool) -> Result<Vec<
     let mut all = Vec::new();
     for i in 0..count {
         all.push(seen(sight, t0 + every * i, mount)?);
-        progress.step(1, &format!("{} of {count} places", i + 1));
+        progress.step(1, &format!("{} of {}", parted(i + 1), counted(count, "place")));
     }
     Ok(all)
 }
@@ -135,7 +137,7 @@ pub fn place(rest: &[String], report: &mut Report) -> Result<Done, Failure> {
         let places = all.iter().map(json).collect::<Result<_, _>>()?;
         report.give_json(Json::Object(vec![("places", Json::List(places))]))?;
     } else if arguments.flag("--csv") {
-        report.give_text(&csv(sight, &all)?)?;
+        report.give_text(&csv(sight, steps.as_ref(), &all)?)?;
     } else if arguments.flag("--mount") {
         report.give_text(&mount_lines(&all))?;
     } else if let Some(steps) = steps {

@@ -65,8 +65,20 @@ pub fn mount_lines(all: &[Seen]) -> String {
     mounts.map(|m| format!("{} {} {}\n", m.right_ascension, m.declination, m.distance)).collect()
 }
 
-pub fn csv(sight: Sight, all: &[Seen]) -> Result<String, Failure> {
-    let about = format!("{} of {}", counted(all.len() as i64, "apparent place"), sight.planet.name);
+/// What was asked, for programs.
+fn about(sight: Sight, steps: Option<&Steps>, t: i64) -> Result<String, Failure> {
+    let (name, from) = (&sight.planet.name, instant_word(t)?);
+    Ok(match steps {
+        Some(steps) => {
+            let (count, every) = (steps.count(), steps.every);
+            format!("apparent places of {name} from {from} TD: {count}; step in milliseconds: {every}")
+        }
+        None => format!("apparent place of {name} at {from} TD"),
+    })
+}
+
+pub fn csv(sight: Sight, steps: Option<&Steps>, all: &[Seen]) -> Result<String, Failure> {
+    let about = about(sight, steps, all[0].t)?;
     let mut text = csv_head(&about, &[sight.planet.line(), sight.earth.line()]);
     let mount = all.iter().any(|seen| seen.mount.is_some());
     text += "td,t,right_ascension,declination,distance";

@@ -1,6 +1,6 @@
 //! What a command reports: its answer as text or as JSON, or why there is none.
 
-use crate::failure::Failure;
+use crate::failure::{sentence, Failure};
 use crate::json::Json;
 use crate::output::put;
 use crate::version;
@@ -79,7 +79,7 @@ impl Report {
 
 fn refusal(failure: &Failure) -> Option<Json> {
     let (number, figure, words, at) = match failure {
-        Failure::Refused { refusal, at } => (refusal.number(), Some(refusal.figure()), refusal.sentence(), at.clone()),
+        Failure::Refused { refusal, at } => (refusal.number(), Some(refusal.figure()), sentence(*refusal), at.clone()),
         Failure::MountRefused(number) => (*number, None, failure.words(), None),
         _ => return None,
     };

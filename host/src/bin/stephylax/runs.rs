@@ -28,6 +28,8 @@ fn failure(sight: Sight, refusal: Refusal, window: &Window, start: i64) -> Failu
             let when = window.when(minute).map_or(String::new(), |when| format!(" at {when} TD"));
             Failure::refused_at(Refusal::NotUsable(minute), format!("{}{when}", sight.planet.name))
         }
+        // The window is at fault, whatever planet is seen.
+        Refusal::BadWindow | Refusal::PastLimit(_) => refusal.into(),
         _ => sight.failure(refusal, sight.planet.name.clone()),
     }
 }

@@ -4,6 +4,7 @@ use crate::data;
 use crate::failure::Failure;
 use crate::json::Json;
 use crate::output::read;
+use crate::tables::{counted, parted};
 use std::path::{Path, PathBuf};
 
 #[derive(Clone, Copy, PartialEq)]
@@ -33,6 +34,7 @@ pub struct Series {
 }
 
 /// What a word asks for.
+#[derive(PartialEq)]
 enum Asked {
     Planet(String),
     /// A file, or `-`; its kind, if the word says it.
@@ -56,6 +58,15 @@ fn asked(word: &str) -> Result<Asked, Failure> {
         return Ok(Asked::Planet(word.to_ascii_lowercase()));
     }
     Err(Failure::Use(format!("`{word}` is not a planet's name; a file is given with its path, as ./{word}")))
+}
+
+/// Wrong use if two of these words ask for the same series.
+pub fn judge_different(words: &[&str]) -> Result<(), Failure> {
+    let asked: Vec<Asked> = words.iter().map(|word| asked(word)).collect::<Result<_, _>>()?;
+    match (1..asked.len()).find(|&i| asked[..i].contains(&asked[i])) {
+        Some(i) => Err(Failure::Use(format!("`{}` is named twice", words[i]))),
+        None => Ok(()),
+    }
 }
 
 /// The series of these words, in their order: planets by name from the folder `data`, or files.
@@ -128,9 +139,9 @@ impl Series {
 
     /// All that is told of a series.
     pub fn described(&self) -> String {
-        let terms = self.terms.map_or("?".to_string(), |terms| terms.to_string());
-        let (bytes, sum, kind) = (self.packed.len(), self.checksum(), self.kind.word());
-        format!("{terms} terms, {bytes} bytes packed, fnv1a64 {sum}, from {} ({kind})", self.file)
+        let terms = self.terms.map_or("? terms".to_string(), |terms| counted(terms, "term"));
+        let (bytes, sum, kind) = (parted(self.packed.len() as i64), self.checksum(), self.kind.word());
+        format!("{terms}, {bytes} bytes packed, fnv1a64 {sum}, from {} ({kind})", self.file)
     }
 
     /// The same after its name.
