@@ -19,9 +19,12 @@ const SECONDS: u64 = 60;
 // A minute in milliseconds.
 const MINUTE_MS: u64 = 60000;
 
+// The bytes that the argument of a number may have; one that is longer is no number.
+const ARGUMENT_MOST: usize = 16;
+
 // Argument i.
 pub fn number_argument(i: usize) -> Read {
-    let mut text = [0u8; 16];
+    let mut text = [0u8; ARGUMENT_MOST];
     let n = os::arg(i, &mut text);
     number_of(&text[..n])
 }
