@@ -115,6 +115,11 @@ fn no_answer() {
     let list = ["sun-list", &planet, "2000-01-01", "12:00", "--days", "3", "--earth", &earth];
     let seen = "[d['refusal']['number'], d['refusal']['figure'], d['refusal']['at'], d['window']['minutes'], len(d['sources'])]";
     assert_eq!(picked(&list, 1, seen), r#"[11, 1503, "json-shrinking at 2000-01-02 13:03 TD", 4320, 2]"#);
+    let window = ["sun-list", "venus", "2019-11-11", "--days", "3", "--keep-out", "59"];
+    assert_eq!(
+        picked(&window, 1, "d['refusal']"),
+        r#"{"number": 12, "figure": 0, "words": "the keep-out angle is outside 60 to 2,700 arcminutes, or the window has no minute", "at": null}"#
+    );
     // A packed series that is refused has no count of terms.
     let bad = file("json.bad", b"\x80\x00");
     assert_eq!(picked(&["check", &bad], 1, "[d['refusal']['number'], d['sources'][0]['terms']]"), "[10, null]");
