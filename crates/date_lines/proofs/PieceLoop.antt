@@ -13,9 +13,10 @@ use Rattle.calendar.specs.Calendar.{day-of-date}
 use Rattle.calendar.specs.declared.DayAnswer.{DayAnswer}
 use Rattle.calendar.specs.declared.DayAnswer.the-variants.{Day, NoDay}
 use Rattle.arith.specs.machine.Signed.{natural-or}
+use Rattle.decimals.specs.Texts.{line-feed}
 use Rattle.decimals.specs.Decimals.{most-digits, decimal}
 use Rattle.decimals.proofs.Puts.{decimal-length}
-use Rattle.date_lines.specs.Lines.{line-feed, fault-empty, reading}
+use Rattle.date_lines.specs.Lines.{fault-empty, reading}
 use Rattle.date_lines.specs.Replies.{reply-limit, refused, day-text, fault-words, fault-text, reply, after, said, line-after}
 use Rattle.date_lines.specs.Replies.{replies, unless-empty, last-reply}
 use Rattle.date_lines.specs.declared.reader.Line.{Line}

@@ -11,10 +11,11 @@ use Rattle.integers.specs.Division.{floor, modulo}
 use Rattle.integers.specs.Signs.{sgn}
 use Rattle.arith.specs.machine.Signed.{natural-or}
 use Rattle.calendar.specs.Calendar.{leap, month-length, first-bad, noon-number, day-of-date}
+use Rattle.decimals.specs.Texts.{line-feed}
 use Rattle.decimals.specs.Decimals.{zero-digit, decimal, written}
 use Rattle.decimals.specs.Numerals.{Digits, value, Decimal}
 use Rattle.decimals.proofs.Theorems.{grows}
-use Rattle.date_lines.specs.Lines.{line-feed, space, fresh, greatest, at-space, at-digit}
+use Rattle.date_lines.specs.Lines.{space, fresh, greatest, at-space, at-digit}
 use Rattle.date_lines.specs.Lines.{take, reading, read}
 use Rattle.date_lines.specs.Replies.{refused, day-text, reply, after, said, line-after, replies}
 use Rattle.date_lines.specs.Written.{NoFeed, ThreeNumbers, Decided, three, fault, example-lines, example-replies}

@@ -12,10 +12,11 @@ use Rattle.arith.specs.machine.Signed.{natural-or}
 use Rattle.calendar.specs.Calendar.{day-of-date}
 use Rattle.calendar.specs.declared.DayAnswer.{DayAnswer}
 use Rattle.calendar.specs.declared.DayAnswer.the-variants.{Day, NoDay}
+use Rattle.decimals.specs.Texts.{line-feed}
 use Rattle.decimals.specs.Decimals.{most-digits, decimal}
-use Rattle.decimals.specs.machine.Writing.{Put}
+use Rattle.decimals.specs.Writing.{Put}
 use Rattle.decimals.proofs.Puts.{put-both, put-one}
-use Rattle.date_lines.specs.Lines.{line-feed, fault-empty, fresh, take, reading}
+use Rattle.date_lines.specs.Lines.{fault-empty, fresh, take, reading}
 use Rattle.date_lines.specs.Replies.{refused, day-text, fault-text, reply, after, said, last-reply, AnsweredLast}
 use Rattle.date_lines.specs.declared.reader.Line.{Line}
 use Rattle.date_lines.specs.declared.reader.Reading.{Reading}

@@ -11,10 +11,7 @@ use Rattle.date_lines.specs.declared.reader.Line.{Line}
 use Rattle.date_lines.specs.declared.reader.Reading.{Reading}
 use Rattle.date_lines.specs.declared.reader.Reading.the-variants.{Three, Bad}
 
--- The bytes of a line beside those of its numbers: the one that ends it, and the one that parts two numbers.
-abbrev pub line-feed : ℕ
-line-feed = 10
-
+-- The byte that parts two numbers; `line-feed` ends a line.
 abbrev pub space : ℕ
 space = 32
 

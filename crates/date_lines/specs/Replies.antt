@@ -10,8 +10,9 @@ use Rattle.arith.specs.machine.Signed.{natural-or}
 use Rattle.calendar.specs.Calendar.{day-of-date}
 use Rattle.calendar.specs.declared.DayAnswer.{DayAnswer}
 use Rattle.calendar.specs.declared.DayAnswer.the-variants.{Day, NoDay}
+use Rattle.decimals.specs.Texts.{line-feed}
 use Rattle.decimals.specs.Decimals.{most-digits, decimal}
-use Rattle.date_lines.specs.Lines.{line-feed, fault-empty, fault-byte, fault-space, fault-large, fault-few, fresh, take, reading}
+use Rattle.date_lines.specs.Lines.{fault-empty, fault-byte, fault-space, fault-large, fault-few, fresh, take, reading}
 use Rattle.date_lines.specs.declared.Progress.{Progress}
 use Rattle.date_lines.specs.declared.reader.Line.{Line}
 use Rattle.date_lines.specs.declared.reader.Reading.{Reading}

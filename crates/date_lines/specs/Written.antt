@@ -3,8 +3,9 @@ use mathlib.Core.Path.{_≡_}
 use mathlib.Core.List.{List, [], _∷_, _++_}
 use Prim.Native.Nat.{ℕ}
 use lib.IntN.{ℤ}
+use Rattle.decimals.specs.Texts.{line-feed}
 use Rattle.decimals.specs.Numerals.{Numeral}
-use Rattle.date_lines.specs.Lines.{line-feed, space, greatest}
+use Rattle.date_lines.specs.Lines.{space, greatest}
 use Rattle.date_lines.specs.declared.reader.Reading.{Reading}
 use Rattle.date_lines.specs.declared.reader.Reading.the-variants.{Three, Bad}
 

@@ -13,14 +13,12 @@ use crate::reply::put_day;
 use crate::reply::put_fault;
 use crate::reply::put_reply;
 use calendar::day_of_date;
+use decimals::LINE_FEED;
 
 pub mod reader;
 mod reply;
 
 // specs/Lines.antt has the same constants under the same names.
-
-// The byte that ends a line.
-const LINE_FEED: u8 = 10;
 
 // What may be wrong with a line.
 const FAULT_EMPTY: u64 = 1;

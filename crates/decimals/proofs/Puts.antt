@@ -1,5 +1,5 @@
 -- What the functions that write leave in the output; two texts written one after the other are one. Assumes nothing.
-use mathlib.Core.Path.{_≡_, refl, sym, _∙_}
+use mathlib.Core.Path.{_≡_, refl, sym, ap, _∙_}
 use mathlib.Core.Bool.{Bool, true, false}
 use mathlib.Core.List.{List, [], _∷_, _++_}
 use Prim.Native.Nat.{ℕ, zero, suc, _+_, _/_, _%_, _-_, _^_, _≤_, _<_}
@@ -14,7 +14,7 @@ use lib.Seq.{sets, drop-cons}
 use Rattle.buffers.proofs.Sets.{sets-append}
 use Rattle.integers.specs.Signs.{negative}
 use Rattle.decimals.specs.Decimals.{minus-sign, point, zero-digit, most-digits, decimal, written, signed-decimal, last-digits, fraction}
-use Rattle.decimals.specs.machine.Writing.{Put}
+use Rattle.decimals.specs.Writing.{Put}
 
 -- ---- texts
 pub put-both : (t u : List ℕ) (at r s : ℕ) (out mid result : List ℕ) → Put out at t r mid → Put mid r u s result → Put out at (t ++ u) s result
@@ -103,6 +103,11 @@ pub after-whole : (n k w p L : ℕ) → p ≡ w + length (decimal most-digits n)
 after-whole n k w p L e h = omega (arith, decimal-length most-digits n)
 
 -- ---- the last digits: what is left of them gives what all of them give
+pub last-length : (k n : ℕ) → length (last-digits k n) ≡ k
+unfolding last-digits
+last-length zero n = refl
+last-length (suc k) n = ap suc (last-length k n)
+
 pub record Forward (n places at : ℕ) (start out : List ℕ) (left scale i : ℕ) : Type 0 where
   pub power : scale ≡ 10 ^ left
   pub place : i + left ≡ at + places
@@ -129,16 +134,11 @@ module _ (n places at : ℕ) (start out : List ℕ) (left scale i : ℕ) (f : Fo
       let g : d ≡ zero-digit + n / 10 ^ (left - 1) % 10 = rw t at e in
       record { power = t; place = omega (arith, f .place); same = length-set out i d ∙ f .same; digits = rw (add-one, g) w }
 
-  last-length : (k : ℕ) → length (last-digits k n) ≡ k
-  unfolding last-digits
-  last-length zero = refl
-  last-length (suc k) = let l = last-length k in omega arith
-
   pub forward-last : left ≤ 0 → Put start at (last-digits places n) i out
   unfolding last-digits
   forward-last h =
       let z : left ≡ 0 = omega arith in
-      (omega (arith, f .place, last-length places), rw z at (f .digits))
+      (omega (arith, f .place, last-length places n), rw z at (f .digits))
 
 pub fraction-put : (below : Bool) (n k unit at w p r : ℕ) (out a b result : List ℕ) → unit ≡ 10 ^ k
     → Put out at (written below []) w a → Put a w (decimal most-digits (n / unit)) p b → Put (set b p point) (p + 1) (last-digits k n) r result

@@ -15,3 +15,6 @@ pub const NINE_DIGIT: u8 = ZERO_DIGIT + 9;
 
 // The digits that a number of 64 bits may have.
 pub const MOST_DIGITS: usize = 20;
+
+// The byte that ends a line; specs/Texts.antt has the same name.
+pub const LINE_FEED: u8 = 10;

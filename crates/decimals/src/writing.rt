@@ -4,7 +4,7 @@ ghost use mathlib.Core.List.{[]};
 ghost use Prim.Native.Nat.{_+_, _^_, _≤_, _<_};
 ghost use lib.ListN.{length};
 ghost use Rattle.decimals.specs.Decimals.{zero-digit, most-digits, decimal, last-digits, written, signed-decimal, fraction};
-ghost use Rattle.decimals.specs.machine.Writing.{Put};
+ghost use Rattle.decimals.specs.Writing.{Put};
 use crate::MINUS_SIGN;
 use crate::MOST_DIGITS;
 use crate::POINT;

@@ -8,7 +8,7 @@ use lib.ListN.{length, set, length-append}
 use lib.Seq.{sets}
 use Rattle.decimals.specs.Texts.{text}
 use Rattle.decimals.specs.Decimals.{zero-digit, most-digits, decimal}
-use Rattle.decimals.specs.machine.Writing.{Put}
+use Rattle.decimals.specs.Writing.{Put}
 use Rattle.decimals.proofs.Puts.{decimal-length, put-both}
 use Rattle.list_lines.specs.Lines.{day, hour, two-digits, clock-text, minutes-text, clocks-text, run-text, run-most}
 

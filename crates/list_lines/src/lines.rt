@@ -1,7 +1,7 @@
 // The line of a run, written into a lent buffer. All of this is for lib.rt.
 ghost use Prim.Native.Nat.{_+_, _%_, _≤_, _<_};
 ghost use lib.ListN.{length};
-ghost use Rattle.decimals.specs.machine.Writing.{Put};
+ghost use Rattle.decimals.specs.Writing.{Put};
 ghost use Rattle.list_lines.specs.Lines.{day, two-digits, clock-text, minutes-text, clocks-text, run-text, run-most};
 use crate::DAY;
 use decimals::MOST_DIGITS;

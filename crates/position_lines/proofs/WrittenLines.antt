@@ -1,27 +1,22 @@
 -- What the functions that write a place leave in the output are its lines. Assumes nothing.
-use mathlib.Core.Path.{_≡_, refl, ap, _∙_}
+use mathlib.Core.Path.{_≡_, ap, _∙_}
 use mathlib.Core.Bool.{Bool, true, false}
 use mathlib.Core.List.{List, [], _∷_, _++_}
-use Prim.Native.Nat.{ℕ, zero, suc, _+_, _*_, _/_, _^_, _≤_}
+use Prim.Native.Nat.{ℕ, _+_, _*_, _/_, _^_, _≤_}
 use native.Mathlib.Omega.{arith}
 use lib.Dec.{lit≤}
 use lib.IntN.{ℤ, natAbs}
 use lib.ListN.{length, length-append}
 use Rattle.integers.specs.Signs.{negative}
 use Rattle.arith.proofs.Cells.{Cell, cell}
-use Rattle.decimals.specs.Texts.{text}
+use Rattle.decimals.specs.Texts.{text, line-feed}
 use Rattle.decimals.specs.Decimals.{most-digits, point, decimal, written, last-digits, fraction, signed-decimal}
-use Rattle.decimals.specs.machine.Writing.{Put}
-use Rattle.decimals.proofs.Puts.{decimal-length, signed-length, put-both}
+use Rattle.decimals.specs.Writing.{Put}
+use Rattle.decimals.proofs.Puts.{decimal-length, signed-length, last-length, put-both}
 use Rattle.place.specs.declared.Equatorial.{Equatorial}
-use Rattle.position_lines.specs.Lines.{line-feed, degree-places, distance-places, line-text, angle-text, distance-text, place-text, line-most, place-most}
+use Rattle.position_lines.specs.Lines.{degree-places, distance-places, line-text, angle-text, distance-text, place-text, line-most, place-most}
 
 -- ---- lengths
-last-length : (k n : ℕ) → length (last-digits k n) ≡ k
-unfolding last-digits
-last-length zero n = refl
-last-length (suc k) n = ap suc (last-length k n)
-
 pub fraction-length : (below : Bool) (k n : ℕ) → length (fraction below k n) ≤ 2 + most-digits + k
 unfolding fraction
 fraction-length below k n = go below

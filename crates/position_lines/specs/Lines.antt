@@ -3,12 +3,9 @@ use mathlib.Core.List.{List, [], _∷_, _++_}
 use Prim.Native.Nat.{ℕ, _+_, _*_, _/_}
 use lib.IntN.{ℤ, natAbs}
 use Rattle.integers.specs.Signs.{negative}
-use Rattle.decimals.specs.Texts.{text}
+use Rattle.decimals.specs.Texts.{text, line-feed}
 use Rattle.decimals.specs.Decimals.{signed-decimal, fraction}
 use Rattle.place.specs.declared.Equatorial.{Equatorial}
-
-abbrev pub line-feed : ℕ
-line-feed = 10
 
 -- The digits after the point of a degree, and of an AU.
 abbrev pub degree-places : ℕ
@@ -22,11 +19,11 @@ unfoldable pub line-text : List ℕ → ℤ → ℕ → ℕ → List ℕ → Lis
 line-text name k places n measure = name ++ (fraction (negative k) places n ++ (measure ++ (signed-decimal k ++ (line-feed ∷ []))))
 
 -- The size of k hundredths of an arcsecond in 10^-7 degree, rounded: a hundredth of an arcsecond is 1/360,000 degree.
-abbrev pub degrees : ℤ → ℕ
-degrees k = (500 * natAbs k + 9) / 18
+abbrev pub degree-size : ℤ → ℕ
+degree-size k = (500 * natAbs k + 9) / 18
 
 unfoldable pub angle-text : List ℕ → ℤ → List ℕ
-angle-text name k = line-text name k degree-places (degrees k) (text " degrees, ")
+angle-text name k = line-text name k degree-places (degree-size k) (text " degrees, ")
 
 -- A distance is in parts of an AU, which are its last decimal.
 unfoldable pub distance-text : ℤ → List ℕ

@@ -3,7 +3,7 @@ ghost use mathlib.Core.Path.{_≡_};
 ghost use Prim.Native.Nat.{_+_, _^_, _≤_};
 ghost use lib.IntN.{natAbs};
 ghost use lib.ListN.{length};
-ghost use Rattle.decimals.specs.machine.Writing.{Put};
+ghost use Rattle.decimals.specs.Writing.{Put};
 ghost use Rattle.place.specs.machine.Reach.{Small};
 ghost use Rattle.position_lines.specs.Lines.{line-text, angle-text, distance-text, place-text, line-most, place-most};
 use arith::signed::abs;

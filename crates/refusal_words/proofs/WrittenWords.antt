@@ -14,11 +14,11 @@ use Rattle.units.specs.declared.Instant.{Instant}
 use Rattle.units.specs.declared.Refusal.{Refusal}
 use Rattle.units.specs.declared.Refusal.the-variants.{NoSuchDate, PastLimit, BadByte, OverLimit, TotalOverLimit, TooCoarse}
 use Rattle.units.specs.declared.Refusal.the-variants.{NoRoom, EndedEarly, ByteAfterEnd, NotShortest, NotUsable, BadWindow}
-use Rattle.decimals.specs.Texts.{text}
+use Rattle.decimals.specs.Texts.{text, line-feed}
 use Rattle.decimals.specs.Decimals.{most-digits, decimal, signed-decimal}
-use Rattle.decimals.specs.machine.Writing.{Put}
+use Rattle.decimals.specs.Writing.{Put}
 use Rattle.decimals.proofs.Puts.{decimal-length, signed-length, put-both}
-use Rattle.refusal_words.specs.Words.{words, line-feed, refusal-text, words-most, refusal-most}
+use Rattle.refusal_words.specs.Words.{words, refusal-text, words-most, refusal-most}
 
 pub words-length : (r : Refusal) → length (words r) ≤ words-most
 unfolding words text

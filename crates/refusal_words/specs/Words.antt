@@ -5,7 +5,7 @@ use Rattle.units.specs.Refusals.{number, figure}
 use Rattle.units.specs.declared.Refusal.{Refusal}
 use Rattle.units.specs.declared.Refusal.the-variants.{NoSuchDate, PastLimit, BadByte, OverLimit, TotalOverLimit, TooCoarse}
 use Rattle.units.specs.declared.Refusal.the-variants.{NoRoom, EndedEarly, ByteAfterEnd, NotShortest, NotUsable, BadWindow}
-use Rattle.decimals.specs.Texts.{text}
+use Rattle.decimals.specs.Texts.{text, line-feed}
 use Rattle.decimals.specs.Decimals.{most-digits, decimal, signed-decimal}
 
 -- What is wrong, up to the figure.
@@ -24,9 +24,6 @@ words (NotUsable minute) = text "a place is not usable, minute "
 words BadWindow = text "keep-out or minutes out of range, "
 
 -- The whole line: the number, the words and the figure, with its sign.
-abbrev pub line-feed : ℕ
-line-feed = 10
-
 unfoldable pub refusal-text : Refusal → List ℕ
 refusal-text r =
     text "refused " ++ (decimal most-digits (number r) ++ (text ", " ++ (words r ++ (signed-decimal (figure r) ++ (line-feed ∷ [])))))

@@ -3,7 +3,7 @@ ghost use Prim.Native.Nat.{_+_, _≤_};
 ghost use lib.ListN.{length};
 ghost use Rattle.units.specs.Refusals.{whole};
 ghost use Rattle.decimals.specs.Decimals.{most-digits, signed-decimal};
-ghost use Rattle.decimals.specs.machine.Writing.{Put};
+ghost use Rattle.decimals.specs.Writing.{Put};
 ghost use Rattle.refusal_words.specs.Words.{words, refusal-text, words-most, refusal-most};
 use decimals::MOST_DIGITS;
 use decimals::writing::put_bytes;
