@@ -1,2 +1,3 @@
--- RULES, "Programs": what the program `position` prints for a place.
+-- RULES, "Programs": what the program `position` prints.
 pub mod Lines
+pub mod Position

@@ -21,7 +21,7 @@ const DEGREE_PLACES: usize = 7;
 
 const DISTANCE_PLACES: usize = 11;
 
-// Room for the three lines.
+// Room for the three lines, or for a refusal, which is shorter.
 pub const PLACE_MOST: usize = 270;
 
 // A degree in the last of its decimals; a hundredth of an arcsecond, 1/360,000 degree, is 500/18 of it.

@@ -1,9 +1,9 @@
--- `position_lines::instant_of` meets its contract. Assumes nothing.
+-- `position_lines::answer::instant_of` meets its contract. Assumes nothing.
 use mathlib.Core.Path.{_≡_}
 use borrow.Author.Needs.{needs}
 use Rattle.arith.proofs.Cells.{Cell}
-use Rattle.position_lines.proofs.instant_of.Statement.{statement}
-use Rattle.position_lines.proofs.instant_of.Tie as tie
+use Rattle.position_lines.proofs.answer.instant_of.Statement.{statement}
+use Rattle.position_lines.proofs.answer.instant_of.Tie as tie
 
 instant-of-clock-requires : tie.Need-instant-of-clock-requires
 instant-of-clock-requires c κs = search needs
