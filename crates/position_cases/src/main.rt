@@ -1,4 +1,4 @@
-// Thirteen runs of the program `position` in one, for its stored cases: each 8 arguments are a run.
+// Fifteen runs of the program `position` in one, for its stored cases: each 8 arguments are a run.
 use position_lines::place_of_arguments;
 
 fn main() {
@@ -15,4 +15,6 @@ fn main() {
     place_of_arguments(81);
     place_of_arguments(89);
     place_of_arguments(97);
+    place_of_arguments(105);
+    place_of_arguments(113);
 }

@@ -1,4 +1,4 @@
-// The lines of a place, written into a lent buffer. All of this is for lib.rt.
+// The lines of a place, written into a lent buffer. For answer.rt; lib.rt takes the room.
 ghost use mathlib.Core.Path.{_≡_};
 ghost use Prim.Native.Nat.{_+_, _^_, _≤_};
 ghost use lib.IntN.{natAbs};
