@@ -28,5 +28,5 @@ pub mod Ranges
 pub mod Longitude
 -- The reference cosine depends on the value of its fraction alone.
 pub mod SameAngle
--- Cosine and sine change by no more than their angle.
+-- Cosine and sine change by no more than their angle. Nothing cites it yet; a list that steps over minutes far from the Sun would.
 pub mod Slope
