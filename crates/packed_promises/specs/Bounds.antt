@@ -5,7 +5,7 @@ use Prim.Native.Nat.{ℕ, _+_, _*_, _-_, _≤_, _<_}
 use lib.ListN.{length}
 use Rattle.units.specs.declared.Refusal.{Refusal}
 use Rattle.units.specs.declared.Refusal.the-variants.{NoSuchDate, PastLimit, BadByte, OverLimit, TotalOverLimit, TooCoarse}
-use Rattle.units.specs.declared.Refusal.the-variants.{NoRoom, EndedEarly, ByteAfterEnd, NotShortest, NotUsable, BadWindow}
+use Rattle.units.specs.declared.Refusal.the-variants.{NoRoom, EndedEarly, ByteAfterEnd, NotShortest, NotUsable, BadWindow, BadHeading, BadNumber}
 use Rattle.units.specs.Units.{series-limit, block-count}
 use Rattle.packed_numbers.specs.Numbers.{group-limit, encode, folded}
 use Rattle.limits.specs.declared.Term.{Term}
@@ -24,6 +24,8 @@ Where (ByteAfterEnd at) bytes = at < length bytes
 Where (NotShortest at) bytes = at < length bytes
 Where (NotUsable minute) bytes = ⊥
 Where BadWindow bytes = ⊥
+Where (BadHeading at) bytes = ⊥
+Where (BadNumber at) bytes = ⊥
 
 -- The most bytes that a, b and c of a term within its limits take, and the count of a block.
 abbrev pub a-bytes : ℕ

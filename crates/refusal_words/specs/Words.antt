@@ -4,7 +4,7 @@ use Prim.Native.Nat.{ℕ}
 use Rattle.units.specs.Refusals.{number, figure}
 use Rattle.units.specs.declared.Refusal.{Refusal}
 use Rattle.units.specs.declared.Refusal.the-variants.{NoSuchDate, PastLimit, BadByte, OverLimit, TotalOverLimit, TooCoarse}
-use Rattle.units.specs.declared.Refusal.the-variants.{NoRoom, EndedEarly, ByteAfterEnd, NotShortest, NotUsable, BadWindow}
+use Rattle.units.specs.declared.Refusal.the-variants.{NoRoom, EndedEarly, ByteAfterEnd, NotShortest, NotUsable, BadWindow, BadHeading, BadNumber}
 use Rattle.decimals.specs.Texts.{text, line-feed}
 use Rattle.decimals.specs.Decimals.{most-digits, decimal, signed-decimal}
 
@@ -17,11 +17,13 @@ words (OverLimit at) = text "a number or a count passes its limit, at "
 words (TotalOverLimit at) = text "the total of a block passes its limit, at "
 words (TooCoarse at) = text "the series is too coarse, at "
 words (NoRoom n) = text "the output does not fit, length needed or offset "
-words (EndedEarly n) = text "the input ended before block 18 did, at "
+words (EndedEarly n) = text "the input ended too early, at "
 words (ByteAfterEnd at) = text "a byte follows block 18, at "
 words (NotShortest at) = text "a number is not in its shortest form, at "
 words (NotUsable minute) = text "a place is not usable, minute "
 words BadWindow = text "keep-out or minutes out of range, "
+words (BadHeading at) = text "a heading is wrong or out of order, at "
+words (BadNumber at) = text "a running number is wrong, at "
 
 -- The whole line: the number, the words and the figure, with its sign.
 unfoldable pub refusal-text : Refusal → List ℕ

@@ -36,11 +36,13 @@ fn put_words(refusal: Refusal, out: &mut [u8], at: usize) -> usize
             out,
             at,
         ),
-        Refusal::EndedEarly(_) => put_bytes(b"the input ended before block 18 did, at ", out, at),
+        Refusal::EndedEarly(_) => put_bytes(b"the input ended too early, at ", out, at),
         Refusal::ByteAfterEnd(_) => put_bytes(b"a byte follows block 18, at ", out, at),
         Refusal::NotShortest(_) => put_bytes(b"a number is not in its shortest form, at ", out, at),
         Refusal::NotUsable(_) => put_bytes(b"a place is not usable, minute ", out, at),
         Refusal::BadWindow => put_bytes(b"keep-out or minutes out of range, ", out, at),
+        Refusal::BadHeading(_) => put_bytes(b"a heading is wrong or out of order, at ", out, at),
+        Refusal::BadNumber(_) => put_bytes(b"a running number is wrong, at ", out, at),
     }
 }
 

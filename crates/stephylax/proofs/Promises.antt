@@ -7,7 +7,7 @@ use lib.IntN.{ℤ}
 use Rattle.units.specs.Refusals.{number}
 use Rattle.units.specs.declared.Refusal.{Refusal}
 use Rattle.units.specs.declared.Refusal.the-variants.{NoSuchDate, PastLimit, BadByte, OverLimit, TotalOverLimit, TooCoarse}
-use Rattle.units.specs.declared.Refusal.the-variants.{NoRoom, EndedEarly, ByteAfterEnd, NotShortest, NotUsable, BadWindow}
+use Rattle.units.specs.declared.Refusal.the-variants.{NoRoom, EndedEarly, ByteAfterEnd, NotShortest, NotUsable, BadWindow, BadHeading, BadNumber}
 use Rattle.series.specs.declared.CoordinatesAnswer.{CoordinatesAnswer}
 use Rattle.series.specs.declared.CoordinatesAnswer.the-variants.{At, NoCoordinates}
 use Rattle.series.specs.Call.{Coordinates-promised}
@@ -34,6 +34,8 @@ not-zero (ByteAfterEnd at) e = absurd (omega arith)
 not-zero (NotShortest at) e = absurd (omega arith)
 not-zero (NotUsable minute) e = absurd (omega arith)
 not-zero BadWindow e = absurd (omega arith)
+not-zero (BadHeading at) e = absurd (omega arith)
+not-zero (BadNumber at) e = absurd (omega arith)
 
 -- What is shown with refusal 0 was answered.
 list-answered : (a : ListAnswer) (r : One) → r ≡ list-shown a → r .refusal ≡ 0 → (n : ℕ) × (a ≡ Runs n) × (r .value ≡ clip n)

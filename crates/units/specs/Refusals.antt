@@ -5,7 +5,7 @@ use Rattle.units.specs.declared.Figure.{Figure}
 use Rattle.units.specs.declared.Figure.the-variants.{Count, Time}
 use Rattle.units.specs.declared.Refusal.{Refusal}
 use Rattle.units.specs.declared.Refusal.the-variants.{NoSuchDate, PastLimit, BadByte, OverLimit, TotalOverLimit, TooCoarse}
-use Rattle.units.specs.declared.Refusal.the-variants.{NoRoom, EndedEarly, ByteAfterEnd, NotShortest, NotUsable, BadWindow}
+use Rattle.units.specs.declared.Refusal.the-variants.{NoRoom, EndedEarly, ByteAfterEnd, NotShortest, NotUsable, BadWindow, BadHeading, BadNumber}
 
 abbrev pub number : Refusal → ℕ
 number (NoSuchDate field) = 1
@@ -20,6 +20,8 @@ number (ByteAfterEnd at) = 9
 number (NotShortest at) = 10
 number (NotUsable minute) = 11
 number BadWindow = 12
+number (BadHeading at) = 13
+number (BadNumber at) = 14
 
 abbrev pub figure : Refusal → ℤ
 figure (NoSuchDate field) = pos field
@@ -34,6 +36,8 @@ figure (ByteAfterEnd at) = pos at
 figure (NotShortest at) = pos at
 figure (NotUsable minute) = pos minute
 figure BadWindow = pos 0
+figure (BadHeading at) = pos at
+figure (BadNumber at) = pos at
 
 -- A figure of the code as a whole number; the instant of refusal 2 may be negative.
 abbrev pub whole : Figure → ℤ

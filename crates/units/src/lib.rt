@@ -113,7 +113,7 @@ pub enum Refusal {
     TooCoarse(usize),
     // 7: the length that the output would need, or the offset in a text.
     NoRoom(usize),
-    // 8: the length of an input that ended before block 18 did.
+    // 8: the length of an input that ended too early.
     EndedEarly(usize),
     // 9: the offset of a byte that follows block 18.
     ByteAfterEnd(usize),
@@ -123,6 +123,10 @@ pub enum Refusal {
     NotUsable(u64),
     // 12: keep-out or minutes outside their range.
     BadWindow,
+    // 13: the offset of the line feed of a heading that is out of order, of no block or of another version.
+    BadHeading(usize),
+    // 14: the offset of the line feed of a record whose running number is wrong.
+    BadNumber(usize),
 }
 
 // What comes with a refusal: a count (of bytes, of fields, of minutes), or an instant.
@@ -148,6 +152,8 @@ impl Refusal {
             Refusal::NotShortest(_) => 10,
             Refusal::NotUsable(_) => 11,
             Refusal::BadWindow => 12,
+            Refusal::BadHeading(_) => 13,
+            Refusal::BadNumber(_) => 14,
         }
     }
 
@@ -167,6 +173,8 @@ impl Refusal {
             Refusal::NotShortest(at) => Figure::Count(at as u64),
             Refusal::NotUsable(minute) => Figure::Count(minute),
             Refusal::BadWindow => Figure::Count(0),
+            Refusal::BadHeading(at) => Figure::Count(at as u64),
+            Refusal::BadNumber(at) => Figure::Count(at as u64),
         }
     }
 }

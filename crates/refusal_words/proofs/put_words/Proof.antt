@@ -114,6 +114,24 @@ slice-aggregate-put-bytes-12 c = search needs
 put-bytes-requires-12 : tie.Need-put-bytes-requires-12
 put-bytes-requires-12 c κs = search needs
 
+enum-told-13 : tie.Need-enum-told-13
+enum-told-13 c = search needs
+
+slice-aggregate-put-bytes-13 : tie.Need-slice-aggregate-put-bytes-13
+slice-aggregate-put-bytes-13 c = search needs
+
+put-bytes-requires-13 : tie.Need-put-bytes-requires-13
+put-bytes-requires-13 c κs = search needs
+
+enum-told-14 : tie.Need-enum-told-14
+enum-told-14 c = search needs
+
+slice-aggregate-put-bytes-14 : tie.Need-slice-aggregate-put-bytes-14
+slice-aggregate-put-bytes-14 c = search needs
+
+put-bytes-requires-14 : tie.Need-put-bytes-requires-14
+put-bytes-requires-14 c κs = search needs
+
 same-length : tie.Need-same-length
 same-length c = search needs
 
@@ -198,6 +216,20 @@ returns-12 : tie.Need-returns-12
 unfolding words text
 returns-12 c = let p = c .before .before in words-put _ _ _ _ _ _ (p .before .before .before .enum-told12 .given .1) (p .put-bytes12 .ensures)
 
+same-length-13 : tie.Need-same-length-13
+same-length-13 c = search needs
+
+returns-13 : tie.Need-returns-13
+unfolding words text
+returns-13 c = let p = c .before .before in words-put _ _ _ _ _ _ (p .before .before .before .enum-told13 .given .1) (p .put-bytes13 .ensures)
+
+same-length-14 : tie.Need-same-length-14
+same-length-14 c = search needs
+
+returns-14 : tie.Need-returns-14
+unfolding words text
+returns-14 c = let p = c .before .before in words-put _ _ _ _ _ _ (p .before .before .before .enum-told14 .given .1) (p .put-bytes14 .ensures)
+
 pub put-words-spec : {M : Type 1} → statement M
 put-words-spec =
     tie.close
@@ -238,6 +270,12 @@ put-words-spec =
     enum-told-12
     slice-aggregate-put-bytes-12
     put-bytes-requires-12
+    enum-told-13
+    slice-aggregate-put-bytes-13
+    put-bytes-requires-13
+    enum-told-14
+    slice-aggregate-put-bytes-14
+    put-bytes-requires-14
     same-length
     returns
     same-length-2
@@ -261,4 +299,8 @@ put-words-spec =
     same-length-11
     returns-11
     same-length-12
-    returns-12)
+    returns-12
+    same-length-13
+    returns-13
+    same-length-14
+    returns-14)

@@ -36,6 +36,12 @@ enum-known-self-10 c = search needs
 enum-known-self-11 : tie.Need-enum-known-self-11
 enum-known-self-11 c = search needs
 
+enum-known-self-12 : tie.Need-enum-known-self-12
+enum-known-self-12 c = search needs
+
+enum-known-self-13 : tie.Need-enum-known-self-13
+enum-known-self-13 c = search needs
+
 enum-told : tie.Need-enum-told
 enum-told c = search needs
 
@@ -75,6 +81,12 @@ returns-11 c = cc
 returns-12 : tie.Need-returns-12
 returns-12 c = search needs
 
+returns-13 : tie.Need-returns-13
+returns-13 c = cc
+
+returns-14 : tie.Need-returns-14
+returns-14 c = cc
+
 pub figure-spec : {M : Type 1} → statement M
 figure-spec =
     tie.close
@@ -91,6 +103,8 @@ figure-spec =
     enum-known-self-10
     enum-known-self-11
     enum-told
+    enum-known-self-12
+    enum-known-self-13
     returns
     returns-2
     returns-3
@@ -102,4 +116,6 @@ figure-spec =
     returns-9
     returns-10
     returns-11
-    returns-12)
+    returns-12
+    returns-13
+    returns-14)
