@@ -15,8 +15,8 @@ use Rattle.calendar.specs.declared.MomentAnswer.{MomentAnswer}
 use Rattle.calendar.specs.declared.MomentAnswer.the-variants.{Moment as OnAt, NoMoment}
 use Rattle.packed.specs.declared.Checked.{Checked}
 use Rattle.packed.specs.declared.Checked.the-variants.{Terms, NoSeries}
-use Rattle.text.specs.declared.Outcome.{Outcome}
-use Rattle.text.specs.declared.Outcome.the-variants.{More, Accepted, Refused}
+use Rattle.series_lines.specs.declared.Outcome.{Outcome}
+use Rattle.series_lines.specs.declared.Outcome.the-variants.{More, Accepted, Refused}
 use Rattle.printer.specs.declared.Printed.{Printed}
 use Rattle.printer.specs.declared.Printed.the-variants.{Length, NoText}
 use Rattle.sunlist.specs.declared.ListAnswer.{ListAnswer}
@@ -76,8 +76,8 @@ unfoldable pub moment-shown : MomentAnswer → Moment
 moment-shown (OnAt d m) = record { refusal = 0; figure = pos 0; year = d .year; month = d .month; day = d .day; ms = m }
 moment-shown (NoMoment r) = moment-refused r
 
--- RULES, "Series, as text and packed": stephylax_checked, the number of terms; stephylax_written, the length of the packed form, so far or
--- in all, or of the printed text.
+-- RULES, "Series, as text and packed" and "Published files": stephylax_checked, the number of terms; stephylax_written, the length of the packed
+-- form of a text or of a published file, so far or in all, or of the printed text.
 unfoldable pub checked-shown : Checked → One
 checked-shown (Terms n) = one-counted n
 checked-shown (NoSeries r) = one-refused r
@@ -87,7 +87,7 @@ text-shown (More n) = one-counted n
 text-shown (Accepted n) = one-counted n
 text-shown (Refused r) = one-refused r
 
--- stephylax_answer, what stands of a text in pieces: the same, and 1 once the text has ended and is accepted, else 0.
+-- stephylax_answer, what stands of a text or of a published file in pieces: the same, and 1 once it has ended and is accepted, else 0.
 unfoldable pub accepted : Outcome → ℤ
 accepted (More n) = pos 0
 accepted (Accepted n) = pos 1

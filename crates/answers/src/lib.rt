@@ -15,8 +15,8 @@ use place::Mount;
 use place::PlaceAnswer;
 use printer::Printed;
 use series::CoordinatesAnswer;
+use series_lines::Outcome;
 use sunlist::ListAnswer;
-use text::Outcome;
 use units::Figure;
 use units::Refusal;
 

@@ -9,9 +9,10 @@ use lib.Seq.{sets}
 use Rattle.packed.specs.Series.{pack}
 use Rattle.packed_promises.specs.Bounds.{packed-limit}
 use Rattle.packed_promises.proofs.Theorems.{longest-packed}
-use Rattle.text.specs.declared.Outcome.the-variants.{Accepted}
-use Rattle.text.specs.Reader.{last-offset, told, whole}
-use Rattle.text.specs.Grammar.{Block, blocks-bytes, blocks-of-lines, GoodText, InLimits}
+use Rattle.series_lines.specs.declared.Outcome.the-variants.{Accepted}
+use Rattle.series_lines.specs.Reader.{last-offset, told}
+use Rattle.text.specs.Reader.{whole}
+use Rattle.series_lines.specs.Grammar.{Block, blocks-bytes, blocks-of-lines, GoodText, InLimits}
 use Rattle.text_promises.proofs.Theorems.{read-text}
 use Rattle.text_promises.proofs.Series.{text-allowed}
 

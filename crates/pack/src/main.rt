@@ -5,8 +5,8 @@ use command_line::files::write_first;
 use command_line::words::write_refusal;
 use libc::STDERR_FILENO;
 use libc::STDIN_FILENO;
-use text::Outcome;
-use text::Reader;
+use series_lines::Outcome;
+use series_lines::Reader;
 
 // How much is read at once.
 const PIECE: usize = 16384;
@@ -54,7 +54,7 @@ fn read_all(out: &mut [u8]) -> Reader {
 // The whole text: its packed form, or why it is none.
 fn convert(packed: &mut [u8]) {
     let reader = read_all(packed);
-    let outcome = text::answer(reader);
+    let outcome = series_lines::answer(reader);
     match outcome {
         Outcome::Accepted(n) => {
             write_first(packed, n);

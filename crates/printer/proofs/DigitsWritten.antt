@@ -10,7 +10,7 @@ use borrow.Author.Tests.{lt-ltb, le-ltb}
 use lib.Dec.{ltb}
 use lib.ListN.{length, set, length-append, length-set}
 use lib.Seq.{sets}
-use Rattle.text.specs.Grammar.{digits}
+use Rattle.series_lines.specs.Grammar.{digits}
 use Rattle.printer.specs.Printer.{last-digits, further, further-digits, first-digit, rest-digits}
 use Rattle.printer.specs.machine.Writing.{Room, Wrote, whole-text}
 use Rattle.printer.proofs.PieceByPiece.{Left, left-room, sets-last}

@@ -14,7 +14,7 @@ use Rattle.units.specs.Units.{parts}
 use Rattle.packed_numbers.specs.Numbers.{unfolded}
 use Rattle.packed_numbers.proofs.Folding.{even, odd}
 use Rattle.limits.specs.declared.Term.{Term}
-use Rattle.text.specs.Grammar.{feed, spaces, sign, point, digits, decimal, term-bytes}
+use Rattle.series_lines.specs.Grammar.{feed, spaces, sign, point, digits, decimal, term-bytes}
 use Rattle.printer.specs.Printer.{places, last-digits, plain-decimal, plain-term}
 use Rattle.printer.specs.machine.Writing.{Room, Wrote, whole-text, line-text, whole-most, decimal-most}
 use Rattle.printer.proofs.PieceByPiece.{joined, total, length-joined}

@@ -12,7 +12,7 @@ use Rattle.units.specs.Units.{series-limit, block-count}
 use Rattle.limits.specs.Allowed.{term-count}
 use Rattle.packed.specs.machine.Table.{Sized, term-at, terms-at, blocks-at, ends, block-ends, table-blocks}
 use Rattle.packed.proofs.Tabling.{ends-length}
-use Rattle.text.specs.Grammar.{feed, term-bytes, lines-bytes, count-bytes, blocks-bytes}
+use Rattle.series_lines.specs.Grammar.{feed, term-bytes, lines-bytes, count-bytes, blocks-bytes}
 use Rattle.printer.specs.Printer.{plain-count, plain-term, plain-block, plain-text}
 use Rattle.printer.specs.machine.Writing.{whole-text, line-text, lines-text, block-text, line-of, lines-of, block-of, Ordered, whole-most, line-most}
 use Rattle.printer.proofs.PieceByPiece.{joined, total, length-joined, Left, left-split}

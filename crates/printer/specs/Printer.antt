@@ -1,4 +1,4 @@
--- RULES, "Series, as text and packed": the plain text. A text is lines of the reader's grammar (crate text, specs/Grammar.antt); here is which
+-- RULES, "Series, as text and packed": the plain text. A text is lines of the reader's grammar (crate series_lines, specs/Grammar.antt); here is which
 -- lines the printer gives, and what it answers and leaves.
 use mathlib.Core.Bool.{Bool, false, cond}
 use mathlib.Core.List.{List, [], _∷_, _++_, map}
@@ -12,7 +12,7 @@ use Rattle.units.specs.Units as units
 use Rattle.units.specs.declared.Refusal.the-variants.{NoRoom}
 use Rattle.limits.specs.declared.Term.{Term}
 use Rattle.packed.specs.Series.{Parsed, accepted, refused}
-use Rattle.text.specs.Grammar.{Decimal, CountLine, TermLine, Block, blocks-bytes}
+use Rattle.series_lines.specs.Grammar.{Decimal, CountLine, TermLine, Block, blocks-bytes}
 use Rattle.printer.specs.declared.Printed.{Printed}
 use Rattle.printer.specs.declared.Printed.the-variants.{Length, NoText}
 

@@ -4,7 +4,7 @@ ghost use mathlib.Core.Path.{_≡_};
 ghost use mathlib.Core.List.{[], _∷_};
 ghost use lib.ListN.{length};
 ghost use Prim.Native.Nat.{_+_, _≤_};
-ghost use Rattle.text.specs.Grammar.{sign, digits, decimal};
+ghost use Rattle.series_lines.specs.Grammar.{sign, digits, decimal};
 ghost use Rattle.printer.specs.Printer.{last-digits, further-digits, plain-decimal};
 ghost use Rattle.printer.specs.machine.Writing.{Room, Wrote, whole-text, further-most, whole-most, decimal-most};
 

@@ -9,7 +9,7 @@ use native.Mathlib.Omega.{arith, by-contra}
 use borrow.Author.Tests.{lt-ltb, le-ltb}
 use lib.Dec.{ltb, lit<}
 use lib.ListN.{length}
-use Rattle.text.specs.Grammar.{AllDigits, numeral, Natural}
+use Rattle.series_lines.specs.Grammar.{AllDigits, numeral, Natural}
 use Rattle.printer.specs.Printer.{last-digits, further, further-digits, first-digit, rest-digits}
 use Rattle.printer.proofs.DigitsWritten.{div-power, first-small, further-bound, last-first, length-last}
 

@@ -14,7 +14,7 @@ use Rattle.limits.specs.Allowed.{term-count}
 use Rattle.limits.proofs.Passing.{GoodTerm}
 use Rattle.limits.proofs.Terms as limits
 use Rattle.limits.proofs.Series as judged
-use Rattle.text.specs.Grammar.{feed, sign, count-bytes, decimal}
+use Rattle.series_lines.specs.Grammar.{feed, sign, count-bytes, decimal}
 use Rattle.printer.specs.Printer.{places, plain-decimal, plain-count, plain-text}
 use Rattle.printer.specs.machine.Writing.{whole-text, line-text, lines-text, block-text}
 use Rattle.printer.proofs.DigitsWritten.{whole-length}

@@ -9,7 +9,7 @@ use Rattle.integers.proofs.Division.{sgn-natAbs}
 use Rattle.integers.proofs.Order.{natAbs-sgn}
 use Rattle.units.specs.Units as units
 use Rattle.limits.specs.declared.Term.{Term}
-use Rattle.text.specs.Grammar.{numeral, Decimal, size, value, GoodDecimal, CountLine, count, GoodCount, TermLine, GoodTerm, term-of-line}
+use Rattle.series_lines.specs.Grammar.{numeral, Decimal, size, value, GoodDecimal, CountLine, count, GoodCount, TermLine, GoodTerm, term-of-line}
 use Rattle.printer.specs.Printer.{places, last-digits, plain-decimal, plain-count, plain-term}
 use Rattle.printer.proofs.DigitsWritten.{length-last}
 use Rattle.printer_promises.proofs.Spacing.{PlainLine}

@@ -11,7 +11,8 @@ use Rattle.limits.specs.Limits.{factor, opened, added}
 use Rattle.limits.specs.Limits.{after-block}
 use Rattle.limits.proofs.Terms as limits
 use Rattle.limits.proofs.Series as judged
-use Rattle.text.specs.Grammar.{count, TermLine, Block, term-of-line, terms-of-lines, blocks-of-lines, AllGood, GoodBlocks, TermsInLimits, BlocksInLimits}
+use Rattle.series_lines.specs.Grammar.{count, TermLine, Block, term-of-line, terms-of-lines, blocks-of-lines, AllGood, GoodBlocks}
+use Rattle.series_lines.specs.Grammar.{TermsInLimits, BlocksInLimits}
 use Rattle.text_promises.proofs.Series.{length-terms, NoMinus, FromZero, blocks-in}
 use Rattle.printer.specs.Printer.{plain-decimal, plain-term, plain-block}
 use Rattle.printer_promises.proofs.Spacing.{PlainLines, Plain}

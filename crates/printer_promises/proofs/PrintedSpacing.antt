@@ -9,7 +9,7 @@ use lib.ListN.{length}
 use Rattle.integers.specs.Signs.{negative}
 use Rattle.units.specs.Units.{parts}
 use Rattle.limits.specs.declared.Term.{Term}
-use Rattle.text.specs.Grammar.{feed, sign, point, digits, decimal, count-bytes}
+use Rattle.series_lines.specs.Grammar.{feed, sign, point, digits, decimal, count-bytes}
 use Rattle.printer.specs.Printer.{places, last-digits, first-digit, rest-digits, plain-decimal, plain-count, plain-text}
 use Rattle.printer_promises.specs.Plain.{Spaced, PlainText}
 use Rattle.printer.specs.machine.Writing.{line-text, lines-text, block-text}

@@ -2,7 +2,7 @@
 use mathlib.Core.Path.{_≡_, refl}
 use mathlib.Core.List.{List, [], _∷_, _++_, append-assoc}
 use Prim.Native.Nat.{ℕ, zero, suc}
-use Rattle.text.specs.Grammar.{feed, spaces, decimal, count-bytes, TermLine, term-bytes, lines-bytes, Block, blocks-bytes}
+use Rattle.series_lines.specs.Grammar.{feed, spaces, decimal, count-bytes, TermLine, term-bytes, lines-bytes, Block, blocks-bytes}
 use Rattle.printer_promises.specs.Plain.{Spaced, PlainText}
 
 pub record PlainLine (l : TermLine) : Type 0 where

@@ -12,9 +12,10 @@ use Rattle.limits.specs.Limits.{no-tally}
 use Rattle.packed.specs.Series.{accepted, parse, pack}
 use Rattle.limits.proofs.Series.{allowed-good}
 use Rattle.packed_promises.proofs.Theorems.{accepted-allowed, pack-parse, parse-pack}
-use Rattle.text.specs.declared.Outcome.the-variants.{Accepted}
-use Rattle.text.specs.Reader.{told, whole}
-use Rattle.text.specs.Grammar.{Block, blocks-bytes, blocks-of-lines, GoodText, InLimits}
+use Rattle.series_lines.specs.declared.Outcome.the-variants.{Accepted}
+use Rattle.series_lines.specs.Reader.{told}
+use Rattle.text.specs.Reader.{whole}
+use Rattle.series_lines.specs.Grammar.{Block, blocks-bytes, blocks-of-lines, GoodText, InLimits}
 use Rattle.text_promises.proofs.Theorems.{read-text, accepted-text}
 use Rattle.text_promises.proofs.Series.{front, text-allowed, reads-packed}
 use Rattle.printer.specs.declared.Printed.the-variants.{Length}

@@ -2,7 +2,7 @@
 use mathlib.Core.Path.{_≡_}
 use mathlib.Core.List.{List, [], _∷_}
 use Prim.Native.Nat.{ℕ}
-use Rattle.text.specs.Grammar.{feed}
+use Rattle.series_lines.specs.Grammar.{feed}
 
 -- No space follows a space or a line feed, where the byte before the first is given.
 unfoldable pub Spaced : ℕ → List ℕ → Type 0

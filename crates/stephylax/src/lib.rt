@@ -6,7 +6,8 @@ ghost use Rattle.packed.specs.Series.{parse, checked};
 ghost use Rattle.place.specs.Mount.{mount-answer};
 ghost use Rattle.place.specs.Place.{place-answer};
 ghost use Rattle.printer.specs.Printer.{printed, printed-out};
-ghost use Rattle.text.specs.Reader.{begun, run, ended, told, whole};
+ghost use Rattle.series_lines.specs.Reader.{told};
+ghost use Rattle.text.specs.Reader.{begun, run, ended, whole};
 ghost use Rattle.answers.specs.Answers.{day-shown, date-shown, instant-shown, moment-shown, checked-shown, text-shown};
 ghost use Rattle.answers.specs.Answers.{standing-shown, printed-shown, place-shown, mount-shown};
 ghost use Rattle.stephylax.specs.Promises.{C-coordinates-promised, C-sun-list-promised};
@@ -27,7 +28,7 @@ use answers::of_place;
 use answers::of_printed;
 use answers::of_standing;
 use answers::of_text;
-use text::Reader;
+use series_lines::Reader;
 use units::Instant;
 
 #[no_mangle]
@@ -93,7 +94,7 @@ pub extern "C" fn stephylax_text_end(state: Reader, packed: &mut [u8]) -> Reader
 pub extern "C" fn stephylax_text_answer(state: Reader) -> Standing
     ensures { λ r. ⌜ r ≡ standing-shown (told state) ⌝ }
 {
-    of_standing(text::answer(state))
+    of_standing(series_lines::answer(state))
 }
 
 #[no_mangle]

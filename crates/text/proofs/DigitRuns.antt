@@ -1,56 +1,20 @@
 -- Digits after a decimal's point, taken in a run, leave what a step for each leaves. Assumes nothing.
 use mathlib.Core.Path.{_≡_, refl, sym, ap, _∙_}
-use mathlib.Core.Bool.{Bool, true, false}
 use mathlib.Core.List.{List}
-use Prim.Native.Nat.{ℕ, zero, suc, _+_, _*_, _-_, _≤_, _<_}
+use Prim.Native.Nat.{ℕ, _+_, _*_, _-_, _≤_, _<_}
 use native.Mathlib.Omega.{arith}
-use borrow.Author.Tests.{ne-eqb, lt-ltb, le-ltb, ltb-true, ltb-false}
-use lib.Dec.{ltb, eqb}
-use lib.ListN.{length, drop, getD}
-use Rattle.text.specs.declared.Line.{Line}
-use Rattle.text.specs.declared.Reader.{Reader}
-use Rattle.text.specs.Grammar.{digit-0, part-digits}
-use Rattle.text.specs.Lexer.{spot-point, spot-done, value-limit, takes-digit, put, with-digit, lex}
-use Rattle.text.specs.Reader.{last-offset, in-line, further-in-line, step, step-out, run}
-use Rattle.text.specs.machine.Parts.{run-end, After-point, Part-at, Goes-on}
-use Rattle.text.proofs.Digits.{in-parts, at-last-part, first-digit}
+use lib.ListN.{drop, getD}
+use Rattle.series_lines.specs.declared.Reader.{Reader}
+use Rattle.series_lines.specs.Grammar.{digit-0, part-digits}
+use Rattle.series_lines.specs.Lexer.{spot-point, value-limit, put}
+use Rattle.series_lines.specs.Reader.{last-offset, in-line, further-in-line}
+use Rattle.series_lines.specs.machine.Parts.{run-end, Part-at}
+use Rattle.text.specs.Reader.{step, step-out, run}
+use Rattle.text.specs.machine.Parts.{After-point, Goes-on}
+use Rattle.series_lines.proofs.DigitRuns.{short, lex-part}
 use Rattle.text.proofs.Branches.{other-good, step-other, run-more}
 
--- A test that said no.
-pub never : {A : Type 0} → false ≡ true → A
-never e = let z : _≡_ {A = ℕ} 0 1 = cc in absurd (omega arith)
-
--- A digit of a run goes on.
-below-zero : (n : ℕ) → run-end (suc n) ≡ spot-done - 1
-unfolding run-end
-below-zero n = rw (ne-eqb (suc n) 0 (λ e. omega (arith, e)))
-
-pub short : (minus : ℕ) → run-end minus ≤ spot-done
-unfolding run-end
-short zero = omega arith
-short (suc n) = omega (arith, below-zero n)
-
-module _ (spot value d : ℕ) (v : value < value-limit) (h : spot-point ≤ spot) where
-  last-too : (t : Bool) → ltb spot (spot-done - 1) ≡ t → spot < spot-done → takes-digit spot 0 value d ≡ true
-  last-too true e k = in-parts spot 0 value d v h (ltb-true spot (spot-done - 1) e)
-  last-too false e k =
-      at-last-part spot 0 value d v (ltb-false spot (spot-done - 1) e) k ∙ first-digit (eqb 0 0) (value + d) refl
-
-  goes-on : (minus : ℕ) → spot < run-end minus → takes-digit spot minus value d ≡ true
-  unfolding run-end
-  goes-on zero k = last-too (ltb spot (spot-done - 1)) refl k
-  goes-on (suc n) k = in-parts spot (suc n) value d v h (omega (arith, below-zero n))
-
-lex-part : (l : Line) (byte : ℕ) → spot-point ≤ l .spot → l .spot < run-end (l .minus) → l .value < value-limit → digit-0 ≤ byte
-    → byte < digit-0 + 10 → put l (l .spot + 1) (l .minus) (10 * l .value + (byte - digit-0)) ≡ lex l byte
-unfolding lex with-digit
-lex-part l byte h k v f g =
-    rw (
-      le-ltb byte digit-0 f,
-      lt-ltb byte (digit-0 + 10) g,
-      goes-on (l .spot) (l .value) (byte - digit-0) v h (l .minus) k,
-    )
-
+-- A digit of a run is a step that goes on.
 step-part : (r : Reader) (out : List ℕ) (byte : ℕ) → r .status ≡ 0 → r .at < last-offset → spot-point ≤ r .line .spot
     → r .line .spot < run-end (r .line .minus) → r .line .value < value-limit → digit-0 ≤ byte → byte < digit-0 + 10
     → let l = r .line in let s = further-in-line r (put l (l .spot + 1) (l .minus) (10 * l .value + (byte - digit-0)))

@@ -1,7 +1,3 @@
--- The reader of texts: what a text is (Grammar), one line of it a byte at a time (Lexer), the judgement of a line (Judge), the calls (Reader);
--- and what only the code needs (machine).
-pub mod Grammar
-pub mod Lexer
-pub mod Judge
+-- The reader of texts: the calls (Reader), over the lines of the crate series_lines; and what only the code needs (machine).
 pub mod Reader
 pub mod machine

@@ -1,80 +1,23 @@
 // The reader of series texts (RULES, "Series, as text and packed"): a text comes in pieces, and its packed form is written line by line into
 // one buffer that each call lends.
-mod judge;
-mod lexer;
 mod parts;
 mod steps;
-mod writer;
 
 use crate::parts::take_parts;
 use crate::steps::close;
-use crate::steps::refusal_of;
 use crate::steps::take_byte;
-use units::COARSE_BASE;
-use units::Refusal;
+use series_lines::Outcome;
+use series_lines::Reader;
+use series_lines::answer;
 ghost use mathlib.Core.Path.{_≡_};
-ghost use Rattle.text.specs.Reader.{begun, run, ended, told, whole};
-
-// The status of a reader: it reads on, or has accepted the text; after a refusal it is the refusal's number.
-const READING: u64 = 0;
-
-const ACCEPTED: u64 = 1;
-
-// A line as far as it is read: where the next byte stands (specs/Lexer.antt), how many decimals stand before this one, the decimal or
-// count so far, with 1 for a minus, and the two decimals before it, in parts.
-#[repr(C)]
-pub struct Line {
-    pub spot: u64,
-    pub field: u64,
-    pub minus: u64,
-    pub value: u64,
-    pub minusa: u64,
-    pub a: u64,
-    pub minusb: u64,
-    pub b: u64,
-}
-
-// What a reader has of the text so far: the line, the bytes read and written, the counts that have come, the terms that are left of the
-// block, the tally so far (limits::Tally), and the status with its place.
-#[repr(C)]
-pub struct Reader {
-    pub line: Line,
-    pub at: usize,
-    pub written: usize,
-    pub blocks: u64,
-    pub left: u64,
-    pub terms: u64,
-    pub total: u64,
-    pub coarse: u64,
-    pub status: u64,
-    pub place: usize,
-}
-
-// What stands after a call: more may come, and so many bytes are packed; the text is accepted, and its packed form has so many bytes; or
-// it is refused.
-pub enum Outcome {
-    More(usize),
-    Accepted(usize),
-    Refused(Refusal),
-}
+ghost use Rattle.series_lines.specs.Reader.{told};
+ghost use Rattle.text.specs.Reader.{begun, run, ended, whole};
 
 // The reader before the first byte.
 pub fn start() -> Reader
     ensures { λ r. ⌜ r ≡ begun ⌝ }
 {
-    let l = lexer::fresh_line(lexer::SPOT_COUNT);
-    Reader {
-        line: l,
-        at: 0,
-        written: 0,
-        blocks: 0,
-        left: 0,
-        terms: 0,
-        total: 0,
-        coarse: COARSE_BASE,
-        status: READING,
-        place: 0,
-    }
+    series_lines::start()
 }
 
 // The next piece of the text; it may be empty.
@@ -97,20 +40,6 @@ pub fn end(r: Reader, out: &mut [u8]) -> Reader
     ensures { λ s. ⌜ (s ≡ ended r) × (now (out .exit) ≡ now (out .entry)) ⌝ }
 {
     close(r)
-}
-
-// What stands after the calls so far.
-pub fn answer(r: Reader) -> Outcome
-    ensures { λ a. ⌜ a ≡ told r ⌝ }
-{
-    if r.status == READING {
-        return Outcome::More(r.written);
-    }
-    if r.status == ACCEPTED {
-        return Outcome::Accepted(r.written);
-    }
-    let refusal = refusal_of(r.status, r.place);
-    Outcome::Refused(refusal)
 }
 
 // The whole text in one call, and its end.

@@ -1,17 +1,16 @@
 // The digits after a decimal's point, which most bytes of a text are, taken in a run: the loop holds only what a digit changes.
-use crate::READING;
-use crate::Reader;
-use crate::lexer::PART_DIGITS;
-use crate::lexer::SPOT_DONE;
-use crate::lexer::SPOT_LAST;
-use crate::lexer::SPOT_POINT;
-use crate::lexer::VALUE_LIMIT;
-use crate::lexer::put;
-use crate::steps::LAST_OFFSET;
-use crate::steps::in_line;
+use series_lines::READING;
+use series_lines::Reader;
+use series_lines::lexer::PART_DIGITS;
+use series_lines::lexer::SPOT_POINT;
+use series_lines::lexer::put;
+use series_lines::parts::part_at;
+use series_lines::parts::run_end;
+use series_lines::steps::LAST_OFFSET;
+use series_lines::steps::in_line;
 ghost use mathlib.Core.Path.{_≡_};
 ghost use mathlib.Core.Bool.{true};
-ghost use Rattle.text.specs.machine.Parts.{run-end, After-point, Part-at, Goes-on};
+ghost use Rattle.text.specs.machine.Parts.{After-point, Goes-on};
 
 // The reader after some bytes, and the index of the next one.
 pub struct Taken {
@@ -34,36 +33,6 @@ fn after_point(r: Reader) -> bool
     }
     let l = r.line;
     SPOT_POINT <= l.spot
-}
-
-// How far a run may go: with a minus the last part may be refused.
-fn run_end(minus: u64) -> u64
-    ensures { λ r. ⌜ r ≡ run-end minus ⌝ }
-{
-    if minus == 0 {
-        return SPOT_DONE;
-    }
-    SPOT_LAST
-}
-
-// A digit stands there, and goes on after so much, in a run that ends at that spot.
-fn part_at(text: &[u8], i: usize, spot: u64, value: u64, end: u64) -> bool
-    ensures { λ t. ⌜ (t ≡ true → Part-at (now (text .entry)) i spot value end) ⌝ }
-{
-    if end <= spot {
-        return false;
-    }
-    if VALUE_LIMIT <= value {
-        return false;
-    }
-    if text.len() <= i {
-        return false;
-    }
-    let byte = text[i];
-    if byte < b'0' {
-        return false;
-    }
-    byte <= b'9'
 }
 
 // The parts that stand from an index on.

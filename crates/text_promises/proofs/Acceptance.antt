@@ -7,12 +7,12 @@ use native.Mathlib.Omega.{arith}
 use borrow.Author.Tests.{eqb-true}
 use lib.Dec.{eqb}
 use lib.ListN.{length}
-use Rattle.text.specs.declared.Reader.{Reader}
-use Rattle.text.specs.declared.Outcome.the-variants.{Accepted, Refused}
-use Rattle.text.specs.Lexer.{lex, whole-count, whole-term}
-use Rattle.text.specs.Judge.{verdict}
-use Rattle.text.specs.Reader.{begun, other, uncounted, step, step-out, run, ended, refusal, told, whole}
-use Rattle.text.specs.Grammar.{TermLine}
+use Rattle.series_lines.specs.declared.Reader.{Reader}
+use Rattle.series_lines.specs.declared.Outcome.the-variants.{Accepted, Refused}
+use Rattle.series_lines.specs.Lexer.{lex, whole-count, whole-term}
+use Rattle.series_lines.specs.Reader.{uncounted, refusal, told}
+use Rattle.text.specs.Reader.{verdict, begun, other, step, step-out, run, ended, whole}
+use Rattle.series_lines.specs.Grammar.{TermLine}
 use Rattle.integers.proofs.Tests.{by-cases}
 use Rattle.text_promises.proofs.Verdicts.{count-among, term-among, wrote-status}
 use Rattle.text_promises.proofs.Lines.{Taken}

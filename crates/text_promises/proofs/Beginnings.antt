@@ -7,12 +7,13 @@ use lib.ListN.{length, length-append}
 use lib.Seq.{sets, length-sets}
 use Rattle.limits.specs.declared.Tally.{Tally}
 use Rattle.limits.specs.Limits.{factor, opened, added}
-use Rattle.text.specs.declared.Reader.{Reader}
-use Rattle.text.specs.Reader.{last-offset, begun, next-spot, run}
-use Rattle.text.specs.Grammar.{feed, CountLine, count, count-bytes, TermLine, term-bytes, term-of-line, TermInLimits, TermsInLimits}
-use Rattle.text.specs.Grammar.{AnyLine, a-count, a-term, line-bytes, line-packed, any-bytes, any-packed}
+use Rattle.series_lines.specs.declared.Reader.{Reader}
+use Rattle.series_lines.specs.Reader.{last-offset, next-spot}
+use Rattle.text.specs.Reader.{begun, run}
+use Rattle.series_lines.specs.Grammar.{feed, CountLine, count, count-bytes, TermLine, term-bytes, term-of-line, TermInLimits, TermsInLimits}
+use Rattle.series_lines.specs.Grammar.{AnyLine, a-count, a-term, line-bytes, line-packed, any-bytes, any-packed}
 use Rattle.text_promises.specs.Decided.{Beginning, empty, with-count, with-term}
-use Rattle.text.proofs.WrittenTerm.{sets-append}
+use Rattle.series_lines.proofs.WrittenTerm.{sets-append}
 use Rattle.text_promises.proofs.Verdicts.{sp, st}
 use Rattle.text_promises.proofs.TakenTexts.{count-packed, term-packed, spot-term, spot-count}
 use Rattle.text_promises.proofs.GoodTexts.{count-line, term-line}

@@ -8,10 +8,12 @@ use borrow.Author.Tests.{eqb-true, eqb-false, eq-eqb}
 use lib.Dec.{eqb}
 use lib.ListN.{length, take, drop, length-drop, take-append-drop}
 use lib.Seq.{length-take-le}
-use Rattle.text.specs.declared.Reader.{Reader}
-use Rattle.text.specs.Lexer.{lex}
-use Rattle.text.specs.Judge.{Verdict, verdict}
-use Rattle.text.specs.Reader.{last-offset, begun, stopped, fits, wrote, other, uncounted, step, step-out, Run, run}
+use Rattle.series_lines.specs.declared.Reader.{Reader}
+use Rattle.series_lines.specs.Lexer.{lex}
+use Rattle.series_lines.specs.Judge.{Verdict}
+use Rattle.series_lines.specs.Reader.{last-offset, stopped, fits, wrote, uncounted}
+use Rattle.series_lines.proofs.Calls as fold
+use Rattle.text.specs.Reader.{verdict, begun, other, step, step-out, Run, run}
 use Rattle.integers.proofs.Tests.{by-cases}
 use Rattle.text_promises.proofs.Lines.{stays, step-last}
 
@@ -71,8 +73,7 @@ past (x ∷ xs) r out h =
 -- The cutting rule: two calls are one with the bytes of both.
 pub cut : (r : Reader) (out xs ys : List ℕ) → run r out (xs ++ ys) ≡ run (run r out xs .reader) (run r out xs .out) ys
 unfolding run
-cut r out [] ys = refl
-cut r out (byte ∷ xs) ys = cut (step r out byte) (step-out r out byte) xs ys
+cut = fold.cut step step-out
 
 pub uncounted-out : (text out : List ℕ) → run begun out text .out ≡ run begun out (take last-offset text) .out
 uncounted-out text out =

@@ -13,13 +13,14 @@ use Rattle.units.specs.Units.{block-count}
 use Rattle.units.specs.declared.Refusal.{Refusal}
 use Rattle.limits.specs.declared.Tally.{Tally}
 use Rattle.limits.specs.Limits.{factor, no-tally, opened, added, count-fits, a-fits, b-fits, c-fits, total-fits, coarse-fits}
-use Rattle.text.specs.declared.Line.{Line}
-use Rattle.text.specs.declared.Outcome.{Outcome}
-use Rattle.text.specs.declared.Outcome.the-variants.{More, Accepted}
-use Rattle.text.specs.Lexer.{fresh, lex, lexes, whole-count, whole-term}
-use Rattle.text.specs.Reader.{last-offset, begun, Run, run, ended, told, whole}
-use Rattle.text.specs.Grammar.{size, value, CountLine, count, count-bytes, GoodCount, TermLine, term-bytes, GoodTerm, term-of-line, TermInLimits}
-use Rattle.text.specs.Grammar.{AnyLine, a-count, a-term, line-bytes, line-packed, any-bytes, any-packed}
+use Rattle.series_lines.specs.declared.Line.{Line}
+use Rattle.series_lines.specs.declared.Outcome.{Outcome}
+use Rattle.series_lines.specs.declared.Outcome.the-variants.{More, Accepted}
+use Rattle.series_lines.specs.Lexer.{fresh, lex, lexes, whole-count, whole-term}
+use Rattle.series_lines.specs.Reader.{last-offset, told}
+use Rattle.text.specs.Reader.{begun, Run, run, ended, whole}
+use Rattle.series_lines.specs.Grammar.{size, value, CountLine, count, count-bytes, GoodCount, TermLine, term-bytes, GoodTerm, term-of-line, TermInLimits}
+use Rattle.series_lines.specs.Grammar.{AnyLine, a-count, a-term, line-bytes, line-packed, any-bytes, any-packed}
 use Rattle.text_promises.specs.Decided.{Beginning, empty, with-count, with-term, Stands, Awaits, CanBegin, IsCount, IsTerm, IsLine}
 use Rattle.text_promises.specs.Decided.{NumbersInLimits, Refuses, after-end, bad-byte, early-feed, count-over, number-over, total-over, too-coarse}
 use Rattle.text_promises.specs.Decided.{no-room-count, no-room-term, Answers, accepts, refuses, ends-early, AnswersSoFar, complete, refused, goes-on}
@@ -115,7 +116,8 @@ data Comes (text out : List ℕ) : Type 0 where
   to-open-line : {ls : List AnyLine} {k n : ℕ} {s : Tally} {rest : List ℕ} {room : ℕ}
       → Stands text out ls k n s rest room → Awaits k n → CanBegin n rest → Comes text out
 
-numbers : (l : TermLine) → NumbersInLimits l ⊎ (NumbersInLimits l → ⊥)
+-- Each number of a term line is within its limit, or one is not.
+pub numbers : (l : TermLine) → NumbersInLimits l ⊎ (NumbersInLimits l → ⊥)
 numbers l = go (l .b .minus) refl (a-fits (value (l .a))) refl (b-fits (size (l .b))) refl (c-fits (value (l .c))) refl
   where
     go : (m : Bool) → l .b .minus ≡ m → (a : Bool) → a-fits (value (l .a)) ≡ a → (b : Bool) → b-fits (size (l .b)) ≡ b

@@ -5,11 +5,12 @@ use mathlib.Core.List.{List}
 use Prim.Native.Nat.{ℕ}
 use native.Mathlib.Omega.{arith}
 use borrow.Author.Tests.{ne-eqb}
-use Rattle.text.specs.declared.Line.{Line}
-use Rattle.text.specs.declared.Reader.{Reader}
-use Rattle.text.specs.Lexer.{fresh, lexes, whole-count, whole-term}
-use Rattle.text.specs.Judge.{Verdict, count-end, term-end, verdict}
-use Rattle.text.specs.Reader.{stopped, wrote, step}
+use Rattle.series_lines.specs.declared.Line.{Line}
+use Rattle.series_lines.specs.declared.Reader.{Reader}
+use Rattle.series_lines.specs.Lexer.{fresh, lexes, whole-count, whole-term}
+use Rattle.series_lines.specs.Judge.{Verdict, count-end, term-end}
+use Rattle.series_lines.specs.Reader.{stopped, wrote}
+use Rattle.text.specs.Reader.{verdict, step}
 pub use Rattle.text_promises.specs.Decided.{IsTerm, IsCount}
 use Rattle.integers.proofs.Tests.{by-cases}
 use Rattle.text.proofs.Branches.{verdict-count, verdict-term, verdict-early}

@@ -9,12 +9,12 @@ use native.Mathlib.Omega.{arith}
 use borrow.Author.Tests.{eq-eqb, lt-ltb, le-ltb, le-leb}
 use lib.Dec.{eqb, lit<}
 use lib.ListN.{length}
-use Rattle.text.specs.declared.Line.{Line}
-pub use Rattle.text.specs.Lexer.{put, keep}
-use Rattle.text.specs.Lexer.{value-limit, fresh, takes-digit, with-digit, with-point, with-space, with-minus, lex, lexes}
-use Rattle.text.specs.Grammar.{spaces, sign, digits, AllDigits, numeral, Natural, Decimal, size, decimal, GoodDecimal}
-use Rattle.text.specs.Grammar.{CountLine, count, count-bytes, GoodCount, TermLine, term-bytes, GoodTerm}
-use Rattle.text.proofs.Digits.{in-whole, in-parts, at-last-part, in-count, first-digit, later-digit}
+use Rattle.series_lines.specs.declared.Line.{Line}
+pub use Rattle.series_lines.specs.Lexer.{put, keep}
+use Rattle.series_lines.specs.Lexer.{value-limit, fresh, takes-digit, with-digit, with-point, with-space, with-minus, lex, lexes}
+use Rattle.series_lines.specs.Grammar.{spaces, sign, digits, AllDigits, numeral, Natural, Decimal, size, decimal, GoodDecimal}
+use Rattle.series_lines.specs.Grammar.{CountLine, count, count-bytes, GoodCount, TermLine, term-bytes, GoodTerm}
+use Rattle.series_lines.proofs.Digits.{in-whole, in-parts, at-last-part, in-count, first-digit, later-digit}
 
 -- A minus as the reader holds it.
 unfoldable pub flag : Bool → ℕ
@@ -50,7 +50,7 @@ whole-spots =
       more = λ s m v d h k b p. in-whole s m v d b k ∙ later-digit (eqb s 0) v p;
     }
 
-count-spots : Spots 20 24
+pub count-spots : Spots 20 24
 count-spots =
     record {
       first = λ m v d b. in-count 20 m v d b (omega arith) (omega arith) ∙ first-digit (eqb 20 20) v refl;

@@ -11,14 +11,15 @@ use Rattle.packed_numbers.specs.Numbers.{encode}
 use Rattle.limits.specs.declared.Tally.{Tally}
 use Rattle.limits.specs.Limits.{opened, added, summed, after-block, factor, count-fits}
 use Rattle.packed.specs.Series.{pack-term, pack-terms, pack-block, pack}
-use Rattle.text.specs.declared.Line.{Line}
-use Rattle.text.specs.declared.Reader.{Reader}
-use Rattle.text.specs.Lexer.{fresh, lexes}
-use Rattle.text.specs.Reader.{last-offset, Run, run}
-use Rattle.text.specs.Grammar.{CountLine, count, count-bytes, GoodCount, TermLine, term-bytes, GoodTerm, term-of-line}
-use Rattle.text.specs.Grammar.{Block, lines-bytes, blocks-bytes, terms-of-lines, blocks-of-lines, AllGood, GoodBlocks}
-use Rattle.text.specs.Grammar.{TermsInLimits, BlocksInLimits}
-use Rattle.text.proofs.WrittenTerm.{sets-append, sets-three}
+use Rattle.series_lines.specs.declared.Line.{Line}
+use Rattle.series_lines.specs.declared.Reader.{Reader}
+use Rattle.series_lines.specs.Lexer.{fresh, lexes}
+use Rattle.series_lines.specs.Reader.{last-offset}
+use Rattle.text.specs.Reader.{Run, run}
+use Rattle.series_lines.specs.Grammar.{CountLine, count, count-bytes, GoodCount, TermLine, term-bytes, GoodTerm, term-of-line}
+use Rattle.series_lines.specs.Grammar.{Block, lines-bytes, blocks-bytes, terms-of-lines, blocks-of-lines, AllGood, GoodBlocks}
+use Rattle.series_lines.specs.Grammar.{TermsInLimits, BlocksInLimits}
+use Rattle.series_lines.proofs.WrittenTerm.{sets-append, sets-three}
 use Rattle.text_promises.proofs.GoodLines.{put, line-of-term, count-run, term-run}
 use Rattle.text_promises.proofs.Lines.{moved, Going, line-run, feed-run}
 use Rattle.text_promises.proofs.Verdicts.{sp, st, count-verdict, term-verdict, count-zero, term-zero, is-whole}

@@ -14,14 +14,15 @@ use Rattle.units.specs.declared.Refusal.{Refusal}
 use Rattle.units.specs.declared.Refusal.the-variants.{BadByte, OverLimit, NoRoom, EndedEarly, ByteAfterEnd}
 use Rattle.limits.specs.declared.Tally.{Tally}
 use Rattle.limits.specs.Limits.{factor, count-fits, a-fits, b-fits, c-fits, total-fits, coarse-fits, numbers-fit, term-refusal}
-use Rattle.text.specs.declared.Line.{Line}
-use Rattle.text.specs.declared.Reader.{Reader}
-use Rattle.text.specs.declared.Outcome.the-variants.{More, Refused}
-use Rattle.text.specs.Lexer.{fresh, lex, lexes, whole-count, whole-term}
-use Rattle.text.specs.Judge.{count-refusal, term-line-refusal, verdict}
-use Rattle.text.specs.Reader.{last-offset, stopped, fits, put-bytes, wrote, wrote-out, uncounted, step, step-out, Run, run, ended, refusal, told}
-use Rattle.text.specs.Grammar.{size, value, CountLine, count, count-bytes, GoodCount, TermLine, term-bytes, GoodTerm, term-of-line, TermInLimits}
-use Rattle.text.specs.Grammar.{line-packed}
+use Rattle.series_lines.specs.declared.Line.{Line}
+use Rattle.series_lines.specs.declared.Reader.{Reader}
+use Rattle.series_lines.specs.declared.Outcome.the-variants.{More, Refused}
+use Rattle.series_lines.specs.Lexer.{fresh, lex, lexes, whole-count, whole-term}
+use Rattle.series_lines.specs.Judge.{count-refusal, term-line-refusal}
+use Rattle.series_lines.specs.Reader.{last-offset, stopped, fits, put-bytes, wrote, wrote-out, uncounted, refusal, told}
+use Rattle.text.specs.Reader.{verdict, step, step-out, Run, run, ended}
+use Rattle.series_lines.specs.Grammar.{size, value, CountLine, count, count-bytes, GoodCount, TermLine, term-bytes, GoodTerm, term-of-line, TermInLimits}
+use Rattle.series_lines.specs.Grammar.{line-packed}
 use Rattle.text_promises.specs.Decided.{Awaits, BeginsCount, BeginsTerm, CanBegin, IsCount, IsTerm, IsLine, NumbersInLimits, Refuses}
 use Rattle.text_promises.specs.Decided.{after-end, bad-byte, early-feed, count-over, number-over, total-over, too-coarse, no-room-count, no-room-term}
 use Rattle.integers.proofs.Tests.{by-cases}
@@ -173,7 +174,7 @@ unfolding count-refusal
 count-four k s n h e = rw (lt-ltb k block-count h, e)
 
 module _ (f : ℕ) (s : Tally) (l : TermLine) where
-  number-four : (NumbersInLimits l → ⊥) → term-line-refusal f s (flag (l .b .minus)) (term-of-line l) ≡ 4
+  pub number-four : (NumbersInLimits l → ⊥) → term-line-refusal f s (flag (l .b .minus)) (term-of-line l) ≡ 4
   unfolding term-line-refusal term-refusal numbers-fit flag
   number-four h = go (l .b .minus) refl (a-fits (value (l .a))) refl (b-fits (size (l .b))) refl (c-fits (value (l .c))) refl
     where
@@ -191,14 +192,14 @@ module _ (f : ℕ) (s : Tally) (l : TermLine) where
   unfolding term-line-refusal flag
   from-zero e = ap (λ (m : Bool). cond (eqb (flag m) 0) (term-refusal f s (term-of-line l)) 4) e
 
-  total-five : NumbersInLimits l → total-fits s (value (l .a)) ≡ false → term-line-refusal f s (flag (l .b .minus)) (term-of-line l) ≡ 5
+  pub total-five : NumbersInLimits l → total-fits s (value (l .a)) ≡ false → term-line-refusal f s (flag (l .b .minus)) (term-of-line l) ≡ 5
   total-five p e = from-zero (p .from-zero) ∙ go (p .a) (p .b) (p .c) e
     where
       go : a-fits (value (l .a)) ≡ true → b-fits (size (l .b)) ≡ true → c-fits (value (l .c)) ≡ true → total-fits s (value (l .a)) ≡ false
           → term-refusal f s (term-of-line l) ≡ 5
       go a b c e = unfold term-refusal numbers-fit in rw (a, b, c, e)
 
-  coarse-six : NumbersInLimits l → total-fits s (value (l .a)) ≡ true → coarse-fits f s (value (l .a)) (size (l .b)) (value (l .c)) ≡ false
+  pub coarse-six : NumbersInLimits l → total-fits s (value (l .a)) ≡ true → coarse-fits f s (value (l .a)) (size (l .b)) (value (l .c)) ≡ false
       → term-line-refusal f s (flag (l .b .minus)) (term-of-line l) ≡ 6
   coarse-six p u e = from-zero (p .from-zero) ∙ go (p .a) (p .b) (p .c) u e
     where

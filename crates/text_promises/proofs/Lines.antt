@@ -8,13 +8,13 @@ use borrow.Author.Tests.{leb-true, eqb-true, eqb-false, eq-eqb, ne-eqb, le-leb}
 use lib.Dec.{leb, eqb}
 use lib.ListN.{length, length-append}
 use lib.Seq.{sets}
-use Rattle.text.specs.declared.Line.{Line}
-use Rattle.text.specs.declared.Reader.{Reader}
-use Rattle.text.specs.Lexer.{bad, lex, lexes}
-use Rattle.text.specs.Judge.{verdict}
-use Rattle.text.specs.Reader.{last-offset, stopped, further-in-line, after-line, fits, put-bytes, wrote, wrote-out, other, uncounted}
-use Rattle.text.specs.Reader.{step, step-out, Run, run}
-use Rattle.text.proofs.Digits.{early}
+use Rattle.series_lines.specs.declared.Line.{Line}
+use Rattle.series_lines.specs.declared.Reader.{Reader}
+use Rattle.series_lines.specs.Lexer.{bad, lex, lexes}
+use Rattle.series_lines.specs.Reader.{last-offset, stopped, further-in-line, after-line, fits, put-bytes, wrote, wrote-out, uncounted}
+use Rattle.series_lines.proofs.Calls as fold
+use Rattle.text.specs.Reader.{verdict, other, step, step-out, Run, run}
+use Rattle.series_lines.proofs.Digits.{early}
 use Rattle.integers.proofs.Tests.{by-cases}
 use Rattle.text_promises.proofs.OneByte.{Lexed, none, digit, pointed, spaced, kept, negated, view}
 
@@ -165,15 +165,13 @@ feed-run r out ys g v h =
 -- A reader that has stopped stays so.
 pub stays : (xs : List ℕ) (r : Reader) (out : List ℕ) → (r .status ≡ 0 → ⊥) → run r out xs ≡ record { reader = r; out = out }
 unfolding run
-stays [] r out h = refl
-stays (x ∷ xs) r out h =
-    ap (λ (o : List ℕ). run (step r out x) o xs) (out-same r out x h) ∙ ap (λ (q : Reader). run q out xs) (step-same r out x h) ∙ stays xs r out h
+stays xs r out h = fold.stays step step-out r step-same out-same out xs
   where
-    step-same : (r : Reader) (out : List ℕ) (x : ℕ) → (r .status ≡ 0 → ⊥) → step r out x ≡ r
-    step-same r out x h = unfold step in rw (ne-eqb (r .status) 0 h)
+    step-same : (out : List ℕ) (x : ℕ) → step r out x ≡ r
+    step-same out x = unfold step in rw (ne-eqb (r .status) 0 h)
 
-    out-same : (r : Reader) (out : List ℕ) (x : ℕ) → (r .status ≡ 0 → ⊥) → step-out r out x ≡ out
-    out-same r out x h = unfold step-out in rw (ne-eqb (r .status) 0 h)
+    out-same : (out : List ℕ) (x : ℕ) → step-out r out x ≡ out
+    out-same out x = unfold step-out in rw (ne-eqb (r .status) 0 h)
 
 -- The text is taken: the reader reads on, after block 18.
 pub record Taken (x : Run) : Type 0 where

@@ -7,10 +7,10 @@ use Prim.Native.Nat.{ℕ, _+_, _*_, _-_, _≤_, _<_}
 use native.Mathlib.Omega.{arith}
 use borrow.Author.Tests.{ltb-true, ltb-false, leb-true, eqb-true, ne-eqb}
 use lib.Dec.{leb, ltb, eqb}
-use Rattle.text.specs.declared.Line.{Line}
-use Rattle.text.specs.Lexer.{bad, takes-digit, with-digit, with-point, with-space, with-minus, lex, lexes, whole-count, whole-term}
+use Rattle.series_lines.specs.declared.Line.{Line}
+use Rattle.series_lines.specs.Lexer.{bad, takes-digit, with-digit, with-point, with-space, with-minus, lex, lexes, whole-count, whole-term}
 use Rattle.integers.proofs.Tests.{by-cases}
-use Rattle.text.proofs.Digits.{in-whole, before-point, at-last-part, in-count, after-value, small, early}
+use Rattle.series_lines.proofs.Digits.{in-whole, before-point, at-last-part, in-count, after-value, small, early}
 use Rattle.text_promises.proofs.GoodLines.{put, keep}
 
 -- What a byte can do to a line.

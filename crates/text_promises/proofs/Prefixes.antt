@@ -9,12 +9,12 @@ use native.Mathlib.Omega.{arith}
 use borrow.Author.Tests.{eq-eqb, eqb-true, eqb-false, lt-ltb, leb-true, leb-false}
 use lib.Dec.{eqb, leb, lit<}
 use lib.ListN.{length}
-use Rattle.text.specs.declared.Line.{Line}
-use Rattle.text.specs.Lexer.{fresh, lex, lexes, whole-count, whole-term}
-use Rattle.text.specs.Grammar.{digits, AllDigits, numeral, Natural, Decimal, size, decimal, GoodDecimal}
-use Rattle.text.specs.Grammar.{count-bytes}
+use Rattle.series_lines.specs.declared.Line.{Line}
+use Rattle.series_lines.specs.Lexer.{fresh, lex, lexes, whole-count, whole-term}
+use Rattle.series_lines.specs.Grammar.{digits, AllDigits, numeral, Natural, Decimal, size, decimal, GoodDecimal}
+use Rattle.series_lines.specs.Grammar.{count-bytes}
 pub use Rattle.text_promises.specs.Decided.{BeginsTerm, BeginsCount}
-use Rattle.text.proofs.Digits.{early}
+use Rattle.series_lines.proofs.Digits.{early}
 use Rattle.integers.proofs.Tests.{by-cases}
 use Rattle.text_promises.proofs.GoodLines.{put, keep, flag, ten, lexes-append, parts-run, lex-point, lex-keep, natural-run, whole-spots}
 use Rattle.text_promises.proofs.GoodLines.{decimal-run, count-run, term-run}
@@ -22,8 +22,9 @@ use Rattle.text_promises.proofs.OneByte.{Lexed, none, digit, pointed, s
 use Rattle.text_promises.proofs.TakenTerms.{no-digit, term-in}
 use Rattle.text_promises.proofs.TakenCounts.{count-in}
 use Rattle.text_promises.proofs.Lines.{Going, step-in, step-bad, bad-end}
-use Rattle.text.specs.declared.Reader.{Reader}
-use Rattle.text.specs.Reader.{stopped, step}
+use Rattle.series_lines.specs.declared.Reader.{Reader}
+use Rattle.series_lines.specs.Reader.{stopped}
+use Rattle.text.specs.Reader.{step}
 
 -- What holds of a term line as long as it is good.
 record Live (l : Line) : Type 0 where

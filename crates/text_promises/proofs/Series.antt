@@ -15,10 +15,11 @@ use Rattle.limits.proofs.Passing.{GoodTerm, good-of, passes-of, count-passed, c
 use Rattle.limits.proofs.Terms as limits
 use Rattle.limits.proofs.Series as judged
 use Rattle.packed_promises.proofs.Theorems.{pack-parse}
-use Rattle.text.specs.declared.Outcome.the-variants.{Accepted}
-use Rattle.text.specs.Reader.{told, whole}
-use Rattle.text.specs.Grammar.{count, TermLine, Block, term-of-line, terms-of-lines, blocks-of-lines, GoodBlocks, GoodText}
-use Rattle.text.specs.Grammar.{TermInLimits, TermsInLimits, BlocksInLimits, InLimits}
+use Rattle.series_lines.specs.declared.Outcome.the-variants.{Accepted}
+use Rattle.series_lines.specs.Reader.{told}
+use Rattle.text.specs.Reader.{whole}
+use Rattle.series_lines.specs.Grammar.{count, TermLine, Block, term-of-line, terms-of-lines, blocks-of-lines, GoodBlocks, GoodText}
+use Rattle.series_lines.specs.Grammar.{TermInLimits, TermsInLimits, BlocksInLimits, InLimits}
 use Rattle.text_promises.proofs.Verdicts.{within-passes, passes-within}
 use Rattle.text_promises.proofs.Theorems.{Reads, accepted-text}
 pub use Rattle.text_promises.proofs.TakenTexts.{length-terms}

@@ -6,9 +6,9 @@ use Prim.Native.Nat.{ℕ, suc, _+_, _*_, _≤_}
 use native.Mathlib.Nat.{add-zero}
 use native.Mathlib.Omega.{arith}
 use lib.ListN.{length}
-use Rattle.text.specs.declared.Line.{Line}
-use Rattle.text.specs.Lexer.{fresh, lex, lexes, whole-count}
-use Rattle.text.specs.Grammar.{digits, AllDigits, numeral, CountLine, count, count-bytes, GoodCount}
+use Rattle.series_lines.specs.declared.Line.{Line}
+use Rattle.series_lines.specs.Lexer.{fresh, lex, lexes, whole-count}
+use Rattle.series_lines.specs.Grammar.{digits, AllDigits, numeral, CountLine, count, count-bytes, GoodCount}
 use Rattle.text_promises.proofs.GoodLines.{put}
 use Rattle.text_promises.proofs.OneByte.{Lexed, none, digit, pointed, spaced, kept, negated, view, count-of, no-count, count-more}
 

@@ -6,12 +6,12 @@ use mathlib.Core.Logic.{_⊎_, inl, inr}
 use Prim.Native.Nat.{ℕ, zero, suc, _+_, _*_, _≤_, _<_}
 use native.Mathlib.Omega.{arith}
 use lib.ListN.{length}
-use Rattle.text.specs.declared.Line.{Line}
-use Rattle.text.specs.Lexer.{fresh, takes-digit, lex, lexes, whole-term}
-use Rattle.text.specs.Grammar.{spaces, sign, digits, AllDigits, numeral, Decimal, size, decimal, GoodDecimal, TermLine, term-bytes, GoodTerm}
+use Rattle.series_lines.specs.declared.Line.{Line}
+use Rattle.series_lines.specs.Lexer.{fresh, takes-digit, lex, lexes, whole-term}
+use Rattle.series_lines.specs.Grammar.{spaces, sign, digits, AllDigits, numeral, Decimal, size, decimal, GoodDecimal, TermLine, term-bytes, GoodTerm}
 use Rattle.text_promises.proofs.GoodLines.{put, keep, flag, line-of-term}
 use Rattle.text_promises.proofs.OneByte.{Lexed, none, digit, pointed, spaced, kept, negated, view, term-of, no-term, never, last-part, whole-more}
-use Rattle.text.proofs.Digits.{after-decimal, small}
+use Rattle.series_lines.proofs.Digits.{after-decimal, small}
 use lib.Dec.{lit<}
 
 -- No digit follows a whole decimal.

@@ -12,21 +12,22 @@ use Rattle.packed_numbers.specs.Numbers.{encode}
 use Rattle.limits.specs.declared.Tally.{Tally}
 use Rattle.limits.specs.Limits.{opened, added, summed, after-block, factor}
 use Rattle.packed.specs.Series.{pack-term, pack-terms, pack-block, pack}
-use Rattle.text.specs.declared.Line.{Line}
-use Rattle.text.specs.declared.Reader.{Reader}
-use Rattle.text.specs.Lexer.{fresh, lexes}
-use Rattle.text.specs.Judge.{count-refusal, term-line-refusal}
-use Rattle.text.specs.Reader.{last-offset, stopped, next-spot, uncounted, step, step-out, Run, run}
-use Rattle.text.specs.Grammar.{CountLine, count, count-bytes, GoodCount, TermLine, term-bytes, GoodTerm, term-of-line}
-use Rattle.text.specs.Grammar.{Block, lines-bytes, blocks-bytes, terms-of-lines, blocks-of-lines, AllGood, GoodBlocks}
-use Rattle.text.specs.Grammar.{TermsInLimits, BlocksInLimits}
+use Rattle.series_lines.specs.declared.Line.{Line}
+use Rattle.series_lines.specs.declared.Reader.{Reader}
+use Rattle.series_lines.specs.Lexer.{fresh, lexes}
+use Rattle.series_lines.specs.Judge.{count-refusal, term-line-refusal}
+use Rattle.series_lines.specs.Reader.{last-offset, stopped, next-spot, uncounted}
+use Rattle.text.specs.Reader.{step, step-out, Run, run}
+use Rattle.series_lines.specs.Grammar.{CountLine, count, count-bytes, GoodCount, TermLine, term-bytes, GoodTerm, term-of-line}
+use Rattle.series_lines.specs.Grammar.{Block, lines-bytes, blocks-bytes, terms-of-lines, blocks-of-lines, AllGood, GoodBlocks}
+use Rattle.series_lines.specs.Grammar.{TermsInLimits, BlocksInLimits}
 use Rattle.integers.proofs.Tests.{by-cases}
-use Rattle.text.proofs.WrittenTerm.{sets-append}
+use Rattle.series_lines.proofs.WrittenTerm.{sets-append}
 use Rattle.text_promises.proofs.GoodLines.{flag}
 use Rattle.text_promises.proofs.TakenTerms.{term-in}
 use Rattle.text_promises.proofs.TakenCounts.{count-in}
 use Rattle.text_promises.proofs.Lines.{moved, Taken, not-stopped, next-line, shorter}
-use Rattle.text.proofs.LineLimits.{count-limits}
+use Rattle.series_lines.proofs.LineLimits.{count-limits}
 use Rattle.text_promises.proofs.Verdicts.{sp, st, count-verdict, term-verdict, term-limits, ends-count, ends-term}
 
 -- The packed form of a count line and of a term line.

@@ -9,12 +9,15 @@ use lib.ListN.{length, take, length-take}
 use lib.Seq.{sets}
 use Rattle.limits.specs.Limits.{no-tally, summed}
 use Rattle.packed.specs.Series.{pack-terms, pack}
-use Rattle.text.specs.declared.Reader.{Reader}
-use Rattle.text.specs.declared.Outcome.{Outcome}
-use Rattle.text.specs.declared.Outcome.the-variants.{Accepted}
-pub use Rattle.text.specs.Reader.{calls, joined, Reads}
-use Rattle.text.specs.Reader.{last-offset, begun, next-spot, step, Run, run, stopped, ended, told, whole}
-use Rattle.text.specs.Grammar.{feed, Block, lines-bytes, terms-of-lines, blocks-bytes, blocks-of-lines, GoodText, InLimits}
+use Rattle.series_lines.specs.declared.Reader.{Reader}
+use Rattle.series_lines.specs.declared.Outcome.{Outcome}
+use Rattle.series_lines.specs.declared.Outcome.the-variants.{Accepted}
+pub use Rattle.series_lines.specs.Calls.{joined}
+use Rattle.series_lines.proofs.Calls as fold
+pub use Rattle.text.specs.Reader.{calls, Reads}
+use Rattle.series_lines.specs.Reader.{last-offset, next-spot, stopped, told}
+use Rattle.text.specs.Reader.{begun, step, step-out, Run, run, ended, whole}
+use Rattle.series_lines.specs.Grammar.{feed, Block, lines-bytes, terms-of-lines, blocks-bytes, blocks-of-lines, GoodText, InLimits}
 use Rattle.integers.proofs.Tests.{by-cases}
 use Rattle.text_promises.proofs.GoodLines.{lexes-append}
 use Rattle.text_promises.proofs.Lines.{Going, stays}
@@ -24,17 +27,16 @@ pub use Rattle.text_promises.proofs.Counted.{cut}
 use Rattle.text_promises.proofs.Counted.{counted, uncounted-out}
 use Rattle.text_promises.proofs.Decided.{decided, decided-so-far}
 use Rattle.text_promises.specs.Decided.{Answers, AnswersSoFar}
-use Rattle.text.specs.declared.Line.{Line}
-use Rattle.text.specs.Lexer.{spot-decimal, spot-count, spot-after, fresh, lex, lexes}
+use Rattle.series_lines.specs.declared.Line.{Line}
+use Rattle.series_lines.specs.Lexer.{spot-decimal, spot-count, spot-after, fresh, lex, lexes}
 use Rattle.text_promises.proofs.TakenTexts.{rest-in}
 use Rattle.text_promises.proofs.Acceptance.{accepted-by, nothing}
 use Rattle.text_promises.proofs.GoodTexts.{blocks-run}
 
 -- Some calls are one call with the bytes of all.
 pub cutting : (r : Reader) (out : List ℕ) (ps : List (List ℕ)) → calls r out ps ≡ run r out (joined ps)
-unfolding calls joined
-cutting r out [] = unfold run in refl
-cutting r out (p ∷ ps) = cutting (run r out p .reader) (run r out p .out) ps ∙ sym (cut r out p (joined ps))
+unfolding run calls
+cutting = fold.cutting step step-out
 
 -- However a text is cut into calls, it comes to what one call with all of it comes to.
 pub any-cutting : (text out : List ℕ) (ps : List (List ℕ)) → joined ps ≡ text

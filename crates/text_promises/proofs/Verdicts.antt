@@ -16,13 +16,14 @@ use Rattle.limits.specs.declared.Term.{Term}
 use Rattle.limits.specs.Limits.{opened, added, factor, count-fits, term-refusal}
 use Rattle.limits.proofs.Passing.{Passes, refused-not, not-refused, refusal-among}
 use Rattle.packed.specs.Series.{pack-term}
-use Rattle.text.specs.declared.Line.{Line}
-use Rattle.text.specs.declared.Reader.{Reader}
-use Rattle.text.specs.Lexer.{spot-done, spot-bad, fresh, lex, lexes, whole-count, whole-term}
-use Rattle.text.specs.Judge.{Verdict, signed, term-on-line, count-refusal, term-line-refusal, verdict}
-use Rattle.text.specs.Reader.{next-spot, after-line, fits, wrote}
-use Rattle.text.specs.Grammar.{size, value, CountLine, count, GoodCount, TermLine, term-of-line, TermInLimits}
-use Rattle.text.proofs.Digits.{early}
+use Rattle.series_lines.specs.declared.Line.{Line}
+use Rattle.series_lines.specs.declared.Reader.{Reader}
+use Rattle.series_lines.specs.Lexer.{spot-done, spot-bad, fresh, lex, lexes, whole-count, whole-term}
+use Rattle.series_lines.specs.Judge.{Verdict, signed, term-on-line, count-refusal, term-line-refusal}
+use Rattle.text.specs.Reader.{verdict}
+use Rattle.series_lines.specs.Reader.{next-spot, after-line, fits, wrote}
+use Rattle.series_lines.specs.Grammar.{size, value, CountLine, count, GoodCount, TermLine, term-of-line, TermInLimits}
+use Rattle.series_lines.proofs.Digits.{early}
 use Rattle.integers.proofs.Tests.{by-cases}
 use Rattle.text.proofs.Branches.{verdict-count, verdict-term, verdict-early}
 use Rattle.text_promises.proofs.GoodLines.{put, flag, line-of-term}

@@ -11,10 +11,10 @@ use Rattle.units.specs.declared.Refusal.{Refusal}
 use Rattle.units.specs.declared.Refusal.the-variants.{BadByte, OverLimit, TotalOverLimit, TooCoarse, NoRoom, EndedEarly, ByteAfterEnd}
 use Rattle.limits.specs.declared.Tally.{Tally}
 use Rattle.limits.specs.Limits.{no-tally, opened, added, factor, count-fits, a-fits, b-fits, c-fits, total-fits, coarse-fits}
-use Rattle.text.specs.declared.Outcome.{Outcome}
-use Rattle.text.specs.declared.Outcome.the-variants.{More, Accepted, Refused}
-use Rattle.text.specs.Grammar.{feed, size, value, CountLine, count, count-bytes, GoodCount, TermLine, term-bytes, GoodTerm, term-of-line}
-use Rattle.text.specs.Grammar.{AnyLine, a-count, a-term, line-packed, any-bytes, any-packed, TermInLimits}
+use Rattle.series_lines.specs.declared.Outcome.{Outcome}
+use Rattle.series_lines.specs.declared.Outcome.the-variants.{More, Accepted, Refused}
+use Rattle.series_lines.specs.Grammar.{feed, size, value, CountLine, count, count-bytes, GoodCount, TermLine, term-bytes, GoodTerm, term-of-line}
+use Rattle.series_lines.specs.Grammar.{AnyLine, a-count, a-term, line-packed, any-bytes, any-packed, TermInLimits}
 
 -- ---- A good beginning.
 

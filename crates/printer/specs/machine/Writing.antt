@@ -7,7 +7,7 @@ use lib.Seq.{sets}
 use Rattle.limits.specs.declared.Term.{Term}
 use Rattle.units.specs.Units.{series-limit}
 use Rattle.packed.specs.machine.Table.{term-at, terms-at}
-use Rattle.text.specs.Grammar.{feed, digits, count-bytes, term-bytes, lines-bytes}
+use Rattle.series_lines.specs.Grammar.{feed, digits, count-bytes, term-bytes, lines-bytes}
 use Rattle.printer.specs.Printer.{places, first-digit, rest-digits, plain-count, plain-term}
 
 -- There is room for a text from at.

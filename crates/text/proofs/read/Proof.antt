@@ -1,8 +1,9 @@
 -- `text::read` meets its contract. Assumes nothing.
 use mathlib.Core.Path.{ap, _∙_}
 use borrow.Author.Needs.{needs}
-use Rattle.text.specs.Reader.{run, ended, told}
-use Rattle.text.specs.declared.Reader.{Reader}
+use Rattle.series_lines.specs.Reader.{told}
+use Rattle.text.specs.Reader.{run, ended}
+use Rattle.series_lines.specs.declared.Reader.{Reader}
 use Rattle.text.proofs.read.Statement.{statement}
 use Rattle.text.proofs.read.Tie as tie
 

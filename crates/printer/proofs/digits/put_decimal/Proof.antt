@@ -1,5 +1,5 @@
 -- `put_decimal` meets its contract. Assumes nothing.
-use Rattle.text.specs.Grammar.{decimal}
+use Rattle.series_lines.specs.Grammar.{decimal}
 use Rattle.printer.specs.Printer.{places, plain-decimal}
 use Rattle.printer.proofs.PieceByPiece.{Left, left-is, left-more, left-over, left-room}
 use Rattle.printer.proofs.DigitsWritten.{digits-room}

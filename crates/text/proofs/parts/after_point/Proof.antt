@@ -2,7 +2,7 @@
 use native.Mathlib.Omega.{arith}
 use borrow.Author.Needs.{needs}
 use borrow.Author.Tests.{leb-true}
-use Rattle.text.proofs.DigitRuns.{never}
+use Rattle.series_lines.proofs.DigitRuns.{never}
 use Rattle.text.proofs.parts.after_point.Statement.{statement}
 use Rattle.text.proofs.parts.after_point.Tie as tie
 

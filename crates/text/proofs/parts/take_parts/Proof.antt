@@ -3,9 +3,11 @@ use Prim.Native.Nat.{_-_}
 use native.Mathlib.Omega.{arith}
 use borrow.Author.Needs.{needs}
 use borrow.Author.Tests.{not-false}
-use Rattle.text.specs.Lexer.{spot-done}
-use Rattle.text.specs.machine.Parts.{run-end, After-point, Part-at}
-use Rattle.text.proofs.DigitRuns.{short, Parted, parted-none, parted-more, parted-done, as-it-stands}
+use Rattle.series_lines.specs.Lexer.{spot-done}
+use Rattle.series_lines.specs.machine.Parts.{run-end, Part-at}
+use Rattle.series_lines.proofs.DigitRuns.{short}
+use Rattle.text.specs.machine.Parts.{After-point}
+use Rattle.text.proofs.DigitRuns.{Parted, parted-none, parted-more, parted-done, as-it-stands}
 use Rattle.text.proofs.parts.take_parts.Statement.{statement}
 use Rattle.text.proofs.parts.take_parts.Tie as tie
 

@@ -1,0 +1,20 @@
+-- What the code asks of a run of digits after a decimal's point. Held by the code, no part of the rules.
+use mathlib.Core.Bool.{cond}
+use mathlib.Core.List.{List}
+use Prim.Native.Nat.{ℕ, _+_, _-_, _≤_, _<_}
+use lib.Dec.{eqb}
+use lib.ListN.{length, getD}
+use Rattle.series_lines.specs.Grammar.{digit-0}
+use Rattle.series_lines.specs.Lexer.{spot-done, value-limit}
+
+-- How far a run of parts may go: with a minus the last part may be refused.
+unfoldable pub run-end : ℕ → ℕ
+run-end minus = cond (eqb minus 0) spot-done (spot-done - 1)
+
+-- The byte at i is a digit that goes on at a spot before an end, after a value.
+pub record Part-at (text : List ℕ) (i spot value end : ℕ) : Type 0 where
+  pub early : spot < end
+  pub small : value < value-limit
+  pub inside : i < length text
+  pub least : digit-0 ≤ getD text i 0
+  pub most : getD text i 0 < digit-0 + 10
