@@ -1,0 +1,456 @@
+-- A record of a published file that was taken follows the layout: stretch by stretch of its columns. Assumes nothing.
+use mathlib.Core.Path.{_≡_, refl, sym, ap, _∙_, subst}
+use mathlib.Core.Bool.{Bool, true, false, cond}
+use mathlib.Core.List.{List, [], _∷_, _++_, append-assoc}
+use Prim.Native.Nat.{ℕ, zero, suc, _+_, _-_, _≤_, _<_}
+use native.Mathlib.Omega.{arith}
+use borrow.Author.Tests.{eqb-true, leb-true, ltb-true, lt-ltb, ltb-false}
+use lib.Dec.{eqb, leb, ltb, lit≤}
+use lib.ListN.{length, length-append}
+use Rattle.integers.proofs.Tests.{by-cases}
+use Rattle.series_lines.specs.declared.Line.{Line}
+use Rattle.series_lines.specs.Grammar.{spaces, CountLine, count, count-bytes, GoodCount, Decimal, decimal, GoodDecimal, size}
+use Rattle.series_lines.specs.Lexer.{spot-bad, fresh, bad, with-space, whole-count}
+use Rattle.published_records.specs.declared.Column.{Column}
+use Rattle.published_records.specs.declared.Column.the-variants.{Filler, Figure, Count}
+use Rattle.published_records.specs.Layout.{NoFeed, Free, heading-bytes, record-bytes}
+use Rattle.published_records.specs.Rows.{heading-column, decimal-column, fresh-row, lex-rows, whole-row}
+use Rattle.published_promises.specs.Decided.{IsHeading, IsRecord}
+use Rattle.text_promises.proofs.GoodLines.{put, keep, flag}
+use Rattle.published_promises.proofs.RowLaws.{in-field, field-lines, filler-lines, held, held-under, rows-column, heading-filler, heading-count}
+use Rattle.published_promises.proofs.RowLaws.{term-before, term-number, term-between, term-a, term-b, term-c, term-after}
+use Rattle.published_promises.proofs.Fields.{whole-bytes, decimal-line, count-field, decimal-field}
+use Rattle.published_promises.proofs.RowLines.{enter, line-step, lines, enters-none, rows-lines, lines-bad, Inside, Are}
+use Rattle.published_promises.proofs.RowLines.{inside-run, field-run, count-columns, decimal-columns}
+
+-- ---- Lists cut in two.
+
+pub record Cut (n : ℕ) (xs : List ℕ) : Type 0 where
+  pub front : List ℕ
+  pub rest : List ℕ
+  pub is : xs ≡ front ++ rest
+  pub long : length front ≡ n
+  pub left : n + length rest ≡ length xs
+  pub free : NoFeed front
+  pub rest-free : NoFeed rest
+
+pub cut : (n : ℕ) (xs : List ℕ) → n ≤ length xs → NoFeed xs → Cut n xs
+unfolding NoFeed
+cut zero xs h f = record { front = []; rest = xs; is = refl; long = refl; left = omega arith; free = tt; rest-free = f }
+cut (suc n) [] h f = absurd (omega arith)
+cut (suc n) (x ∷ xs) h f =
+    let c = cut n xs (omega arith) (f .1) in
+    record {
+      front = x ∷ c .front;
+      rest = c .rest;
+      is = ap (λ (y : List ℕ). x ∷ y) (c .is);
+      long = ap suc (c .long);
+      left = omega (arith, c .left);
+      free = (f .0, c .free);
+      rest-free = c .rest-free;
+    }
+
+pub record Next (xs : List ℕ) : Type 0 where
+  pub b : ℕ
+  pub rest : List ℕ
+  pub is : xs ≡ b ∷ rest
+  pub left : suc (length rest) ≡ length xs
+  pub rest-free : NoFeed rest
+
+pub next : (xs : List ℕ) → 1 ≤ length xs → NoFeed xs → Next xs
+unfolding NoFeed
+next [] h f = absurd (omega arith)
+next (x ∷ xs) h f = record { b = x; rest = xs; is = refl; left = refl; rest-free = f .1 }
+
+pub spaces-length : (n : ℕ) → length (spaces n) ≡ n
+unfolding spaces
+spaces-length zero = refl
+spaces-length (suc n) = ap suc (spaces-length n)
+
+-- ---- Stretches that were taken.
+
+-- The line is good.
+abbrev pub Live : Bool → ℕ → Line → List ℕ → Type 0
+Live h c l xs = lines h c l xs .spot ≡ spot-bad → ⊥
+
+-- Free columns.
+record FreeIn (h : Bool) (n m e : ℕ) (l : Line) (xs : List ℕ) : Type 0 where
+  front : List ℕ
+  rest : List ℕ
+  is : xs ≡ front ++ rest
+  free : Free n front
+  left : m ≤ length rest
+  rest-free : NoFeed rest
+  live : Live h e l rest
+
+free-in : (h : Bool) (c n m e : ℕ) (l : Line) (xs : List ℕ) → c + n ≡ e → n + m ≤ length xs → NoFeed xs → Inside c e → Are h (λ k. Filler) c e
+    → Live h c l xs → FreeIn h n m e l xs
+free-in h c n m e l xs i k f s a y =
+    let p = cut n xs (omega arith) f in
+    let q : lines h c l xs ≡ lines h e l (p .rest) =
+    ap (λ (z : List ℕ). lines h c l z) (p .is)
+    ∙ inside-run h (λ k. Filler) e (p .front) (p .rest) c l (omega (arith, p .long)) s a
+    ∙ ap (λ (z : Line). lines h e z (p .rest)) (filler-lines l (p .front)) in
+    record {
+      front = p .front;
+      rest = p .rest;
+      is = p .is;
+      free = record { columns = p .long; no-feed = p .free };
+      left = omega (arith, p .left);
+      rest-free = p .rest-free;
+      live = λ z. y (ap (λ (x : Line). x .spot) q ∙ z);
+    }
+
+-- A digit of a heading.
+record FigureIn (m e : ℕ) (l : Line) (xs : List ℕ) : Type 0 where
+  d : ℕ
+  rest : List ℕ
+  is : xs ≡ (48 + d) ∷ rest
+  digit : d < 10
+  left : m ≤ length rest
+  rest-free : NoFeed rest
+  live : Live true e l rest
+
+figure-byte : (c : ℕ) (l : Line) (b : ℕ) (rest : List ℕ) → heading-column c ≡ Figure → Live true c l (b ∷ rest)
+    → ((48 ≤ b) × (b < 58)) × Live true (suc c) l rest
+unfolding lines line-step in-field enter
+figure-byte c l b rest k y =
+    let z : lines true (suc c) (in-field Figure l b) rest .spot ≡ spot-bad → ⊥ =
+    subst (λ (q : Column). lines true (suc c) (in-field q l b) rest .spot ≡ spot-bad → ⊥) k y in
+    by-cases (leb 48 b)
+    (λ p. by-cases (ltb b 58)
+    (λ q. ((leb-true 48 b p, ltb-true b 58 q), rw (p, q) at z))
+    (λ q. absurd (z (rw (p, q) (lines-bad true rest (suc c) bad refl)))))
+    (λ p. absurd (z (rw p (lines-bad true rest (suc c) bad refl))))
+
+figure-in : (c m : ℕ) (l : Line) (xs : List ℕ) → heading-column c ≡ Figure → 1 + m ≤ length xs → NoFeed xs → Live true c l xs → FigureIn m (suc c) l xs
+figure-in c m l xs k h f y =
+    let p = next xs (omega arith) f in
+    let g = figure-byte c l (p .b) (p .rest) k (subst (λ (z : List ℕ). Live true c l z) (p .is) y) in
+    let e : p .b ≡ 48 + (p .b - 48) = omega (arith, g .0 .0) in
+    record {
+      d = p .b - 48;
+      rest = p .rest;
+      is = p .is ∙ ap (λ (x : ℕ). x ∷ p .rest) e;
+      digit = omega (arith, g .0 .0, g .0 .1);
+      left = omega (arith, p .left);
+      rest-free = p .rest-free;
+      live = g .1;
+    }
+
+-- The columns of a count.
+record NumberIn (h : Bool) (n m e : ℕ) (xs : List ℕ) : Type 0 where
+  indent : ℕ
+  k : CountLine
+  rest : List ℕ
+  is : xs ≡ spaces indent ++ (count-bytes k ++ rest)
+  good : GoodCount k
+  right : indent + length (count-bytes k) ≡ n
+  left : m ≤ length rest
+  rest-free : NoFeed rest
+  live : Live h e (put (fresh 20) (21 + length (k .more)) 0 (count k)) rest
+
+right-of : (n i : ℕ) (front figure : List ℕ) → length front ≡ n → front ≡ spaces i ++ figure → i + length figure ≡ n
+right-of n i front figure h e =
+    let s = ap length e ∙ length-append (spaces i) figure in omega (arith, s, spaces-length i)
+
+number-in : (h : Bool) (c n m e : ℕ) (xs : List ℕ) → c + n ≡ e → 1 ≤ n → n + m ≤ length xs → NoFeed xs → Inside c e → Are h Count c e
+    → Live h c (fresh 20) xs → NumberIn h n m e xs
+number-in h c n m e xs i o k f s a y =
+    let p = cut n xs (omega arith) f in
+    let q : lines h c (fresh 20) xs ≡ lines h e (whole-bytes 4 (fresh 20) (p .front)) (p .rest) =
+    ap (λ (z : List ℕ). lines h c (fresh 20) z) (p .is)
+    ∙ inside-run h Count e (p .front) (p .rest) c (fresh 20) (omega (arith, p .long)) s a
+    ∙ ap (λ (z : Line). lines h e z (p .rest)) (count-columns (p .front) (fresh 20)) in
+    let z : Live h e (whole-bytes 4 (fresh 20) (p .front)) (p .rest) = λ z. y (ap (λ (x : Line). x .spot) q ∙ z) in
+    let t = count-field (p .front) (omega (arith, p .long)) (λ b. z (lines-bad h (p .rest) e (whole-bytes 4 (fresh 20) (p .front)) b)) in
+    record {
+      indent = t .n;
+      k = t .k;
+      rest = p .rest;
+      is = p .is ∙ ap (λ (x : List ℕ). x ++ p .rest) (t .is) ∙ append-assoc (spaces (t .n)) (count-bytes (t .k)) (p .rest);
+      good = t .good;
+      right = right-of n (t .n) (p .front) (count-bytes (t .k)) (p .long) (t .is);
+      left = omega (arith, p .left);
+      rest-free = p .rest-free;
+      live = subst (λ (x : Line). Live h e x (p .rest)) (t .line) z;
+    }
+
+-- ---- A heading.
+
+-- So many bytes are whole.
+whole-long : (h : Bool) (n : ℕ) (xs : List ℕ) → n < 132 → ltb n (lex-rows h fresh-row xs .column) ≡ true → n ≤ length xs
+whole-long h n xs b w =
+    let e = rows-column h fresh-row xs (omega arith) in
+    let t = ltb-true n (lex-rows h fresh-row xs .column) w in
+    by-cases (ltb (length xs) n)
+    (λ p. let q = ltb-true (length xs) n p in absurd (omega (arith, e, t, held-under (1 + length xs) (omega (arith, q)))))
+    (λ p. ltb-false (length xs) n p)
+
+heading-strung : (f₁ f₂ f₃ xs r₁ r₂ r₃ r₄ r₅ r₆ r₇ s k : List ℕ) (v c p : ℕ)
+    → xs ≡ f₁ ++ r₁ → r₁ ≡ v ∷ r₂ → r₂ ≡ f₂ ++ r₃ → r₃ ≡ c ∷ r₄ → r₄ ≡ f₃ ++ r₅ → r₅ ≡ p ∷ r₆ → r₆ ≡ s ++ (k ++ r₇)
+    → xs ≡ f₁ ++ (v ∷ (f₂ ++ (c ∷ (f₃ ++ (p ∷ (s ++ (k ++ r₇)))))))
+heading-strung f₁ f₂ f₃ xs r₁ r₂ r₃ r₄ r₅ r₆ r₇ s k v c p e₁ e₂ e₃ e₄ e₅ e₆ e₇ = rw (e₁, e₂, e₃, e₄, e₅, e₆, e₇)
+
+inside-heading : (c e : ℕ) → e ≤ 80 → Inside c e
+inside-heading c e h k i j = (((λ z. omega (arith, z)), (λ z. omega (arith, z))), λ z. omega (arith, z))
+
+free-heading : (c e : ℕ) → e ≤ 60 → ((k : ℕ) → c ≤ k → k < e → (k ≡ 18 → ⊥) × (k ≡ 42 → ⊥)) → Are true (λ k. Filler) c e
+free-heading c e h n k i j = let t = n k i j in heading-filler k (t .0) (t .1) (λ z. omega (arith, z)) (omega arith)
+
+free-1 : Are true (λ k. Filler) 1 18
+free-1 = free-heading 1 18 (omega arith) (λ k i j. ((λ z. omega (arith, z)), (λ z. omega (arith, z))))
+
+free-19 : Are true (λ k. Filler) 19 42
+free-19 = free-heading 19 42 (omega arith) (λ k i j. ((λ z. omega (arith, z)), (λ z. omega (arith, z))))
+
+free-43 : Are true (λ k. Filler) 43 60
+free-43 = free-heading 43 60 (omega arith) (λ k i j. ((λ z. omega (arith, z)), (λ z. omega (arith, z))))
+
+pub count-heading : Are true Count 61 68
+count-heading k i j = let e : 67 - k ≡ 68 - k - 1 = omega arith in heading-count k i (omega arith) ∙ ap Count e
+
+pub heading-lines-in : (xs : List ℕ) → 67 ≤ length xs → NoFeed xs → Live true 1 (fresh 20) xs → IsHeading xs
+unfolding heading-bytes heading-column
+heading-lines-in xs n f y =
+    let a = free-in true 1 17 50 18 (fresh 20) xs refl n f (inside-heading 1 18 (lit≤ tt)) free-1 y in
+    let v = figure-in 18 49 (fresh 20) (a .rest) refl (a .left) (a .rest-free) (a .live) in
+    let b = free-in true 19 23 26 42 (fresh 20) (v .rest) refl (v .left) (v .rest-free) (inside-heading 19 42 (lit≤ tt)) free-19 (v .live) in
+    let c = figure-in 42 25 (fresh 20) (b .rest) refl (b .left) (b .rest-free) (b .live) in
+    let d = free-in true 43 17 8 60 (fresh 20) (c .rest) refl (c .left) (c .rest-free) (inside-heading 43 60 (lit≤ tt)) free-43 (c .live) in
+    let p = figure-in 60 7 (fresh 20) (d .rest) refl (d .left) (d .rest-free) (d .live) in
+    let k = number-in true 61 7 0 68 (p .rest) refl (lit≤ tt) (p .left) (p .rest-free) (inside-heading 61 68 (lit≤ tt)) count-heading (p .live) in
+    record {
+      h =
+          record {
+            before-version = a .front;
+            version = v .d;
+            before-coordinate = b .front;
+            coordinate = c .d;
+            before-power = d .front;
+            power = p .d;
+            before-count = k .indent;
+            count = k .k;
+            after = k .rest;
+          };
+      good =
+          record {
+            before-version = a .free;
+            version = v .digit;
+            before-coordinate = b .free;
+            coordinate = c .digit;
+            before-power = d .free;
+            power = p .digit;
+            count = k .good;
+            count-right = k .right;
+            after = k .rest-free;
+          };
+      is =
+          heading-strung (a .front) (b .front) (d .front) xs (a .rest) (v .rest) (b .rest) (c .rest) (d .rest) (p .rest) (k .rest)
+          (spaces (k .indent)) (count-bytes (k .k)) (48 + v .d) (48 + c .d) (48 + p .d) (a .is) (v .is) (b .is) (c .is) (d .is) (p .is) (k .is);
+    }
+
+-- The first row.
+pub first-line : (h : Bool) (xs : List ℕ) → (lex-rows h fresh-row xs .line .spot ≡ spot-bad → ⊥) → Live h 1 (fresh 20) xs
+unfolding held
+first-line h xs y e = y (ap (λ (l : Line). l .spot) (rows-lines h xs fresh-row 1 refl) ∙ e)
+
+pub heading-in : (xs : List ℕ) → NoFeed xs → (lex-rows true fresh-row xs .line .spot ≡ spot-bad → ⊥) → whole-row true (lex-rows true fresh-row xs) ≡ true
+    → IsHeading xs
+unfolding whole-row
+heading-in xs f y w = heading-lines-in xs (whole-long true 67 xs (omega arith) w) f (first-line true xs y)
+
+-- ---- A term record.
+
+-- The columns of a decimal, from the line l as its first column enters it.
+record FieldIn (n m e : ℕ) (l : Line) (xs : List ℕ) : Type 0 where
+  indent : ℕ
+  d : Decimal
+  rest : List ℕ
+  is : xs ≡ spaces indent ++ (decimal d ++ rest)
+  good : GoodDecimal d
+  right : indent + length (decimal d) ≡ n
+  left : m ≤ length rest
+  rest-free : NoFeed rest
+  live : Live false e (put l 18 (flag (d .minus)) (size d)) rest
+
+-- Such a field cut: whole columns, the point, and eleven columns.
+record Pieces (w m : ℕ) (xs : List ℕ) : Type 0 where
+  ws : List ℕ
+  p : ℕ
+  ps : List ℕ
+  rest : List ℕ
+  is : xs ≡ (ws ++ (p ∷ ps)) ++ rest
+  wide : length ws ≡ w
+  eleven : length ps ≡ 11
+  left : m ≤ length rest
+  rest-free : NoFeed rest
+
+pieces : (w m : ℕ) (xs : List ℕ) → w + 12 + m ≤ length xs → NoFeed xs → Pieces w m xs
+pieces w m xs h f =
+    let a = cut w xs (omega arith) f in
+    let b = next (a .rest) (omega (arith, a .left)) (a .rest-free) in
+    let c = cut 11 (b .rest) (omega (arith, a .left, b .left)) (b .rest-free) in
+    record {
+      ws = a .front;
+      p = b .b;
+      ps = c .front;
+      rest = c .rest;
+      is =
+          a .is
+          ∙ ap (λ (x : List ℕ). a .front ++ x) (b .is ∙ ap (λ (x : List ℕ). b .b ∷ x) (c .is))
+          ∙ sym (append-assoc (a .front) (b .b ∷ c .front) (c .rest));
+      wide = a .long;
+      eleven = c .long;
+      left = omega (arith, a .left, b .left, c .left);
+      rest-free = c .rest-free;
+    }
+
+field-length : (w : ℕ) (ws : List ℕ) (p : ℕ) (ps : List ℕ) → length ws ≡ w → length ps ≡ 11 → length (ws ++ (p ∷ ps)) ≡ w + 12
+field-length w ws p ps h k = length-append ws (p ∷ ps) ∙ (omega arith)
+
+field-in : (c w n m e : ℕ) (l k : Line) (xs : List ℕ) → c + n ≡ e → w + 12 ≡ n → 1 ≤ w → n + m ≤ length xs → NoFeed xs → Inside (suc c) e
+    → Are false decimal-column c e → enter false c l ≡ put k 0 0 0 → Live false c l xs → FieldIn n m e k xs
+field-in c w n m e l k xs i j o h f s a t y =
+    let p = pieces w m xs (omega arith) f in
+    let F = p .ws ++ (p .p ∷ p .ps) in
+    let long : length F ≡ w + 12 = field-length w (p .ws) (p .p) (p .ps) (p .wide) (p .eleven) in
+    let D = decimal-line (put k 0 0 0) (p .ws) (p .p) (p .ps) in
+    let q : lines false c l xs ≡ lines false e D (p .rest) =
+    ap (λ (z : List ℕ). lines false c l z) (p .is)
+    ∙ field-run false decimal-column e F (p .rest) c l (omega (arith, long)) (omega (arith, long)) s a
+    ∙ ap (λ (z : Line). lines false e (field-lines decimal-column z F) (p .rest)) t
+    ∙ ap (λ (z : Line). lines false e z (p .rest)) (decimal-columns (p .ws) (p .p) (p .ps) (put k 0 0 0) (p .eleven)) in
+    let z : Live false e D (p .rest) = λ z. y (ap (λ (x : Line). x .spot) q ∙ z) in
+    let d = decimal-field k (p .ws) (p .p) (p .ps) (omega (arith, p .wide)) (p .eleven) (λ b. z (lines-bad false (p .rest) e D b)) in
+    record {
+      indent = d .n;
+      d = d .d;
+      rest = p .rest;
+      is = p .is ∙ ap (λ (x : List ℕ). x ++ p .rest) (d .is) ∙ append-assoc (spaces (d .n)) (decimal (d .d)) (p .rest);
+      good = d .good;
+      right = right-of n (d .n) F (decimal (d .d)) (long ∙ j) (d .is);
+      left = p .left;
+      rest-free = p .rest-free;
+      live = subst (λ (x : Line). Live false e x (p .rest)) (d .line) z;
+    }
+
+-- Spaces to the end.
+blank-in : (xs : List ℕ) (c : ℕ) (l : Line) → 132 ≤ c → Live false c l xs → xs ≡ spaces (length xs)
+unfolding lines line-step in-field spaces
+blank-in [] c l h y = refl
+blank-in (x ∷ xs) c l h y =
+    let e : line-step false c l x ≡ cond (eqb x 32) l bad =
+    ap (λ (q : Column). in-field q (enter false c l) x) (term-after c h)
+    ∙ ap (λ (q : Line). cond (eqb x 32) q bad) (enters-none false c l (λ z. omega (arith, z)) (λ z. omega (arith, z)) (λ z. omega (arith, z))) in
+    let z : Live false (suc c) (cond (eqb x 32) l bad) xs = subst (λ (q : Line). Live false (suc c) q xs) e y in
+    by-cases (eqb x 32)
+    (λ p. ap (λ (b : ℕ). b ∷ xs) (eqb-true x 32 p) ∙ ap (λ (b : List ℕ). 32 ∷ b) (blank-in xs (suc c) l (omega arith) (rw p at z)))
+    (λ p. absurd (z (rw p (lines-bad false xs (suc c) bad refl))))
+
+-- What the stretches are.
+pub free-before : Are false (λ k. Filler) 1 6
+free-before k i j = term-before k j
+
+pub number-columns : Are false Count 6 11
+number-columns k i j = let e : 10 - k ≡ 11 - k - 1 = omega arith in term-number k i (omega arith) ∙ ap Count e
+
+pub free-between : Are false (λ k. Filler) 11 80
+free-between k i j = term-between k i j
+
+pub a-columns : Are false decimal-column 80 98
+a-columns k i j = let e : 97 - k ≡ 98 - k - 1 = omega arith in term-a k i (omega arith) ∙ ap decimal-column e
+
+pub b-columns : Are false decimal-column 98 112
+b-columns k i j = let e : 111 - k ≡ 112 - k - 1 = omega arith in term-b k i (omega arith) ∙ ap decimal-column e
+
+pub c-columns : Are false decimal-column 112 132
+c-columns k i j = let e : 131 - k ≡ 132 - k - 1 = omega arith in term-c k i (omega arith) ∙ ap decimal-column e
+
+pub inside-a : Inside 81 98
+inside-a k i j = (((λ z. omega (arith, z)), (λ z. omega (arith, z))), λ z. omega (arith, z))
+
+pub inside-b : Inside 99 112
+inside-b k i j = (((λ z. omega (arith, z)), (λ z. omega (arith, z))), λ z. omega (arith, z))
+
+pub inside-c : Inside 113 132
+inside-c k i j = (((λ z. omega (arith, z)), (λ z. omega (arith, z))), λ z. omega (arith, z))
+
+-- What their first columns enter.
+pub enter-a : (l : Line) → 20 < l .spot → l .spot < 25 → enter false 80 l ≡ put (fresh 0) 0 0 0
+unfolding enter whole-count
+enter-a l h k = rw (lt-ltb 20 (l .spot) h, lt-ltb (l .spot) 25 k)
+
+pub enter-b : (l : Line) (m v : ℕ) → l .field < 2 → enter false 98 (put l 18 m v) ≡ put (keep l m v) 0 0 0
+unfolding enter with-space
+enter-b l m v h = rw (lt-ltb (l .field) 2 h)
+
+pub enter-c : (l : Line) (m v : ℕ) → l .field < 2 → enter false 112 (put l 18 m v) ≡ put (keep l m v) 0 0 0
+unfolding enter with-space
+enter-c l m v h = rw (lt-ltb (l .field) 2 h)
+
+number-enters : (k : CountLine) → GoodCount k → enter false 80 (put (fresh 20) (21 + length (k .more)) 0 (count k)) ≡ put (fresh 0) 0 0 0
+number-enters k g =
+    enter-a (put (fresh 20) (21 + length (k .more)) 0 (count k)) (omega arith) (omega (arith, g .few))
+
+record-strung : (f₁ f₂ xs r₁ r₂ r₃ r₄ r₅ r₆ s₁ s₂ s₃ s₄ k a b c z : List ℕ)
+    → xs ≡ f₁ ++ r₁ → r₁ ≡ s₁ ++ (k ++ r₂) → r₂ ≡ f₂ ++ r₃ → r₃ ≡ s₂ ++ (a ++ r₄) → r₄ ≡ s₃ ++ (b ++ r₅) → r₅ ≡ s₄ ++ (c ++ r₆) → r₆ ≡ z
+    → xs ≡ f₁ ++ (s₁ ++ (k ++ (f₂ ++ (s₂ ++ (a ++ (s₃ ++ (b ++ (s₄ ++ (c ++ z)))))))))
+record-strung f₁ f₂ xs r₁ r₂ r₃ r₄ r₅ r₆ s₁ s₂ s₃ s₄ k a b c z e₁ e₂ e₃ e₄ e₅ e₆ e₇ = rw (e₁, e₂, e₃, e₄, e₅, e₆, e₇)
+
+pub record-lines-in : (xs : List ℕ) → 131 ≤ length xs → NoFeed xs → Live false 1 (fresh 20) xs → IsRecord xs
+unfolding record-bytes
+record-lines-in xs n f y =
+    let f₁ = free-in false 1 5 126 6 (fresh 20) xs refl n f (inside-heading 1 6 (lit≤ tt)) free-before y in
+    let k = number-in false 6 5 121 11 (f₁ .rest) refl (lit≤ tt) (f₁ .left) (f₁ .rest-free) (inside-heading 6 11 (lit≤ tt)) number-columns (f₁ .live) in
+    let L = put (fresh 20) (21 + length (k .k .more)) 0 (count (k .k)) in
+    let f₂ = free-in false 11 69 52 80 L (k .rest) refl (k .left) (k .rest-free) (inside-heading 11 80 (lit≤ tt)) free-between (k .live) in
+    let a = field-in 80 6 18 34 98 L (fresh 0) (f₂ .rest) refl refl (lit≤ tt) (f₂ .left) (f₂ .rest-free) inside-a a-columns
+    (number-enters (k .k) (k .good)) (f₂ .live) in
+    let A = put (fresh 0) 18 (flag (a .d .minus)) (size (a .d)) in
+    let K = keep (fresh 0) (flag (a .d .minus)) (size (a .d)) in
+    let b = field-in 98 2 14 20 112 A K (a .rest) refl refl (lit≤ tt) (a .left) (a .rest-free) inside-b b-columns
+    (enter-b (fresh 0) (flag (a .d .minus)) (size (a .d)) (lit≤ tt)) (a .live) in
+    let B = put K 18 (flag (b .d .minus)) (size (b .d)) in
+    let J = keep K (flag (b .d .minus)) (size (b .d)) in
+    let c = field-in 112 8 20 0 132 B J (b .rest) refl refl (lit≤ tt) (b .left) (b .rest-free) inside-c c-columns
+    (enter-c K (flag (b .d .minus)) (size (b .d)) (lit≤ tt)) (b .live) in
+    record {
+      t =
+          record {
+            before-number = f₁ .front;
+            number-indent = k .indent;
+            number = k .k;
+            before-a = f₂ .front;
+            a-indent = a .indent;
+            a = a .d;
+            b-indent = b .indent;
+            b = b .d;
+            c-indent = c .indent;
+            c = c .d;
+            after = length (c .rest);
+          };
+      good =
+          record {
+            before-number = f₁ .free;
+            number = k .good;
+            number-right = k .right;
+            before-a = f₂ .free;
+            a = a .good;
+            a-right = a .right;
+            b = b .good;
+            b-right = b .right;
+            c = c .good;
+            c-right = c .right;
+          };
+      is =
+          record-strung (f₁ .front) (f₂ .front) xs (f₁ .rest) (k .rest) (f₂ .rest) (a .rest) (b .rest) (c .rest) (spaces (k .indent))
+          (spaces (a .indent)) (spaces (b .indent)) (spaces (c .indent)) (count-bytes (k .k)) (decimal (a .d)) (decimal (b .d)) (decimal (c .d))
+          (spaces (length (c .rest))) (f₁ .is) (k .is) (f₂ .is) (a .is) (b .is) (c .is)
+          (blank-in (c .rest) 132 (put J 18 (flag (c .d .minus)) (size (c .d))) (lit≤ tt) (c .live));
+    }
+
+pub record-in : (xs : List ℕ) → NoFeed xs → (lex-rows false fresh-row xs .line .spot ≡ spot-bad → ⊥) → whole-row false (lex-rows false fresh-row xs) ≡ true
+    → IsRecord xs
+unfolding whole-row
+record-in xs f y w = record-lines-in xs (whole-long false 131 xs (omega arith) w) f (first-line false xs y)

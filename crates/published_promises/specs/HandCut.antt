@@ -1,0 +1,60 @@
+-- The series text that somebody cuts by hand out of a published file (RULES, "Published files"): for each heading its count, for each term
+-- record its three figures, parted by single spaces, and a line `0` for each block that has no heading.
+use mathlib.Core.List.{List, [], _∷_, _++_}
+use Prim.Native.Nat.{ℕ, zero, suc, _+_, _-_}
+use Rattle.units.specs.Units.{block-count}
+use Rattle.series_lines.specs.Grammar.{feed, AnyLine, a-count, a-term, any-bytes}
+use Rattle.published_records.specs.Layout.{Heading, heading-bytes, TermRecord, record-bytes, cut-term}
+use Rattle.published.specs.Judge.{block-of}
+
+-- A record of either kind.
+pub data AnyRecord : Type 0 where
+  a-heading : Heading → AnyRecord
+  a-record : TermRecord → AnyRecord
+
+-- Its bytes before the line feed.
+unfoldable pub any-record-bytes : AnyRecord → List ℕ
+any-record-bytes (a-heading h) = heading-bytes h
+any-record-bytes (a-record t) = record-bytes t
+
+-- The bytes of records, each with its line feed.
+unfoldable pub file-bytes : List AnyRecord → List ℕ
+file-bytes [] = []
+file-bytes (r ∷ rs) = any-record-bytes r ++ (feed ∷ file-bytes rs)
+
+-- The block of a heading.
+abbrev pub heading-block : Heading → ℕ
+heading-block h = block-of (h .coordinate) (h .power)
+
+-- The line `0`, n times.
+abbrev pub zero-line : AnyLine
+zero-line = a-count (record { first = 0; more = [] })
+
+unfoldable pub zero-lines : ℕ → List AnyLine
+zero-lines zero = []
+zero-lines (suc n) = zero-line ∷ zero-lines n
+
+-- What is cut out of one record after k blocks, and how many blocks there are then.
+unfoldable pub cut-one : ℕ → AnyRecord → List AnyLine
+cut-one k (a-heading h) = zero-lines (heading-block h - k) ++ (a-count (h .count) ∷ [])
+cut-one k (a-record t) = a-term (cut-term t) ∷ []
+
+unfoldable pub blocks-with : ℕ → AnyRecord → ℕ
+blocks-with k (a-heading h) = heading-block h + 1
+blocks-with k (a-record t) = k
+
+-- The lines cut out of records that follow k blocks; and how many blocks there are after them.
+unfoldable pub cut-records : ℕ → List AnyRecord → List AnyLine
+cut-records k [] = []
+cut-records k (r ∷ rs) = cut-one k r ++ cut-records (blocks-with k r) rs
+
+unfoldable pub blocks-of : ℕ → List AnyRecord → ℕ
+blocks-of k [] = k
+blocks-of k (r ∷ rs) = blocks-of (blocks-with k r) rs
+
+-- The lines of the text that is cut out of a whole file, and the text.
+abbrev pub cut-lines : List AnyRecord → List AnyLine
+cut-lines rs = cut-records 0 rs ++ zero-lines (block-count - blocks-of 0 rs)
+
+abbrev pub cut-text : List AnyRecord → List ℕ
+cut-text rs = any-bytes (cut-lines rs)
