@@ -6,6 +6,7 @@ ghost use Rattle.packed.specs.Series.{parse, checked};
 ghost use Rattle.place.specs.Mount.{mount-answer};
 ghost use Rattle.place.specs.Place.{place-answer};
 ghost use Rattle.printer.specs.Printer.{printed, printed-out};
+ghost use Rattle.published.specs.Reader as file;
 ghost use Rattle.series_lines.specs.Reader.{told};
 ghost use Rattle.text.specs.Reader.{begun, run, ended, whole};
 ghost use Rattle.answers.specs.Answers.{day-shown, date-shown, instant-shown, moment-shown, checked-shown, text-shown};
@@ -28,6 +29,7 @@ use answers::of_place;
 use answers::of_printed;
 use answers::of_standing;
 use answers::of_text;
+use published::Published;
 use series_lines::Reader;
 use units::Instant;
 
@@ -95,6 +97,49 @@ pub extern "C" fn stephylax_text_answer(state: Reader) -> Standing
     ensures { λ r. ⌜ r ≡ standing-shown (told state) ⌝ }
 {
     of_standing(series_lines::answer(state))
+}
+
+// The whole published file in one call, then its end.
+#[no_mangle]
+pub extern "C" fn stephylax_read_published(text: &[u8], packed: &mut [u8]) -> One
+    ensures { λ r. ⌜ (r ≡ text-shown (file.told (file.whole (now (text .entry)) (now (packed .entry)) .reader)))
+        × (now (packed .exit) ≡ file.whole (now (text .entry)) (now (packed .entry)) .out) ⌝ }
+{
+    of_text(published::read(text, packed))
+}
+
+#[no_mangle]
+pub extern "C" fn stephylax_published_start() -> Published
+    ensures { λ r. ⌜ r ≡ file.begun-file ⌝ }
+{
+    published::start()
+}
+
+#[no_mangle]
+pub extern "C" fn stephylax_published_piece(
+    state: Published,
+    text: &[u8],
+    packed: &mut [u8],
+) -> Published
+    ensures { λ r. ⌜ (r ≡ file.run state (now (packed .entry)) (now (text .entry)) .reader)
+        × (now (packed .exit) ≡ file.run state (now (packed .entry)) (now (text .entry)) .out) ⌝ }
+{
+    published::piece(state, text, packed)
+}
+
+// The last call may write: the counts of the blocks that never came.
+#[no_mangle]
+pub extern "C" fn stephylax_published_end(state: Published, packed: &mut [u8]) -> Published
+    ensures { λ r. ⌜ (r ≡ file.ended state (now (packed .entry))) × (now (packed .exit) ≡ file.ended-out state (now (packed .entry))) ⌝ }
+{
+    published::end(state, packed)
+}
+
+#[no_mangle]
+pub extern "C" fn stephylax_published_answer(state: Published) -> Standing
+    ensures { λ r. ⌜ r ≡ standing-shown (file.told state) ⌝ }
+{
+    of_standing(published::answer(state))
 }
 
 #[no_mangle]
