@@ -18,22 +18,27 @@
  *        number does not exist                                                5 for a day number
  *    2   the instant asked for, or the one that the light left at, is more    that instant
  *        than two millennia from 0
- *    3   no line goes on with this byte of a text                             its offset
+ *    3   no line goes on with this byte of a text or a published file         its offset
  *    4   a number is too large, a count is too large, or a packed number      offset *
  *        has more than nine groups
  *    5   the amplitudes of a block total more than their limit                offset *
  *    6   the terms so far are too coarse to be summed within 10^-6            offset *
  *    7   there is no room for the output                                      the room it wants; for a text
- *                                                                             the offset *
- *    8   the input is over before its 18 blocks are                           its length
+ *                                                                             or a published file the offset *
+ *    8   the input ended too early: before its 18 blocks did, a published     its length
+ *        file inside a line or a block
  *    9   there is a byte more after the last block                            its offset
  *   10   a packed number is not in its shortest form                          offset *
  *   11   a place is not usable                                                the minute of a list, else 0
  *   12   the keep-out is not from 60 to 2,700 arcminutes, or the minutes      0
  *        are not from 1 to 1,440
+ *   13   a heading of a published file is out of order, or its version is     offset *
+ *        not 4, or there is no such block
+ *   14   a running number of a published file does not come next              offset *
  *
- * Offsets count bytes from 0 at the beginning of the whole input. The offset * of a text is that of the line feed which ends
- * the line; that of a packed series is that of the number's last byte (of the ninth, if the number goes past nine groups).
+ * Offsets count bytes from 0 at the beginning of the whole input. The offset * of a text or a published file is that of the line
+ * feed which ends the line, or its length where the end is refused; that of a packed series is that of the number's last byte (of the
+ * ninth, if the number goes past nine groups).
  *
  * Units: t is in whole milliseconds of TD from 2000-01-01 12h, negative before, and at most 63,115,200,000,000 (two
  * millennia) from 0. Parts are 10^-11 radian or AU. "Rules" names the section of docs/RULES.md.
@@ -73,7 +78,9 @@ enum stephylax_refusal {
     STEPHYLAX_BYTE_AFTER_END = 9,
     STEPHYLAX_NOT_SHORTEST = 10,
     STEPHYLAX_NOT_USABLE = 11,
-    STEPHYLAX_BAD_WINDOW = 12
+    STEPHYLAX_BAD_WINDOW = 12,
+    STEPHYLAX_BAD_HEADING = 13,
+    STEPHYLAX_BAD_NUMBER = 14
 };
 
 /* The field of a date that does not exist: the figure of STEPHYLAX_NO_SUCH_DATE. */
@@ -95,8 +102,9 @@ typedef struct { uint64_t refusal; int64_t figure; int64_t longitude, latitude, 
 typedef struct { uint64_t refusal; int64_t figure; int64_t right_ascension, declination, distance; } stephylax_place;
 typedef struct { uint64_t refusal; double right_ascension, declination, distance; } stephylax_mount;
 
-/* The state of a text reader, given and returned by value. Its words are the library's own. */
+/* The states of the readers of texts and of published files, given and returned by value. Their words are the library's own. */
 typedef struct { uint64_t words[17]; } stephylax_text;
+typedef struct { uint64_t words[31]; } stephylax_published;
 
 /*
  * stephylax_day_of_date: noon day number of a date.
@@ -176,6 +184,36 @@ STEPHYLAX_MUST_USE
 stephylax_text stephylax_text_end(stephylax_text state, uint8_t *packed, size_t room);
 STEPHYLAX_MUST_USE
 stephylax_answer stephylax_text_answer(stephylax_text state);
+
+/*
+ * stephylax_read_published: a published VSOP87D file, whole, to the packed form that its figures have as a text.
+ *   Given     text, n               the file
+ *             packed, room          output
+ *   Returned  length                bytes of the packed form, which stands at the beginning of `packed`
+ *   Refused   the first of 3, 13, 14, 4, 5, 6, 7, 8, 9, with its offset; `packed` then holds the packed form of all lines before
+ *   Range     as stephylax_read_text; lines of any length. The packed form is shorter than the file, or has at most 18 bytes
+ *   Rules     Published files; Refusals and what they leave
+ */
+STEPHYLAX_MUST_USE
+stephylax_written stephylax_read_published(const uint8_t *text, size_t n, uint8_t *packed, size_t room);
+
+/*
+ * stephylax_published_start, _piece, _end, _answer: the same for a file that comes in pieces of any lengths, zero too.
+ *   Given     state, text, n, packed, room   as stephylax_text_start, _piece, _end and _answer
+ *   Returned  as they return. stephylax_published_end writes too: a 0 for each block after that of the last heading, all of them or
+ *             none (7, with the length of the file)
+ *   Refused   as stephylax_read_published; else as they refuse
+ *   Range     as theirs
+ *   Rules     Published files; Refusals and what they leave
+ */
+STEPHYLAX_MUST_USE
+stephylax_published stephylax_published_start(void);
+STEPHYLAX_MUST_USE
+stephylax_published stephylax_published_piece(stephylax_published state, const uint8_t *text, size_t n, uint8_t *packed, size_t room);
+STEPHYLAX_MUST_USE
+stephylax_published stephylax_published_end(stephylax_published state, uint8_t *packed, size_t room);
+STEPHYLAX_MUST_USE
+stephylax_answer stephylax_published_answer(stephylax_published state);
 
 /*
  * stephylax_check: whether packed bytes are a good series.

@@ -9,18 +9,21 @@ _stephylax_options() {
         its { while (match($0, /--[a-z][a-z-]*/)) { print substr($0, RSTART, RLENGTH); $0 = substr($0, RSTART + RLENGTH) } }'
 }
 
-# The names of the published series.
+# The names of the planets that have a text or a published file.
 _stephylax_names() {
-    local command folder path
+    local command folder path name
     command=$(type -P "$1") || return
     folder=${STEPHYLAX_DATA:-$(dirname "$command")/../share/stephylax/vsop87d}
     for path in "$folder"/*.txt; do
         [[ -e $path ]] && basename "$path" .txt
     done
+    for name in mercury venus earth mars jupiter saturn uranus neptune; do
+        [[ -e $folder/VSOP87D.${name:0:3} && ! -e $folder/$name.txt ]] && echo "$name"
+    done
 }
 
-# What the word becomes where a series stands: a name, or a file if it is a path or follows `text:` or `packed:`. bash parts words
-# at a colon, unless it is told not to.
+# What the word becomes where a series stands: a name, or a file if it is a path or follows `text:`, `packed:` or `published:`. bash
+# parts words at a colon, unless it is told not to.
 _stephylax_series() { # COMMAND
     local word=${COMP_WORDS[COMP_CWORD]} before=${COMP_WORDS[COMP_CWORD - 1]} kind=
     if [[ $word == : ]]; then
@@ -29,8 +32,8 @@ _stephylax_series() { # COMMAND
         kind=${COMP_WORDS[COMP_CWORD - 2]}
     fi
     case $kind:$word in
-    text:* | packed:*) compgen -f -- "$word" ;;
-    :text:* | :packed:*) compgen -f -P "${word%%:*}:" -- "${word#*:}" ;;
+    text:* | packed:* | published:*) compgen -f -- "$word" ;;
+    :text:* | :packed:* | :published:*) compgen -f -P "${word%%:*}:" -- "${word#*:}" ;;
     :*/*) compgen -f -- "$word" ;;
     :*) compgen -W "$(_stephylax_names "$1")" -- "$word" ;;
     esac
@@ -54,7 +57,7 @@ _stephylax() {
             words=$(_stephylax_options "${COMP_WORDS[1]}" <<<"$help")
             mapfile -t COMPREPLY < <(compgen -W "$words" -- "$word" | sort -u)
         elif [[ ${COMP_WORDS[1]} == *pack ]]; then
-            mapfile -t COMPREPLY < <(compgen -f -- "$word")
+            mapfile -t COMPREPLY < <(compgen -f -- "${word#:}") # the colon of `published:` is a word
         else
             mapfile -t COMPREPLY < <(_stephylax_series "${COMP_WORDS[0]}")
         fi

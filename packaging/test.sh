@@ -102,12 +102,17 @@ if is_there bash; then
     same "completion of $PWD/ven" "$(completed stephylax sun-list "$PWD/ven")" "$PWD/venus-series"
     same "completion of --earth ./ven" "$(completed stephylax sun-list mercury --earth ./ven)" ./venus-series
     # bash parts words at a colon, unless it is told not to.
-    for kind in text packed; do
+    for kind in text packed published; do
         same "completion of $kind : ven" "$(completed stephylax check $kind : ven)" venus-series
         same "completion of $kind :" "$(completed stephylax check $kind : | tr ' ' '\n' | grep ven)" venus-series
         same "completion of $kind:ven" "$(completed stephylax check $kind:ven)" $kind:venus-series
     done
+    mkdir -p published
+    touch published/VSOP87D.mar published/VSOP87D.mer published/mercury.txt
+    same "completion of m in a folder of published files" \
+        "$(export STEPHYLAX_DATA=published; completed stephylax check m)" "mercury mars"
     same "completion of pack ven" "$(completed stephylax pack ven)" venus-series
+    same "completion of pack published :" "$(completed stephylax pack published : | tr ' ' '\n' | grep ven)" venus-series
     same "completion of unpack x ven" "$(completed stephylax unpack x ven)" venus-series
 fi
 

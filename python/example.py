@@ -21,6 +21,14 @@ def folder():
     return found or sys.exit(f"the series are not in {paths[0]} nor in {paths[1]}: give their folder as the third word")
 
 
+def load(data, name):
+    """A planet's packed series: from its text, else from its published file."""
+    text = data / f"{name}.txt"
+    if text.is_file():
+        return stephylax.read_text(text.read_bytes())
+    return stephylax.read_published((data / f"VSOP87D.{name[:3]}").read_bytes())
+
+
 def today():
     """The day of UTC."""
     return datetime.datetime.now(datetime.timezone.utc).date()
@@ -34,7 +42,7 @@ def main(words):
     day = [int(field) for field in words[0].split("-")] if words else today()
     keep_out = int(words[1]) if len(words) > 1 else 600
     data = pathlib.Path(words[2]) if len(words) > 2 else folder()
-    series = {name: stephylax.read_text((data / f"{name}.txt").read_bytes()) for name in ("mercury", "venus", "earth")}
+    series = {name: load(data, name) for name in ("mercury", "venus", "earth")}
     start = stephylax.instant_of_date(day)
     for name in ("mercury", "venus"):
         runs = stephylax.sun_list(series[name], series["earth"], start, 1440, keep_out)

@@ -2,8 +2,8 @@
 
 Every call of include/stephylax.h, over the shared library, with nothing but ctypes. A refusal is raised as `Refused`.
 
-A series, a text or an output is any object that lends its bytes (bytes, bytearray, memoryview, mmap, array ..). Nothing is
-copied: an answer that was written is a memoryview of the output. Nobody may change what was lent while a call runs; bytes
+A series, a text, a published file or an output is any object that lends its bytes (bytes, bytearray, memoryview, mmap, array ..).
+Nothing is copied: an answer that was written is a memoryview of the output. Nobody may change what was lent while a call runs; bytes
 cannot be changed, a bytearray that another thread holds can.
 
 An instant is a whole number of milliseconds of TD from 2000-01-01 12h, or a date: (year, month, day) or (year, month, day, ms),
@@ -28,9 +28,9 @@ from typing import NamedTuple
 __version__ = "0.1.0"
 
 __all__ = [
-    "Answer", "Coordinates", "Date", "Moment", "Mount", "Place", "Refusal", "Refused", "Run", "TextReader",
+    "Answer", "Coordinates", "Date", "Moment", "Mount", "Place", "PublishedReader", "Refusal", "Refused", "Run", "TextReader",
     "apparent_place", "check", "coordinates_at", "date_of_day", "date_of_instant", "day_of_date", "instant_of_date",
-    "mount_place", "print_text", "read_text", "sun_list",
+    "mount_place", "print_text", "read_published", "read_text", "sun_list",
 ]
 
 
@@ -49,21 +49,25 @@ class Refusal(enum.IntEnum):
     NOT_SHORTEST = 10
     NOT_USABLE = 11
     BAD_WINDOW = 12
+    BAD_HEADING = 13
+    BAD_NUMBER = 14
 
 
 _WORDS = {
     Refusal.NO_SUCH_DATE: "the date, the time of day or the day number does not exist",
     Refusal.PAST_LIMIT: "the instant is more than two millennia from 2000-01-01 12h TD; the figure is the instant",
-    Refusal.BAD_BYTE: "a byte of the text cannot continue its line; the figure is its offset",
+    Refusal.BAD_BYTE: "a byte cannot continue its line; the figure is its offset",
     Refusal.OVER_LIMIT: "a number or a count passes its limit; the figure is the offset",
     Refusal.TOTAL_OVER_LIMIT: "the amplitudes of a block total more than 100,000; the figure is the offset",
     Refusal.TOO_COARSE: "the series is too coarse to be summed within 10^-6; the figure is the offset",
-    Refusal.NO_ROOM: "the output does not fit; the figure is the length it would need, for a text the offset",
-    Refusal.ENDED_EARLY: "the input ends before its 18 blocks do; the figure is its length",
+    Refusal.NO_ROOM: "the output does not fit; the figure is the length it would need, for a text or a published file the offset",
+    Refusal.ENDED_EARLY: "the input ended too early; the figure is its length",
     Refusal.BYTE_AFTER_END: "a byte follows the series; the figure is its offset",
     Refusal.NOT_SHORTEST: "a packed number is not in its shortest form; the figure is the offset",
     Refusal.NOT_USABLE: "a place is not usable: a body too near, too far, or both too close together; the figure is the minute of a list",
     Refusal.BAD_WINDOW: "the keep-out is outside 60 to 2,700 arcminutes, or the minutes are outside 1 to 1,440",
+    Refusal.BAD_HEADING: "a heading is out of order, of no block, or not of version 4 (VSOP87D); the figure is the offset",
+    Refusal.BAD_NUMBER: "a running number does not come next; the figure is the offset",
 }
 
 _FIELDS = {
@@ -137,7 +141,7 @@ class Mount(NamedTuple):
 
 
 class Answer(NamedTuple):
-    """What stands of a text in pieces: the bytes that are packed, and whether it has ended and is good."""
+    """What stands of a text or a published file in pieces: the bytes that are packed, and whether it has ended and is good."""
 
     length: int
     accepted: bool
@@ -189,7 +193,7 @@ _WRITTEN, _CHECKED, _STANDING = _answer("length"), _answer("terms"), _answer("le
 _COORDINATES, _PLACE = _answer("longitude", "latitude", "radius"), _answer("right_ascension", "declination", "distance")
 _DOUBLES = ((name, ctypes.c_double) for name in ("right_ascension", "declination", "distance"))
 _MOUNT = _struct("Mount", ("refusal", ctypes.c_uint64), *_DOUBLES)
-_TEXT = _struct("Text", ("words", ctypes.c_uint64 * 17))
+_TEXT, _PUBLISHED = _struct("Text", ("words", ctypes.c_uint64 * 17)), _struct("Published", ("words", ctypes.c_uint64 * 31))
 
 # Each function: what it answers, what it takes.
 _FUNCTIONS = {
@@ -202,6 +206,11 @@ _FUNCTIONS = {
     "text_piece": (_TEXT, [_TEXT] + _SLICE + _SLICE),
     "text_end": (_TEXT, [_TEXT] + _SLICE),
     "text_answer": (_STANDING, [_TEXT]),
+    "read_published": (_WRITTEN, _SLICE + _SLICE),
+    "published_start": (_PUBLISHED, []),
+    "published_piece": (_PUBLISHED, [_PUBLISHED] + _SLICE + _SLICE),
+    "published_end": (_PUBLISHED, [_PUBLISHED] + _SLICE),
+    "published_answer": (_STANDING, [_PUBLISHED]),
     "check": (_CHECKED, _SLICE),
     "print": (_WRITTEN, _SLICE + _SLICE),
     "coordinates_at": (_COORDINATES, _SLICE + [_I64]),
@@ -407,39 +416,56 @@ def date_of_instant(t):
     return Moment(d.year, d.month, d.day, d.ms)
 
 
+def _read(name, text, packed, more):
+    if packed is None:
+        packed = bytearray(memoryview(text).nbytes + more)
+    with _Lent(text, packed, output=True) as slices:
+        length = _taken(_c[name](*slices)).length
+    return _written(packed, length)
+
+
 def read_text(text, packed=None):
     """Packs the text of a series, given whole: a memoryview of the packed form. `packed` is the output, else one that is long enough
     is made. Refused: 3 to 9; `packed` then holds the packed form of the lines before."""
-    if packed is None:
-        packed = bytearray(memoryview(text).nbytes)
-    with _Lent(text, packed, output=True) as slices:
-        length = _taken(_c["read_text"](*slices)).length
-    return _written(packed, length)
+    return _read("read_text", text, packed, more=0)
+
+
+def read_published(file, packed=None):
+    """The same for a published VSOP87D file. Refused: 3 to 9, 13, 14."""
+    return _read("read_published", file, packed, more=18)
 
 
 class TextReader:
     """Packs the text of a series that comes in pieces of any lengths, into `packed`. Until `end` nobody else may write there."""
 
+    _start, _piece, _end, _answer = (_c[f"text_{name}"] for name in ("start", "piece", "end", "answer"))
+
     def __init__(self, packed):
         self._packed = packed
-        self._state = _c["text_start"]()
+        self._state = self._start()
 
     def piece(self, text):
         """Takes the next piece: how many bytes are packed so far. Refused: 3 to 7, 9."""
         with _Lent(text, self._packed, output=True) as slices:
-            self._state = _c["text_piece"](self._state, *slices)
+            self._state = self._piece(self._state, *slices)
         return self.answer().length
 
     def end(self):
         """Says that the text has ended: a memoryview of the packed form. Refused: 3 to 9."""
         with _Lent(self._packed, output=True) as slices:
-            self._state = _c["text_end"](self._state, *slices)
+            self._state = self._end(self._state, *slices)
         return _written(self._packed, self.answer().length)
 
     def answer(self):
         """What stands. The text is a series only where it is accepted, which it is after `end` alone. Refused: 3 to 9."""
-        stands = _taken(_c["text_answer"](self._state))
+        stands = _taken(self._answer(self._state))
         return Answer(stands.length, stands.accepted == 1)
+
+
+class PublishedReader(TextReader):
+    """The same for a published VSOP87D file; its `end` may write too. Refused: also 13, 14."""
+
+    _start, _piece, _end, _answer = (_c[f"published_{name}"] for name in ("start", "piece", "end", "answer"))
 
 
 def check(packed):

@@ -29,6 +29,19 @@ def published(planet):
 TEXTS = {planet: published(planet) for planet in ("mercury", "venus", "earth")}
 SERIES = {planet: bytes(stephylax.read_text(text)) for planet, text in TEXTS.items()}
 
+def laid_out(text):
+    """The text of a series as it is published: headings and terms in their columns, with no heading of an empty block."""
+    lines, file = iter(text.decode().splitlines()), []
+    for block in range(18):
+        count = int(next(lines))
+        if count:
+            file.append(f"{4:18}{block // 6 + 1:24}{block % 6:18}{count:7} TERMS")
+        for number in range(1, count + 1):
+            a, b, c = next(lines).split()
+            file.append(f"{number:10}{a:>87}{b:>14}{c:>20}")
+    return "".join(line + "\n" for line in file).encode()
+
+
 # A byte that outputs hold beforehand.
 UNTOUCHED = 0xA5
 
@@ -114,15 +127,15 @@ class Vectors(unittest.TestCase):
                 self.assertEqual(got, self.expected(fields, lambda f: f.numbers(4)), line)
             self.assertTrue(fields.done(), line)
 
-    def text_case(self, line, text, room, wanted, output):
+    def text_case(self, line, text, room, wanted, output, read=stephylax.read_text, reader_of=stephylax.TextReader):
         """Whole, and cut into at most about a hundred pieces, with one of length 0 after each."""
         left = output + bytes([UNTOUCHED]) * (room - len(output))
         packed = bytearray([UNTOUCHED]) * room
-        got = outcome(stephylax.read_text, text, packed)
+        got = outcome(read, text, packed)
         self.assertEqual((got[0], len(got[1])) if got[0] == 0 else got, wanted, line)
         self.assertEqual(packed, left, line)
         packed = bytearray([UNTOUCHED]) * room
-        reader = stephylax.TextReader(packed)
+        reader = reader_of(packed)
         step = max(1 + len(line) % 7, len(text) // 100)
         for at in range(0, len(text), step):
             stands = outcome(reader.piece, memoryview(text)[at : at + step])
@@ -134,6 +147,22 @@ class Vectors(unittest.TestCase):
         if wanted[0] == 0:
             self.assertEqual(reader.answer(), (wanted[1], True), line)
         self.assertEqual(packed, left, line)
+
+    def published_case(self, line, file, room, wanted, output):
+        self.text_case(line, file, room, wanted, output, stephylax.read_published, stephylax.PublishedReader)
+
+    def test_published(self):
+        for line, fields in vectors("requests/c11_published.txt"):
+            room, file = fields.number(), fields.bytes()
+            wanted = self.expected(fields, Fields.number)
+            self.published_case(line, file, room, wanted, fields.bytes())
+            self.assertTrue(fields.done(), line)
+
+    def test_planets_as_published(self):
+        for planet, packed in SERIES.items():
+            file = laid_out(TEXTS[planet])
+            self.assertEqual(stephylax.read_published(file), packed, planet)
+            self.published_case(planet, file, len(packed) + 9, (0, len(packed)), packed)
 
     def test_texts(self):
         for line, fields in vectors("text.txt"):
@@ -257,6 +286,12 @@ class Refusals(unittest.TestCase):
         earth = SERIES["earth"]
         self.refused(Refusal.NOT_USABLE, 0, stephylax.sun_list, earth, earth, 0)
         self.refused(Refusal.BAD_WINDOW, 0, stephylax.sun_list, earth, earth, 0, 1441)
+        file = laid_out(self.text(b"1", b"1.00000000000 " + term))
+        self.refused(Refusal.BAD_HEADING, file.index(b"\n"), stephylax.read_published, file.replace(b"4", b"3", 1))
+        self.refused(Refusal.BAD_NUMBER, len(file) - 1, stephylax.read_published, file.replace(b"\n         1", b"\n         2", 1))
+        self.refused(Refusal.ENDED_EARLY, len(file) - 1, stephylax.read_published, file[:-1])
+        self.refused(Refusal.NO_ROOM, 0, stephylax.read_published, b"", bytearray(17))
+        self.assertEqual(stephylax.read_published(b""), bytes(18))
 
     def test_names(self):
         """The header has the same names and numbers."""
@@ -493,6 +528,10 @@ class Finding(unittest.TestCase):
             self.assertEqual((lost.returncode, lost.stdout), (1, ""))
             self.assertRegex(lost.stderr, "^the series are not in .*: give their folder as the third word\n$")
             found = subprocess.run([*run, data], env=given, capture_output=True, text=True, cwd="/")
+            self.assertEqual(found.stdout, "mercury  shut from 04:56 to 23:59\nvenus    open all day\n", found.stderr)
+            for planet, series in TEXTS.items():
+                pathlib.Path(folder, f"VSOP87D.{planet[:3]}").write_bytes(laid_out(series))
+            found = subprocess.run([*run, folder], env=given, capture_output=True, text=True, cwd="/")
             self.assertEqual(found.stdout, "mercury  shut from 04:56 to 23:59\nvenus    open all day\n", found.stderr)
             program = f"import sys; sys.path.insert(0, {str(example.parent)!r}); import example; print(example.today())"
             before = datetime.datetime.now(datetime.timezone.utc).date()

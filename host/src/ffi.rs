@@ -2,8 +2,9 @@
 //!
 //! Nothing checks these declarations against the library but the tests, which compare every field of every answer.
 
-/// How many 64-bit words the state of a text reader has.
+/// How many 64-bit words the states of the readers have, of texts and of published files.
 pub const TEXT_WORDS: usize = 17;
+pub const PUBLISHED_WORDS: usize = 31;
 
 #[repr(C)]
 #[derive(Clone, Copy, Debug, PartialEq, Eq)]
@@ -40,7 +41,7 @@ pub struct Written {
     pub length: i64,
 }
 
-/// What stands of a text in pieces: `accepted` is 1 after the end of an accepted one, else 0.
+/// What stands of a text or a published file in pieces: `accepted` is 1 after the end of an accepted one, else 0.
 #[repr(C)]
 #[derive(Clone, Copy, Debug, PartialEq, Eq)]
 pub struct Answer {
@@ -94,6 +95,13 @@ pub struct Text {
     pub words: [u64; TEXT_WORDS],
 }
 
+/// The state of a reader of published files. Its words are the library's own.
+#[repr(C)]
+#[derive(Clone, Copy, Debug, PartialEq, Eq)]
+pub struct Published {
+    pub words: [u64; PUBLISHED_WORDS],
+}
+
 extern "C" {
     pub fn stephylax_day_of_date(year: i64, month: i64, day: i64) -> Day;
     pub fn stephylax_date_of_day(day_number: i64) -> Date;
@@ -104,6 +112,17 @@ extern "C" {
     pub fn stephylax_text_piece(state: Text, text: *const u8, n: usize, packed: *mut u8, room: usize) -> Text;
     pub fn stephylax_text_end(state: Text, packed: *mut u8, room: usize) -> Text;
     pub fn stephylax_text_answer(state: Text) -> Answer;
+    pub fn stephylax_read_published(text: *const u8, n: usize, packed: *mut u8, room: usize) -> Written;
+    pub fn stephylax_published_start() -> Published;
+    pub fn stephylax_published_piece(
+        state: Published,
+        text: *const u8,
+        n: usize,
+        packed: *mut u8,
+        room: usize,
+    ) -> Published;
+    pub fn stephylax_published_end(state: Published, packed: *mut u8, room: usize) -> Published;
+    pub fn stephylax_published_answer(state: Published) -> Answer;
     pub fn stephylax_check(packed: *const u8, n: usize) -> Checked;
     pub fn stephylax_print(packed: *const u8, n: usize, text: *mut u8, room: usize) -> Written;
     pub fn stephylax_coordinates_at(packed: *const u8, n: usize, t: i64) -> Coordinates;

@@ -52,46 +52,93 @@ pub fn read_text(text: &[u8], packed: &mut [u8]) -> Result<usize, Refusal> {
     written(unsafe { ffi::stephylax_read_text(text.as_ptr(), text.len(), packed.as_mut_ptr(), packed.len()) })
 }
 
-/// Packs the text of a series that comes in pieces, all into the one buffer that it holds.
-pub struct TextReader<'a> {
-    state: ffi::Text,
+/// Packs a published file, given whole: how many bytes of `packed` it took.
+pub fn read_published(text: &[u8], packed: &mut [u8]) -> Result<usize, Refusal> {
+    // SAFETY: both slices are lent for the call, with their lengths.
+    written(unsafe { ffi::stephylax_read_published(text.as_ptr(), text.len(), packed.as_mut_ptr(), packed.len()) })
+}
+
+/// The state of a reader: of texts, or of published files.
+pub trait State: Copy {
+    fn start() -> Self;
+    fn piece(self, text: &[u8], packed: &mut [u8]) -> Self;
+    fn end(self, packed: &mut [u8]) -> Self;
+    fn answer(self) -> ffi::Answer;
+}
+
+// SAFETY, for both: the functions take every state, and the slices are lent for the call, with their lengths.
+impl State for ffi::Text {
+    fn start() -> ffi::Text {
+        unsafe { ffi::stephylax_text_start() }
+    }
+
+    fn piece(self, text: &[u8], packed: &mut [u8]) -> ffi::Text {
+        unsafe { ffi::stephylax_text_piece(self, text.as_ptr(), text.len(), packed.as_mut_ptr(), packed.len()) }
+    }
+
+    fn end(self, packed: &mut [u8]) -> ffi::Text {
+        unsafe { ffi::stephylax_text_end(self, packed.as_mut_ptr(), packed.len()) }
+    }
+
+    fn answer(self) -> ffi::Answer {
+        unsafe { ffi::stephylax_text_answer(self) }
+    }
+}
+
+impl State for ffi::Published {
+    fn start() -> ffi::Published {
+        unsafe { ffi::stephylax_published_start() }
+    }
+
+    fn piece(self, text: &[u8], packed: &mut [u8]) -> ffi::Published {
+        unsafe { ffi::stephylax_published_piece(self, text.as_ptr(), text.len(), packed.as_mut_ptr(), packed.len()) }
+    }
+
+    fn end(self, packed: &mut [u8]) -> ffi::Published {
+        unsafe { ffi::stephylax_published_end(self, packed.as_mut_ptr(), packed.len()) }
+    }
+
+    fn answer(self) -> ffi::Answer {
+        unsafe { ffi::stephylax_published_answer(self) }
+    }
+}
+
+/// Packs a series that comes in pieces, all into the one buffer that it holds.
+pub struct Reader<'a, S: State> {
+    state: S,
     packed: &'a mut [u8],
 }
 
-impl<'a> TextReader<'a> {
-    pub fn new(packed: &'a mut [u8]) -> TextReader<'a> {
-        // SAFETY: the function takes nothing.
-        TextReader { state: unsafe { ffi::stephylax_text_start() }, packed }
+/// A reader of texts.
+pub type TextReader<'a> = Reader<'a, ffi::Text>;
+/// A reader of published files.
+pub type PublishedReader<'a> = Reader<'a, ffi::Published>;
+
+impl<'a, S: State> Reader<'a, S> {
+    pub fn new(packed: &'a mut [u8]) -> Reader<'a, S> {
+        Reader { state: S::start(), packed }
     }
 
     /// Takes the next piece: how many bytes are packed so far.
     pub fn piece(&mut self, text: &[u8]) -> Result<usize, Refusal> {
-        let (packed, room) = (self.packed.as_mut_ptr(), self.packed.len());
-        // SAFETY: both slices are lent for the call, with their lengths.
-        self.state = unsafe { ffi::stephylax_text_piece(self.state, text.as_ptr(), text.len(), packed, room) };
+        self.state = self.state.piece(text, self.packed);
         self.standing()
     }
 
-    /// Says that the text has ended: how many bytes it took.
+    /// Says that the input has ended: how many bytes it took.
     pub fn end(&mut self) -> Result<usize, Refusal> {
-        // SAFETY: the buffer is lent for the call, with its length.
-        self.state = unsafe { ffi::stephylax_text_end(self.state, self.packed.as_mut_ptr(), self.packed.len()) };
+        self.state = self.state.end(self.packed);
         self.standing()
     }
 
-    /// Whether the text has ended and is good: only then is what is packed a series.
+    /// Whether the input has ended and is good: only then is what is packed a series.
     pub fn accepted(&self) -> bool {
-        self.answer().accepted == 1
+        self.state.answer().accepted == 1
     }
 
     fn standing(&self) -> Result<usize, Refusal> {
-        let stands = self.answer();
+        let stands = self.state.answer();
         answer(stands.refusal, stands.figure, stands.length as usize)
-    }
-
-    fn answer(&self) -> ffi::Answer {
-        // SAFETY: the function takes every state.
-        unsafe { ffi::stephylax_text_answer(self.state) }
     }
 }
 

@@ -12,7 +12,7 @@ pub enum Field {
     DayNumber,
 }
 
-/// Why a call gave no answer. Each case has a number in the table of include/stephylax.h and, but for the last, a figure.
+/// Why a call gave no answer. Each case has a number in the table of include/stephylax.h and, but for 12, a figure.
 #[derive(Clone, Copy, Debug, PartialEq, Eq)]
 pub enum Refusal {
     /// 1: the first field that does not exist.
@@ -27,7 +27,7 @@ pub enum Refusal {
     TotalOverLimit(i64),
     /// 6: the offset.
     TooCoarse(i64),
-    /// 7: the length that the output would need; in a text the offset of the line that does not fit.
+    /// 7: the length that the output would need; in a text or a published file the offset of the line that does not fit.
     NoRoom(i64),
     /// 8: the length of the input.
     EndedEarly(i64),
@@ -39,6 +39,10 @@ pub enum Refusal {
     NotUsable(i64),
     /// 12.
     BadWindow,
+    /// 13: the offset of the heading's line feed.
+    BadHeading(i64),
+    /// 14: the offset of the line feed.
+    BadNumber(i64),
 }
 
 impl Refusal {
@@ -61,6 +65,8 @@ impl Refusal {
             (10, at) => Refusal::NotShortest(at),
             (11, minute) => Refusal::NotUsable(minute),
             (12, 0) => Refusal::BadWindow,
+            (13, at) => Refusal::BadHeading(at),
+            (14, at) => Refusal::BadNumber(at),
             _ => panic!("the table of refusals has no {number} with {figure}"),
         }
     }
@@ -80,6 +86,8 @@ impl Refusal {
             Refusal::NotShortest(_) => 10,
             Refusal::NotUsable(_) => 11,
             Refusal::BadWindow => 12,
+            Refusal::BadHeading(_) => 13,
+            Refusal::BadNumber(_) => 14,
         }
     }
 
@@ -96,7 +104,9 @@ impl Refusal {
             | Refusal::EndedEarly(figure)
             | Refusal::ByteAfterEnd(figure)
             | Refusal::NotShortest(figure)
-            | Refusal::NotUsable(figure) => figure,
+            | Refusal::NotUsable(figure)
+            | Refusal::BadHeading(figure)
+            | Refusal::BadNumber(figure) => figure,
             Refusal::BadWindow => 0,
         }
     }
@@ -116,7 +126,7 @@ impl Refusal {
             Refusal::PastLimit(t) => {
                 format!("the instant {t} ms is more than two millennia from 2000-01-01 12h TD")
             }
-            Refusal::BadByte(at) => format!("the byte at offset {at} of the text cannot continue its line"),
+            Refusal::BadByte(at) => format!("the byte at offset {at} cannot continue its line"),
             Refusal::OverLimit(at) => format!("the number that ends at offset {at} passes its limit"),
             Refusal::TotalOverLimit(at) => {
                 format!("the amplitudes of a block total more than 100,000 at offset {at}")
@@ -125,9 +135,9 @@ impl Refusal {
                 format!("the series has too many or too large terms to be summed closely enough, from offset {at}")
             }
             Refusal::NoRoom(n) => {
-                format!("the output does not fit ({n}: the length it would need, or in a text the offset)")
+                format!("the output does not fit ({n}: the length it would need; in a text or a published file the offset)")
             }
-            Refusal::EndedEarly(n) => format!("the input ends after {n} bytes, before the last of its 18 blocks does"),
+            Refusal::EndedEarly(n) => format!("the input ended too early, after {n} bytes"),
             Refusal::ByteAfterEnd(at) => format!("the byte at offset {at} follows the end of the series"),
             Refusal::NotShortest(at) => {
                 format!("the packed number that ends at offset {at} is not in its shortest form")
@@ -138,6 +148,12 @@ impl Refusal {
             }
             Refusal::BadWindow => {
                 "the keep-out angle is outside 60 to 2,700 arcminutes, or the minutes are outside 1 to 1,440".to_string()
+            }
+            Refusal::BadHeading(at) => {
+                format!("the heading that ends at offset {at} is out of order, of no block, or not of version 4 (VSOP87D)")
+            }
+            Refusal::BadNumber(at) => {
+                format!("the running number of the line that ends at offset {at} does not come next")
             }
         }
     }

@@ -73,6 +73,26 @@ impl Printed {
         }
     }
 
+    fn published(&mut self, coordinate: i64) {
+        let (e, mut packed) = ("", [0; 100]);
+        let figures = format!("{:>18}{:>14}{:>20}", "0.40000000000", "0.00000000000", "0.00000000000");
+        let file = format!("{e:17}4{e:23}{coordinate}{e:17}0{:7}\n{:10}{e:69}{figures}\n", 1, 1);
+        let (file, n, out, room) = (file.as_ptr(), file.len(), packed.as_mut_ptr(), packed.len());
+        unsafe {
+            let w = ffi::stephylax_read_published(file, n, out, room);
+            self.line("read_published", w.refusal, w.figure, [w.length]);
+            let start = ffi::stephylax_published_start();
+            let some = ffi::stephylax_published_piece(start, file, 100, out, room);
+            let all = ffi::stephylax_published_piece(some, file.add(100), n - 100, out, room);
+            let ended = [some, all].map(|state| ffi::stephylax_published_end(state, out, room));
+            for state in [start, some, ended[0], all, ended[1]] {
+                let a = ffi::stephylax_published_answer(state);
+                self.line("published_answer", a.refusal, a.figure, [a.length, a.accepted]);
+            }
+        }
+        packed[..22].iter().for_each(|byte| write!(self.0, " {byte}").unwrap());
+    }
+
     fn body(&mut self, radius: &str) -> Vec<u8> {
         let (first, last) = ("0\n".repeat(12), "0\n".repeat(5));
         let text = format!("{first}1\n{radius} 0.00000000000 0.00000000000\n{last}");
@@ -115,6 +135,8 @@ fn expected() -> String {
     printed.calendar(1582, 10, 10, 5);
     printed.calendar(9999, 12, 31, 5);
     printed.pieces();
+    printed.published(3);
+    printed.published(4);
     let planet = printed.body("0.40000000000");
     let earth = printed.body("1.00000000000");
     printed.series(&planet, 1);
@@ -138,7 +160,14 @@ fn assert_same(printed: &str, expected: &str) {
 #[test]
 fn every_function() {
     let expected = expected();
-    for wanted in ["text_answer 0 0 18 0", "text_answer 0 0 18 1", "text_answer 8 0 0 0", "sun_list 0 0 2 0 9"] {
+    let of_texts = ["text_answer 0 0 18 0", "text_answer 0 0 18 1", "text_answer 8 0 0 0"];
+    let of_files = [
+        "published_answer 0 0 13 0",
+        "published_answer 8 100 0 0",
+        "published_answer 0 0 26 1",
+        "published_answer 13 67 0 0",
+    ];
+    for wanted in [&of_texts[..], &of_files, &["sun_list 0 0 2 0 9"]].concat() {
         assert!(expected.contains(wanted), "{wanted} is not in{expected}");
     }
     let archive = repository("target/staticlib/libstephylax.a");
@@ -184,7 +213,7 @@ fn names_of_refusals() {
         })
         .collect();
     let mut wanted = vec![("STEPHYLAX_ANSWERED".to_string(), 0)];
-    for number in 1..=12 {
+    for number in 1..=14 {
         let figure = i64::from(number == 1);
         let case = format!("{:?}", Refusal::of(number, figure));
         let mut name = "STEPHYLAX".to_string();

@@ -7,10 +7,13 @@ mod common;
 use common::calls::{Calls, Outcome, LIBRARY, PLAIN};
 use common::edges::Window;
 use common::generate::{any_number, bodies, date, instant, packed, series, text};
+use common::layouts::{filled, published_file};
 use common::raw::RAW;
 use common::{cut, hex, published, Random};
-use reference::plain::packed::{pack, Series, Term};
+use reference::layout;
+use reference::plain::packed::{pack, parse, Series, Term};
 use reference::plain::sun_list::threshold;
+use reference::plain::PARTS;
 use std::fmt::Debug;
 
 /// How many inputs a test tries: a hundredth where STEPHYLAX_SHORT is set, as under a memory checker.
@@ -34,7 +37,7 @@ fn same<A: PartialEq + Debug>(call: impl Fn(&Calls) -> A, input: impl Fn() -> St
 }
 
 /// How often each refusal came, 0 for an answer: a test whose input never meets a case shows nothing of it.
-struct Seen([u64; 13]);
+struct Seen([u64; 15]);
 
 impl Seen {
     fn note<A>(&mut self, outcome: &Outcome<A>) {
@@ -44,7 +47,7 @@ impl Seen {
 
     /// Each of these came, and often enough in a full run.
     fn all(&self, numbers: &[usize]) {
-        println!("answers, then refusals 1 to 12: {:?}", self.0);
+        println!("answers, then refusals 1 to 14: {:?}", self.0);
         for &number in numbers {
             assert!(rounds(100) == 1 || 40 <= self.0[number], "refusal {number} came {} times", self.0[number]);
         }
@@ -67,7 +70,7 @@ fn same_output<T: Copy + PartialEq + Debug>(
 #[test]
 fn dates_and_day_numbers() {
     let mut random = Random(11);
-    let mut seen = Seen([0; 13]);
+    let mut seen = Seen([0; 15]);
     for _ in 0..rounds(400_000) {
         let [year, month, day, ms] = date(&mut random);
         let input = || format!("{year} {month} {day} {ms}");
@@ -99,7 +102,7 @@ fn every_day() {
 #[test]
 fn texts() {
     let mut random = Random(12);
-    let mut seen = Seen([0; 13]);
+    let mut seen = Seen([0; 15]);
     for _ in 0..rounds(150_000) {
         let text = text(&mut random);
         let needed = text.len() / 2;
@@ -116,10 +119,80 @@ fn texts() {
     seen.all(&[0, 3, 4, 5, 6, 7, 8, 9]);
 }
 
+/// Published files with any bytes in their free columns, and with every kind of damage.
+#[test]
+fn published_files() {
+    let mut random = Random(22);
+    let mut seen = Seen([0; 15]);
+    for _ in 0..rounds(30_000) {
+        let file = published_file(&mut random);
+        let room = if random.one_in(4) { random.below(200) as usize } else { file.len() / 4 + 40 };
+        let whole = same_published(&file, room, &mut random);
+        seen.note(&whole);
+        // As many bytes as it takes do, and one less does not.
+        if let (Ok(length), true) = (whole, random.one_in(8)) {
+            assert_eq!(same_published(&file, length, &mut random), Ok(length), "{}", hex(&file));
+            let less = same_published(&file, length - 1, &mut random);
+            assert!(matches!(less, Err((7, _))), "{less:?} with one byte less: {}", hex(&file));
+        }
+    }
+    seen.all(&[0, 3, 13, 14, 4, 5, 6, 7, 8, 9]);
+}
+
+/// The answer to a published file, whole and in pieces.
+fn same_published(file: &[u8], room: usize, random: &mut Random) -> Outcome<usize> {
+    let fill = random.next() as u8;
+    let input = || format!("room {room} file {}", hex(file));
+    let whole = same_output(&vec![fill; room], |calls, out| (calls.read_published)(file, out), input);
+    let pieces = cut(file, random);
+    let input = || format!("room {room} pieces {:?}", pieces.iter().map(|piece| hex(piece)).collect::<Vec<_>>());
+    let cut = same_output(&vec![fill; room], |calls, out| (calls.published_pieces)(&pieces, out), input);
+    assert!(whole == cut, "whole and in {}", input());
+    whole.0
+}
+
+/// Every byte in every column of a heading and of a term, with short figures, long ones and negative ones.
+#[test]
+fn every_byte_in_every_column() {
+    let step = if rounds(100) == 1 { 17 } else { 1 };
+    let long = Term { a: 99_999 * PARTS, b: 9 * PARTS, c: 999_999 * PARTS };
+    for term in
+        [Term { a: 1, b: 2, c: 3 }, long, Term { a: -long.a, b: 1, c: -long.c }, Term { a: -1, b: 0, c: -PARTS }]
+    {
+        let mut series = Series::default();
+        series.blocks[0] = vec![Term { a: 0, ..term }, term];
+        let file = layout::published(&series);
+        for (at, byte) in (0..file.len()).flat_map(|at| (0..=255).step_by(step).map(move |byte| (at, byte))) {
+            let mut file = file.clone();
+            file[at] = byte;
+            let input = || format!("byte {byte} at {at} in {}", hex(&file));
+            let _ = same_output(&[7; 80], |calls, out| (calls.read_published)(&file, out), input);
+        }
+    }
+}
+
+/// Lines that are longer than any that is published: a heading goes on with anything, a term with spaces.
+#[test]
+fn long_lines_of_published_files() {
+    let mut random = Random(24);
+    let mut series = Series::default();
+    series.blocks[17] = vec![Term { a: PARTS, b: 0, c: 0 }];
+    let mut lines = layout::records(&series, |_| true);
+    for line in &mut lines {
+        let free = if line.heading { b'9' } else { b' ' };
+        line.line.resize(70_000 + random.below(9) as usize, free);
+    }
+    let file = layout::joined(&lines);
+    assert_eq!(same_published(&file, 100, &mut random), Ok(26));
+    let last = file.len() - 2;
+    let damaged = [&file[..last], b"9\n"].concat();
+    assert_eq!(same_published(&damaged, 100, &mut random), Err((3, last as i64)));
+}
+
 #[test]
 fn packed_series_checked_and_printed() {
     let mut random = Random(13);
-    let mut seen = Seen([0; 13]);
+    let mut seen = Seen([0; 15]);
     for _ in 0..rounds(250_000) {
         let bytes = packed(&mut random);
         let _ = same(|calls| (calls.check)(&bytes), || hex(&bytes));
@@ -144,7 +217,7 @@ fn packed_series_checked_and_printed() {
 #[test]
 fn coordinates() {
     let mut random = Random(14);
-    let mut seen = Seen([0; 13]);
+    let mut seen = Seen([0; 15]);
     for _ in 0..rounds(250_000) {
         let bytes = packed(&mut random);
         let t = instant(&mut random);
@@ -157,7 +230,7 @@ fn coordinates() {
 #[test]
 fn places() {
     let mut random = Random(15);
-    let mut seen = Seen([0; 13]);
+    let mut seen = Seen([0; 15]);
     for _ in 0..rounds(60_000) {
         let (planet, earth) = bodies(&mut random);
         let t = instant(&mut random);
@@ -172,7 +245,7 @@ fn places() {
 #[test]
 fn sun_lists() {
     let mut random = Random(16);
-    let mut seen = Seen([0; 13]);
+    let mut seen = Seen([0; 15]);
     let mut listed = 0;
     for _ in 0..rounds(40_000) {
         let (planet, earth) = bodies(&mut random);
@@ -308,6 +381,27 @@ fn long_case(bytes: &[u8], long: &Series, random: &mut Random) {
     if let Ok(length) = printed {
         let pieces = cut(&text[..length], random);
         same_output(&vec![1; 50_000], |calls, out| (calls.read_pieces)(&pieces, out), input).0.unwrap();
+    }
+}
+
+/// Series that are laid out as published, with any bytes in the free columns, give the packed bytes of their texts.
+#[test]
+fn planets_as_published() {
+    let mut random = Random(23);
+    for (planet, length) in [("mercury", 103_809), ("venus", 26_247), ("earth", 37_786)] {
+        let mut wanted = vec![0xA5; 120_000];
+        assert_eq!((LIBRARY.read_text)(&published(planet), &mut wanted), Ok(length), "{planet}");
+        let series = parse(&wanted[..length]).expect("what was packed is good");
+        let mut files = vec![layout::published(&series)];
+        files.extend((0..rounds(5)).map(|_| layout::joined(&filled(&mut random, &series))));
+        for file in files {
+            let mut packed = vec![0xA5; 120_000];
+            assert_eq!((LIBRARY.read_published)(&file, &mut packed), Ok(length), "{planet}");
+            assert!(packed == wanted, "{planet}");
+            let mut packed = vec![0xA5; 120_000];
+            assert_eq!((RAW.published_pieces)(&cut(&file, &mut random), &mut packed), Ok(length), "{planet}");
+            assert!(packed == wanted, "{planet}, cut");
+        }
     }
 }
 

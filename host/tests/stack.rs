@@ -3,6 +3,8 @@
 mod common;
 
 use common::published;
+use reference::layout;
+use reference::plain::packed::parse;
 
 const NAMED: usize = 512_000;
 
@@ -20,6 +22,11 @@ fn every_call() {
         reader.piece(&text).unwrap();
         assert_eq!(reader.end(), Ok(length));
         packed.truncate(length);
+        let file = layout::published(&parse(&packed).unwrap());
+        assert_eq!(stephylax::read_published(&file, &mut packed), Ok(length));
+        let mut reader = stephylax::PublishedReader::new(&mut packed);
+        reader.piece(&file).unwrap();
+        assert_eq!(reader.end(), Ok(length));
         packed
     });
     assert_eq!(stephylax::check(&planet), Ok(6827));

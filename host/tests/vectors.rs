@@ -31,16 +31,32 @@ fn calendar(calls: &Calls) {
     }
 }
 
-/// The output that a text answer must leave: what is packed, then the bytes that were there.
-fn text_case(calls: &Calls, room: usize, text: &[u8], answer: Outcome<usize>, output: &[u8], random: &mut Random) {
-    let mut wanted = vec![0xA5; room];
-    wanted[..output.len()].copy_from_slice(output);
-    let mut packed = vec![0xA5; room];
-    assert_eq!((calls.read_text)(text, &mut packed), answer);
-    assert_eq!(packed, wanted);
-    let mut packed = vec![0xA5; room];
-    assert_eq!((calls.read_pieces)(&cut(text, random), &mut packed), answer);
-    assert_eq!(packed, wanted);
+/// What an output holds beforehand.
+const UNTOUCHED: u8 = 0xA5;
+
+/// An input, the room for its packed form, and what must come of them.
+struct Case<'a> {
+    room: usize,
+    input: &'a [u8],
+    answer: Outcome<usize>,
+    output: &'a [u8],
+}
+
+impl Case<'_> {
+    /// The output that an answer must leave: what is packed, then the bytes that were there.
+    fn is_answered(&self, read: impl Fn(&mut [u8]) -> Outcome<usize>) {
+        let mut wanted = vec![UNTOUCHED; self.room];
+        wanted[..self.output.len()].copy_from_slice(self.output);
+        let mut packed = vec![UNTOUCHED; self.room];
+        assert_eq!(read(&mut packed), self.answer);
+        assert_eq!(packed, wanted);
+    }
+}
+
+fn text_case(calls: &Calls, case: Case, random: &mut Random) {
+    case.is_answered(|packed| (calls.read_text)(case.input, packed));
+    let pieces = cut(case.input, random);
+    case.is_answered(|packed| (calls.read_pieces)(&pieces, packed));
 }
 
 fn text(calls: &Calls) {
@@ -52,12 +68,12 @@ fn text(calls: &Calls) {
             "text" => {
                 let (room, text) = (fields.number() as usize, fields.bytes());
                 let answer = expected(fields, |fields| fields.number() as usize);
-                text_case(calls, room, &text, answer, &fields.bytes(), &mut random);
+                text_case(calls, Case { room, input: &text, answer, output: &fields.bytes() }, &mut random);
             }
             "rule" => {
                 let (room, text) = (fields.number() as usize, fields.repeated());
                 let answer = expected(fields, |fields| fields.number() as usize);
-                text_case(calls, room, &text, answer, &fields.repeated(), &mut random);
+                text_case(calls, Case { room, input: &text, answer, output: &fields.repeated() }, &mut random);
             }
             _ => {
                 let (text, room) = (published(fields.word()), fields.number() as usize);
@@ -67,11 +83,36 @@ fn text(calls: &Calls) {
                 let end = packed.iter().rposition(|&byte| byte != 0xA5).map_or(0, |at| at + 1);
                 assert_eq!(hash(&packed[..end]), u64::from_str_radix(fields.word(), 16).unwrap());
                 let wanted = packed[..end].to_vec();
-                text_case(calls, room, &text, answer, &wanted, &mut random);
+                text_case(calls, Case { room, input: &text, answer, output: &wanted }, &mut random);
             }
         }
         assert!(fields.done());
     }
+}
+
+/// Whole, cut at random, and, as all are short, cut in two at every place.
+fn published_files(calls: &Calls) {
+    let mut random = Random(2);
+    let mut cases = 0;
+    for (number, line) in vectors("requests/c11_published.txt") {
+        println!("line {number}: {line}");
+        let fields = &mut Fields::of(&line);
+        let (room, input) = (fields.number() as usize, fields.bytes());
+        let answer = expected(fields, |fields| fields.number() as usize);
+        let case = Case { room, input: &input, answer, output: &fields.bytes() };
+        case.is_answered(|packed| (calls.read_published)(&input, packed));
+        for _ in 0..20 {
+            let pieces = cut(&input, &mut random);
+            case.is_answered(|packed| (calls.published_pieces)(&pieces, packed));
+        }
+        for at in 0..=input.len() {
+            let (first, rest) = input.split_at(at);
+            case.is_answered(|packed| (calls.published_pieces)(&[first, rest], packed));
+        }
+        assert!(fields.done());
+        cases += 1;
+    }
+    assert_eq!(cases, 62);
 }
 
 fn packed(calls: &Calls) {
@@ -175,6 +216,10 @@ macro_rules! vectors_of {
             #[test]
             fn text() {
                 super::text(&$calls);
+            }
+            #[test]
+            fn published_files() {
+                super::published_files(&$calls);
             }
             #[test]
             fn packed() {

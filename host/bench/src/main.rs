@@ -5,7 +5,9 @@
 //! unpacked beforehand; the two others get packed bytes.
 
 use reference::floating::{self, Tables};
+use reference::layout;
 use reference::plain::packed::{pack, parse, Series};
+use reference::plain::published::read_published;
 use reference::plain::{self, text};
 use std::hint::black_box;
 
@@ -74,12 +76,16 @@ fn figure(value: Option<f64>) -> String {
     value.map_or("-".to_string(), |v| if v < 100.0 { format!("{v:.2}") } else { format!("{v:.0}") })
 }
 
+fn line(name: &str, unit: &str, [library, plain, floating]: [String; 3], [to_plain, to_floating]: [String; 2]) {
+    println!("{name:<40}{unit:>5}{library:>11}{plain:>11}{floating:>11}{to_plain:>10}{to_floating:>9}");
+}
+
 impl Measurement<'_> {
-    /// One round takes a reading of each program in turn; the medians of all rounds are printed.
-    fn run(&mut self, rounds: usize) {
+    /// One round takes a reading of each program in turn: the medians of all rounds, unless other lines are chosen.
+    fn medians(&mut self, rounds: usize) -> Option<[Option<f64>; 3]> {
         let chosen: Vec<String> = std::env::args().skip(1).filter(|word| !word.starts_with("--")).collect();
         if !chosen.is_empty() && !chosen.iter().any(|word| self.name.contains(word)) {
-            return;
+            return None;
         }
         let programs = [&mut self.library, &mut self.plain, &mut self.floating];
         let calls = programs.map(calls_for);
@@ -90,18 +96,16 @@ impl Measurement<'_> {
                 readings[i].extend(seconds(program, calls[i]));
             }
         }
-        let [library, plain, floating] = readings.map(|mut r| median(&mut r).map(|s| s / self.units * self.per));
-        let ratio = |other: Option<f64>| Some(library? / other?);
-        println!(
-            "{:<40}{:>5}{:>11}{:>11}{:>11}{:>10}{:>9}",
-            self.name,
-            self.unit,
-            figure(library),
-            figure(plain),
-            figure(floating),
-            figure(ratio(plain)),
-            figure(ratio(floating))
-        );
+        Some(readings.map(|mut r| median(&mut r).map(|s| s / self.units * self.per)))
+    }
+
+    /// Prints the medians.
+    fn run(&mut self, rounds: usize) {
+        let Some([library, plain, floating]) = self.medians(rounds) else {
+            return;
+        };
+        let ratio = |other: Option<f64>| figure(library.zip(other).map(|(library, other)| library / other));
+        line(&self.name, self.unit, [library, plain, floating].map(figure), [plain, floating].map(ratio));
     }
 }
 
@@ -109,6 +113,8 @@ impl Measurement<'_> {
 struct Planet {
     name: &'static str,
     text: Vec<u8>,
+    /// As it is published.
+    file: Vec<u8>,
     packed: Vec<u8>,
     series: Series,
     tables: Tables,
@@ -124,7 +130,7 @@ fn planet(name: &'static str) -> Planet {
 }
 
 fn of_series(name: &'static str, text: Vec<u8>, series: Series) -> Planet {
-    Planet { name, text, packed: pack(&series), tables: Tables::of(&series), series }
+    Planet { name, text, file: layout::published(&series), packed: pack(&series), tables: Tables::of(&series), series }
 }
 
 fn terms(planet: &Planet) -> f64 {
@@ -245,6 +251,68 @@ fn read_pieces(p: &Planet) -> Measurement<'_> {
     }
 }
 
+fn published_whole(p: &Planet) -> Measurement<'_> {
+    let (mut library, mut plain) = (vec![0; p.file.len()], vec![0; p.file.len()]);
+    Measurement {
+        name: format!("published file read, {}, a byte", p.name),
+        units: p.file.len() as f64,
+        unit: "ns",
+        per: NS,
+        library: Some(Box::new(move || used(stephylax::read_published(black_box(&p.file), &mut library)))),
+        plain: Some(Box::new(move || used(read_published(black_box(&p.file), &mut plain)))),
+        floating: Some(Box::new(|| used(parsed_columns(black_box(&p.file))))),
+    }
+}
+
+/// What a plain f64 program does with a published file: the three figures of every term parsed, by their columns.
+fn parsed_columns(file: &[u8]) -> Vec<f64> {
+    let file = std::str::from_utf8(file).expect("ASCII");
+    let columns = |line: &str| [(79, 97), (97, 111), (111, 131)].map(|(first, end)| line[first..end].trim().parse());
+    let terms = file.lines().filter(|line| !line.starts_with(" VSOP87"));
+    terms.flat_map(columns).map(|figure| figure.expect("a number")).collect()
+}
+
+fn published_pieces(p: &Planet) -> Measurement<'_> {
+    let mut library = vec![0; p.file.len()];
+    Measurement {
+        name: format!("published in pieces, {}, a byte", p.name),
+        units: p.file.len() as f64,
+        unit: "ns",
+        per: NS,
+        library: Some(Box::new(move || {
+            let mut reader = stephylax::PublishedReader::new(&mut library);
+            for piece in black_box(&p.file).chunks(4096) {
+                used(reader.piece(piece));
+            }
+            used(reader.end());
+        })),
+        plain: None,
+        floating: None,
+    }
+}
+
+/// The published reader, the text reader on the same series as text, and the plain program for published files.
+fn reading_speed(p: &Planet, rounds: usize) {
+    let (mut library, mut text, mut plain) = (vec![0; p.file.len()], vec![0; p.text.len()], vec![0; p.file.len()]);
+    let mut measurement = Measurement {
+        name: format!("published file, {}", p.name),
+        units: 1.0,
+        unit: "MB/s",
+        per: 1.0,
+        library: Some(Box::new(move || used(stephylax::read_published(black_box(&p.file), &mut library)))),
+        plain: Some(Box::new(move || used(stephylax::read_text(black_box(&p.text), &mut text)))),
+        floating: Some(Box::new(move || used(read_published(black_box(&p.file), &mut plain)))),
+    };
+    let (name, unit) = (measurement.name.clone(), measurement.unit);
+    let Some([library, text, plain]) = measurement.medians(rounds) else {
+        return;
+    };
+    let speed = |bytes: &[u8], seconds: Option<f64>| Some(bytes.len() as f64 * 1e-6 / seconds?);
+    let (library, text, plain) = (speed(&p.file, library), speed(&p.text, text), speed(&p.file, plain));
+    let ratio = |other: Option<f64>| figure(library.zip(other).map(|(library, other)| library / other));
+    line(&name, unit, [library, text, plain].map(figure), [text, plain].map(ratio));
+}
+
 fn print(p: &Planet) -> Measurement<'_> {
     let (mut library, mut plain) = (vec![0; p.text.len()], vec![0; p.text.len()]);
     Measurement {
@@ -275,10 +343,7 @@ fn main() {
     let rounds = if quick { 5 } else { 15 };
     let list_rounds = if quick { 3 } else { 7 };
     let (mercury, venus, earth) = (planet("mercury"), planet("venus"), planet("earth"));
-    println!(
-        "{:<40}{:>5}{:>11}{:>11}{:>11}{:>10}{:>9}",
-        "medians", "unit", "library", "plain", "f64", "to plain", "to f64"
-    );
+    line("medians", "unit", ["library", "plain", "f64"].map(String::from), ["to plain", "to f64"].map(String::from));
     for p in [&mercury, &venus] {
         coordinates(format!("coordinates, {}, a term", p.name), p, DAY).run(rounds);
         coordinates(format!("  the same instant again, {}", p.name), p, 0).run(rounds);
@@ -287,8 +352,15 @@ fn main() {
         list(format!("day's list, {}", p.name), p, &earth, 1440).run(list_rounds);
         read_whole(p).run(rounds);
         read_pieces(p).run(rounds);
+        published_whole(p).run(rounds);
+        published_pieces(p).run(rounds);
         print(p).run(rounds);
         check(p).run(rounds);
+    }
+    println!("\nHow many bytes are read in a second: a published file, the same as text, and published in plain Rust");
+    line("", "", ["published", "text", "plain"].map(String::from), ["to text", "to plain"].map(String::from));
+    for p in [&mercury, &venus, &earth] {
+        reading_speed(p, rounds);
     }
     println!("\nHow a list grows with its minutes (Mercury)");
     for minutes in [1, 10, 60, 240, 720, 1440] {

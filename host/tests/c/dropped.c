@@ -2,7 +2,7 @@
 #include "stephylax.h"
 
 int main(void) {
-    static uint8_t a[1], b[1]; static uint64_t runs[1]; static stephylax_text state;
+    static uint8_t a[1], b[1]; static uint64_t runs[1]; static stephylax_text state; static stephylax_published read;
     stephylax_day_of_date(1, 2, 3);
     stephylax_date_of_day(1);
     stephylax_instant_of_date(1, 2, 3, 4);
@@ -12,6 +12,11 @@ int main(void) {
     stephylax_text_piece(state, a, 1, b, 1);
     stephylax_text_end(state, b, 1);
     stephylax_text_answer(state);
+    stephylax_read_published(a, 1, b, 1);
+    stephylax_published_start();
+    stephylax_published_piece(read, a, 1, b, 1);
+    stephylax_published_end(read, b, 1);
+    stephylax_published_answer(read);
     stephylax_check(a, 1);
     stephylax_print(a, 1, b, 1);
     stephylax_coordinates_at(a, 1, 1);

@@ -44,6 +44,31 @@ static void pieces(uint8_t *packed, size_t room) {
     answer(stephylax_text_end(stephylax_text_start(), packed, room));
 }
 
+static void standing(stephylax_published state) {
+    stephylax_answer a = stephylax_published_answer(state);
+    line("published_answer", a.refusal, a.figure), number(a.length), number(a.accepted);
+}
+
+/* A published file of two lines: the heading of a block, and its only term. */
+static void published(int coordinate) {
+    char file[400];
+    uint8_t packed[100] = {0};
+    size_t room = sizeof packed;
+    int n = snprintf(file, sizeof file, "%17s4%23s%d%17s0%7d\n%10d%69s%18s%14s%20s\n", "", "", coordinate, "", 1, 1, "",
+                     "0.40000000000", "0.00000000000", "0.00000000000");
+    stephylax_written w = stephylax_read_published(bytes(file), (size_t)n, packed, room);
+    line("read_published", w.refusal, w.figure), number(w.length);
+    stephylax_published state = stephylax_published_start();
+    standing(state);
+    state = stephylax_published_piece(state, bytes(file), 100, packed, room);
+    standing(state);
+    standing(stephylax_published_end(state, packed, room));
+    state = stephylax_published_piece(state, bytes(file) + 100, (size_t)n - 100, packed, room);
+    standing(state);
+    standing(stephylax_published_end(state, packed, room));
+    for (int i = 0; i < 22; i++) number(packed[i]);
+}
+
 static void series(const uint8_t *packed, size_t n, int64_t t) {
     uint8_t text[200];
     stephylax_checked c = stephylax_check(packed, n);
@@ -70,6 +95,8 @@ int main(void) {
     calendar(1582, 10, 10, 5);
     calendar(9999, 12, 31, 5);
     pieces(planet, sizeof planet);
+    published(3);
+    published(4);
     size_t np = body("0.40000000000", planet, sizeof planet);
     size_t ne = body("1.00000000000", earth, sizeof earth);
     series(planet, np, 1);

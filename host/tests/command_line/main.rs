@@ -8,6 +8,7 @@ mod json;
 mod lists;
 mod picture;
 mod places;
+mod published;
 mod run;
 mod sources;
 mod wrong_use;

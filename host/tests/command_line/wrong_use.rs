@@ -25,7 +25,7 @@ fn forms() {
     let places = "place PLANET [DATE [TIME]] [--every STEP [--days N | --minutes N]] [--earth SERIES] [--data FOLDER] \
         [--mount] [--csv | --json]";
     let with_data = ["coordinates SERIES [DATE [TIME]] [--data FOLDER]", "check SERIES [--data FOLDER]"];
-    let others = ["day DATE [TIME]", "pack [TEXT_FILE [PACKED_FILE]]", "unpack [PACKED_FILE [TEXT_FILE]]"];
+    let others = ["day DATE [TIME]", "pack [FILE [PACKED_FILE]]", "unpack [PACKED_FILE [TEXT_FILE]]"];
     let words = help.split_ascii_whitespace().collect::<Vec<&str>>().join(" ");
     for form in [lists, places].iter().chain(&with_data).chain(&others) {
         let command = form.split(' ').next().unwrap();

@@ -2,7 +2,7 @@
 
 use reference::plain;
 use reference::plain::text::{Answer, Reader};
-use stephylax::{Refusal, TextReader};
+use stephylax::{PublishedReader, Refusal, State, TextReader};
 
 /// An answer, or the refusal's number and figure.
 pub type Outcome<A> = Result<A, (u64, i64)>;
@@ -17,6 +17,9 @@ pub struct Calls {
     /// Each piece in a call, the end, and then each piece and the end once more, which must change nothing. The length
     /// after each call is asked too.
     pub read_pieces: fn(&[&[u8]], &mut [u8]) -> Outcome<usize>,
+    /// The same two for published files.
+    pub read_published: fn(&[u8], &mut [u8]) -> Outcome<usize>,
+    pub published_pieces: fn(&[&[u8]], &mut [u8]) -> Outcome<usize>,
     pub check: fn(&[u8]) -> Outcome<i64>,
     pub print: fn(&[u8], &mut [u8]) -> Outcome<usize>,
     pub coordinates_at: fn(&[u8], i64) -> Outcome<[i64; 3]>,
@@ -53,6 +56,9 @@ pub const PLAIN: Calls = Calls {
     date_of_instant: |t| outcome(plain::calendar::date_of_instant(t).map(|(d, ms)| [d.year, d.month, d.day, ms])),
     read_text: |text, packed| outcome(plain::text::read_text(text, packed)),
     read_pieces: plain_pieces,
+    read_published: |file, packed| outcome(plain::published::read_published(file, packed)),
+    // This one takes a file whole: where it is cut must not matter.
+    published_pieces: |pieces, packed| outcome(plain::published::read_published(&pieces.concat(), packed)),
     check: |packed| outcome(plain::packed::check(packed)),
     print: |packed, text| outcome(plain::packed::print(packed, text)),
     coordinates_at: |packed, t| {
@@ -76,8 +82,7 @@ fn refusal<A>(result: Result<A, Refusal>) -> Outcome<A> {
     result.map_err(|refusal| (refusal.number(), refusal.figure()))
 }
 
-fn library_pieces(pieces: &[&[u8]], packed: &mut [u8]) -> Outcome<usize> {
-    let mut reader = TextReader::new(packed);
+fn library_pieces<S: State>(mut reader: stephylax::Reader<S>, pieces: &[&[u8]]) -> Outcome<usize> {
     let mut answer = Ok(0);
     let mut ended = false;
     for _ in 0..2 {
@@ -110,7 +115,9 @@ pub const LIBRARY: Calls = Calls {
     instant_of_date: |[year, month, day, ms]| refusal(stephylax::instant_of_date(year, month, day, ms)),
     date_of_instant: |t| refusal(stephylax::date_of_instant(t)).map(|d| [d.year, d.month, d.day, d.ms]),
     read_text: |text, packed| refusal(stephylax::read_text(text, packed)),
-    read_pieces: library_pieces,
+    read_pieces: |pieces, packed| library_pieces(TextReader::new(packed), pieces),
+    read_published: |file, packed| refusal(stephylax::read_published(file, packed)),
+    published_pieces: |pieces, packed| library_pieces(PublishedReader::new(packed), pieces),
     check: |packed| refusal(stephylax::check(packed)),
     print: |packed, text| refusal(stephylax::print(packed, text)),
     coordinates_at: |packed, t| {

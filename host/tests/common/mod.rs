@@ -4,6 +4,7 @@
 pub mod calls;
 pub mod edges;
 pub mod generate;
+pub mod layouts;
 pub mod raw;
 
 use calls::{Outcome, PLAIN};

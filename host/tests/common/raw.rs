@@ -1,6 +1,7 @@
 //! The C interface itself: every field of every answer, those that an answer does not use too, which are 0.
 
 use super::calls::{Calls, Outcome};
+use std::fmt::Debug;
 use stephylax::ffi::{self, Written};
 
 /// An answer with the fields of its struct; a refusal with all of them 0.
@@ -30,7 +31,7 @@ fn mount(m: ffi::Mount) -> Result<[f64; 3], u64> {
     Ok(fields)
 }
 
-/// What stands of a text: its length, and whether it is accepted, which a refused one never is.
+/// What stands of a text or a published file: its length, and whether it is accepted, which a refused one never is.
 fn standing(a: ffi::Answer) -> Outcome<(usize, bool)> {
     flat(a.refusal, a.figure, [a.length, a.accepted]).map(|[length, accepted]| {
         assert!(accepted == 0 || accepted == 1, "accepted is {accepted}");
@@ -38,28 +39,52 @@ fn standing(a: ffi::Answer) -> Outcome<(usize, bool)> {
     })
 }
 
-/// Every state that a call gives is used again, once, before the next: a state is a value. A text is accepted after its
+/// The functions of a reader in pieces, with its state.
+struct Reader<S> {
+    start: unsafe extern "C" fn() -> S,
+    piece: unsafe extern "C" fn(S, *const u8, usize, *mut u8, usize) -> S,
+    end: unsafe extern "C" fn(S, *mut u8, usize) -> S,
+    answer: unsafe extern "C" fn(S) -> ffi::Answer,
+}
+
+const TEXT: Reader<ffi::Text> = Reader {
+    start: ffi::stephylax_text_start,
+    piece: ffi::stephylax_text_piece,
+    end: ffi::stephylax_text_end,
+    answer: ffi::stephylax_text_answer,
+};
+
+const PUBLISHED: Reader<ffi::Published> = Reader {
+    start: ffi::stephylax_published_start,
+    piece: ffi::stephylax_published_piece,
+    end: ffi::stephylax_published_end,
+    answer: ffi::stephylax_published_answer,
+};
+
+/// Every state that a call gives is used again, once, before the next: a state is a value. A series is accepted after its
 /// end and not before.
-fn pieces(pieces: &[&[u8]], packed: &mut [u8]) -> Outcome<usize> {
+fn pieces<S: Copy + PartialEq + Debug>(reader: Reader<S>, pieces: &[&[u8]], packed: &mut [u8]) -> Outcome<usize> {
     let (out, room) = (packed.as_mut_ptr(), packed.len());
     // SAFETY: the pieces and the buffer are lent for each call, with their lengths.
     unsafe {
-        let mut state = ffi::stephylax_text_start();
+        let mut state = (reader.start)();
         for piece in pieces {
-            let first = ffi::stephylax_text_piece(state, piece.as_ptr(), piece.len(), out, room);
-            let again = ffi::stephylax_text_piece(state, piece.as_ptr(), piece.len(), out, room);
+            let first = (reader.piece)(state, piece.as_ptr(), piece.len(), out, room);
+            let again = (reader.piece)(state, piece.as_ptr(), piece.len(), out, room);
             assert_eq!(first, again, "the same state and piece gave two states");
             state = first;
-            assert_eq!(ffi::stephylax_text_answer(state).accepted, 0, "a text that has not ended is accepted");
+            assert_eq!((reader.answer)(state).accepted, 0, "what has not ended is accepted");
         }
-        state = ffi::stephylax_text_end(state, out, room);
-        let answer = ffi::stephylax_text_answer(state);
+        state = (reader.end)(state, out, room);
+        let answer = (reader.answer)(state);
         for piece in pieces {
-            state = ffi::stephylax_text_piece(state, piece.as_ptr(), piece.len(), out, room);
-            assert_eq!(ffi::stephylax_text_answer(state), answer, "a call after the end changed the answer");
+            state = (reader.piece)(state, piece.as_ptr(), piece.len(), out, room);
+            assert_eq!((reader.answer)(state), answer, "a call after the end changed the answer");
         }
+        state = (reader.end)(state, out, room);
+        assert_eq!((reader.answer)(state), answer, "a second end changed the answer");
         let (length, accepted) = standing(answer)?;
-        assert!(accepted, "a text that has ended is neither refused nor accepted");
+        assert!(accepted, "what has ended is neither refused nor accepted");
         Ok(length)
     }
 }
@@ -86,7 +111,11 @@ pub const RAW: Calls = Calls {
     read_text: |text, packed| unsafe {
         written(ffi::stephylax_read_text(text.as_ptr(), text.len(), packed.as_mut_ptr(), packed.len()))
     },
-    read_pieces: pieces,
+    read_pieces: |cut, packed| pieces(TEXT, cut, packed),
+    read_published: |file, packed| unsafe {
+        written(ffi::stephylax_read_published(file.as_ptr(), file.len(), packed.as_mut_ptr(), packed.len()))
+    },
+    published_pieces: |cut, packed| pieces(PUBLISHED, cut, packed),
     check: |packed| unsafe {
         let c = ffi::stephylax_check(packed.as_ptr(), packed.len());
         flat(c.refusal, c.figure, [c.terms]).map(|[terms]| terms)

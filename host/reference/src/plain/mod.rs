@@ -9,6 +9,7 @@ pub mod exact;
 pub mod nutation;
 pub mod packed;
 pub mod place;
+pub mod published;
 pub mod series;
 pub mod sun_list;
 pub mod text;

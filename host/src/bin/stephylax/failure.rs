@@ -3,8 +3,8 @@
 use stephylax::Refusal;
 
 pub enum Failure {
-    /// The library refused. `at` says where, if its sentence does not.
-    Refused { refusal: Refusal, at: Option<String> },
+    /// The library refused. `at` says where, if its sentence does not. A carriage return can be removed.
+    Refused { refusal: Refusal, at: Option<String>, carriage_return: bool },
     /// The mount's call refused; it tells a number alone.
     MountRefused(u64),
     /// The words do not make a command.
@@ -17,7 +17,7 @@ pub enum Failure {
 
 impl From<Refusal> for Failure {
     fn from(refusal: Refusal) -> Failure {
-        Failure::Refused { refusal, at: None }
+        Failure::Refused { refusal, at: None, carriage_return: false }
     }
 }
 
@@ -38,7 +38,7 @@ fn told(refusal: Refusal) -> String {
 
 impl Failure {
     pub fn refused_at(refusal: Refusal, at: String) -> Failure {
-        Failure::Refused { refusal, at: Some(at) }
+        Failure::Refused { refusal, at: Some(at), carriage_return: false }
     }
 
     /// The exit status.
@@ -53,12 +53,23 @@ impl Failure {
     /// What is wrong, as it is told on standard error.
     pub fn words(&self) -> String {
         match self {
-            Failure::Refused { refusal, at: None } => told(*refusal),
-            Failure::Refused { refusal, at: Some(at) } => format!("{}; {at}", told(*refusal)),
+            Failure::Refused { refusal, at: None, .. } => told(*refusal),
+            Failure::Refused { refusal, at: Some(at), .. } => format!("{}; {at}", told(*refusal)),
             Failure::MountRefused(number) => {
                 format!("refused {number}: the mount's place, though the place itself was answered")
             }
             Failure::Use(words) | Failure::File(words) | Failure::Output(words) => words.clone(),
+        }
+    }
+
+    /// What to do about it, on a line of its own, where that is known.
+    pub fn hint(&self) -> &'static str {
+        match self {
+            Failure::Use(_) => "Try `stephylax --help`.\n",
+            Failure::Refused { carriage_return: true, .. } => {
+                "Its lines end with carriage returns. Take them out: tr -d '\\r' < FILE > NEW\n"
+            }
+            _ => "",
         }
     }
 }

@@ -48,10 +48,11 @@ stephylax: places of planets, and the minutes when one stands too near the Sun, 
   stephylax date DAY_NUMBER
   stephylax date --t MILLISECONDS
       The date of a day number, or of an instant t.
-  stephylax pack [TEXT_FILE [PACKED_FILE]]
+  stephylax pack [FILE [PACKED_FILE]]
   stephylax unpack [PACKED_FILE [TEXT_FILE]]
-      Between the text of a series and its packed form. Standard input and output unless told otherwise; `pack` and
-      `unpack` take plain file names, and no planet's name.
+      Between a series, as a text or as published, and its packed form. Standard input and output unless told
+      otherwise; `pack` and `unpack` take plain file names, `pack` also text:FILE and published:FILE, and no planet's
+      name.
   stephylax check SERIES [--data FOLDER]
       How many terms a series has, or why it is refused.
   stephylax --version
@@ -59,10 +60,13 @@ stephylax: places of planets, and the minutes when one stands too near the Sun, 
 
 Every command takes --json: the answer or the refusal, the window, the sources and the version, in one form.
 
-PLANET and SERIES: a planet's name, as mercury, venus or earth, or a file. A file is text:FILE, packed:FILE, a path with
-a `/` in it (./venus), or `-` for standard input; the last two are read as text unless they have a control byte that no
-text has. Names are looked up in --data FOLDER, else in the folder STEPHYLAX_DATA, else in share/stephylax/vsop87d
-beside the command's bin, else in the data/vsop87d that it was built from; never in the current folder.
+PLANET and SERIES: a planet's name, as mercury, venus or earth, or a file. A file is text:FILE, packed:FILE,
+published:FILE (VSOP87D as it is published), a path with a `/` in it (./venus), or `-` for standard input; the last two
+are read as published if their first line has the columns of a heading, else as text unless they have a control byte
+that no text has. Names are looked up in --data FOLDER, else in the folder STEPHYLAX_DATA, else in
+share/stephylax/vsop87d beside the command's bin, else in the data/vsop87d that it was built from; never in the current
+folder. There a planet is its text, mercury.txt, else its published file, VSOP87D.mer (and so on: ven ear mar jup sat
+ura nep).
 DATE: 2026-11-15, its year with four digits and a sign if need be (-0044-03-15), in the Julian calendar through
 1582-10-04, years from -4712 to 9999 (the year 0 exists); today if left out. TIME: 18:30, 18:30:05 or 18:30:05.250,
 else 00:00; DATE and TIME may be joined by a T. `now` stands for both: the second of the system's clock.
@@ -74,10 +78,11 @@ Exit status: 0 answered; 1 refused; 2 wrong use; 3 a file, or standard output, c
 A refusal is printed with its number, its figure in brackets and a sentence:
    1 the date does not exist (1 year, 2 month, 3 day, 4 time; 5 day number)
    2 the instant passes its limit (the instant)
-   3 a byte of a text cannot continue its line (offset)
+   3 a byte of a text or a published file cannot continue its line (offset)
    4 a number or count passes its limit (offset)          5 a block's amplitudes total too much (offset)
-   6 the series is too coarse (offset)                    7 the output does not fit (length, or offset in a text)
-   8 the input ended early (its length)                   9 a byte follows the series (offset)
+   6 the series is too coarse (offset)                    7 the output does not fit (length, or offset)
+   8 the input ended too early (its length)               9 a byte follows the series (offset)
   10 a packed number is not shortest (offset)            11 a place is not usable (minute of the window, else 0)
   12 keep-out outside 60 to 2,700 arcminutes, or no minutes in the window
+  13 a heading is wrong or out of order (offset)         14 a running number is wrong (offset)
 ";

@@ -56,9 +56,8 @@ impl Report {
             // That standard output takes nothing is told by the same status.
             let _ = put(format!("{}\n", self.document(outcome, None, Some(failure))).as_bytes());
         }
-        let hint = if matches!(failure, Failure::Use(_)) { "Try `stephylax --help`.\n" } else { "" };
         // Where standard error is closed there is nobody to tell.
-        let _ = write!(std::io::stderr(), "stephylax: {}\n{hint}", failure.words());
+        let _ = write!(std::io::stderr(), "stephylax: {}\n{}", failure.words(), failure.hint());
     }
 
     fn document(&mut self, outcome: &str, answer: Option<Json>, failure: Option<&Failure>) -> Json {
@@ -79,7 +78,9 @@ impl Report {
 
 fn refusal(failure: &Failure) -> Option<Json> {
     let (number, figure, words, at) = match failure {
-        Failure::Refused { refusal, at } => (refusal.number(), Some(refusal.figure()), sentence(*refusal), at.clone()),
+        Failure::Refused { refusal, at, .. } => {
+            (refusal.number(), Some(refusal.figure()), sentence(*refusal), at.clone())
+        }
         Failure::MountRefused(number) => (*number, None, failure.words(), None),
         _ => return None,
     };

@@ -6,10 +6,12 @@ use crate::json::Json;
 use crate::output::read;
 use crate::tables::{counted, parted};
 use std::path::{Path, PathBuf};
+use stephylax::Refusal;
 
 #[derive(Clone, Copy, PartialEq)]
 pub enum Kind {
     Text,
+    Published,
     Packed,
 }
 
@@ -17,8 +19,14 @@ impl Kind {
     pub fn word(self) -> &'static str {
         match self {
             Kind::Text => "text",
+            Kind::Published => "published",
             Kind::Packed => "packed",
         }
+    }
+
+    /// The kind that a word means.
+    fn of(word: &str) -> Option<Kind> {
+        [Kind::Text, Kind::Published, Kind::Packed].into_iter().find(|kind| kind.word() == word)
     }
 }
 
@@ -43,16 +51,19 @@ enum Asked {
 
 const STANDARD_INPUT: &str = "-";
 
-fn asked(word: &str) -> Result<Asked, Failure> {
-    let file = |path: &str, kind| Ok(Asked::File(PathBuf::from(path), kind));
-    match word.split_once(':') {
-        Some(("text" | "packed", "")) => return Err(Failure::Use(format!("`{word}` wants a file name"))),
-        Some(("text", path)) => return file(path, Some(Kind::Text)),
-        Some(("packed", path)) => return file(path, Some(Kind::Packed)),
-        _ => {}
+/// The kind that a word begins with, if it tells one, and the file after it.
+pub fn told(word: &str) -> Result<(&str, Option<Kind>), Failure> {
+    match word.split_once(':').and_then(|(kind, path)| Some((path, Kind::of(kind)?))) {
+        Some(("", _)) => Err(Failure::Use(format!("`{word}` wants a file name"))),
+        Some((path, kind)) => Ok((path, Some(kind))),
+        None => Ok((word, None)),
     }
-    if word == STANDARD_INPUT || word.contains('/') {
-        return file(word, None);
+}
+
+fn asked(word: &str) -> Result<Asked, Failure> {
+    let (path, kind) = told(word)?;
+    if kind.is_some() || word == STANDARD_INPUT || word.contains('/') {
+        return Ok(Asked::File(PathBuf::from(path), kind));
     }
     if !word.is_empty() && word.bytes().all(|byte| byte.is_ascii_alphabetic()) {
         return Ok(Asked::Planet(word.to_ascii_lowercase()));
@@ -90,39 +101,63 @@ fn one(asked: Asked, data: Option<&str>) -> Result<Series, Failure> {
 }
 
 fn planet(name: &str, data: Option<&str>) -> Result<Series, Failure> {
-    let path = data::folder(data)?.join(format!("{name}.txt"));
-    if !path.is_file() {
-        return Err(Failure::File(format!(
-            "there is no planet `{name}`: {} is not there (put its series there, or give a file with its path, as ./{name})",
-            path.display()
-        )));
-    }
-    of_bytes(format!("{}{}", name[..1].to_ascii_uppercase(), &name[1..]), &path, Kind::Text, read(&path)?)
+    let (path, kind) = data::file(&data::folder(data)?, name)?;
+    of_bytes(format!("{}{}", name[..1].to_ascii_uppercase(), &name[1..]), &path, kind, read(&path)?)
 }
 
-/// No text has a control byte other than white space; bytes from 128 up stand in texts of many kinds. So a damaged text, or one
-/// with a word too many, is never taken as packed.
+/// A file whose first line has the columns of a published heading is a published one. No text has a control byte other than white
+/// space; bytes from 128 up stand in texts of many kinds. So a damaged text, or one with a word too many, is never taken as packed.
 fn kind_of(bytes: &[u8]) -> Kind {
     let in_texts = |byte: &u8| !byte.is_ascii_control() || (b'\t'..=b'\r').contains(byte);
-    if bytes.iter().all(in_texts) {
-        return Kind::Text;
+    if is_published(bytes) {
+        Kind::Published
+    } else if bytes.iter().all(in_texts) {
+        Kind::Text
+    } else {
+        Kind::Packed
     }
-    Kind::Packed
+}
+
+/// A digit stands in columns 18, 42 and 60, and a number on the right of columns 61 to 67.
+pub fn is_published(bytes: &[u8]) -> bool {
+    let line = bytes.split(|&byte| byte == b'\n').next().unwrap_or(&[]);
+    let Some(count) = line.get(60..67) else {
+        return false;
+    };
+    let is_digit = |byte: &u8| byte.is_ascii_digit();
+    let mut number = count.iter().skip_while(|&&byte| byte == b' ');
+    [18, 42, 60, 67].iter().all(|column| is_digit(&line[column - 1])) && number.all(is_digit)
 }
 
 /// The series of a file's bytes.
 pub fn of_bytes(name: String, path: &Path, kind: Kind, bytes: Vec<u8>) -> Result<Series, Failure> {
     let mut series = Series { name, file: shown(path), kind, packed: bytes, terms: None };
-    if kind == Kind::Text {
-        // The packed form is always shorter than the text.
-        let mut packed = vec![0; series.packed.len()];
-        let length = stephylax::read_text(&series.packed, &mut packed)
-            .map_err(|refusal| Failure::refused_at(refusal, series.blame()))?;
-        packed.truncate(length);
-        series.packed = packed;
+    if kind != Kind::Packed {
+        series.packed = packed(kind, &series.packed).map_err(|refusal| {
+            let carriage_return = is_carriage_return(kind, &series.packed, refusal);
+            Failure::Refused { refusal, at: Some(series.blame()), carriage_return }
+        })?;
     }
     series.terms = stephylax::check(&series.packed).ok();
     Ok(series)
+}
+
+/// The packed form, which is always shorter than a text or a published file, but for eighteen counts.
+fn packed(kind: Kind, bytes: &[u8]) -> Result<Vec<u8>, Refusal> {
+    let mut packed = vec![0; bytes.len() + 18];
+    let read = if kind == Kind::Published { stephylax::read_published } else { stephylax::read_text };
+    let length = read(bytes, &mut packed)?;
+    packed.truncate(length);
+    Ok(packed)
+}
+
+/// Whether what is refused is a carriage return before a line feed, which is good without it.
+fn is_carriage_return(kind: Kind, bytes: &[u8], refusal: Refusal) -> bool {
+    let Refusal::BadByte(at) = refusal else {
+        return false;
+    };
+    let (before, after) = bytes.split_at(at as usize);
+    after.starts_with(b"\r\n") && packed(kind, &[before, &after[1..]].concat()) != Err(refusal)
 }
 
 impl Series {
@@ -171,6 +206,8 @@ pub fn shown(path: &Path) -> String {
     path.to_string_lossy().chars().map(plain).collect()
 }
 
+/// The file's name without its ending, which tells published files apart.
 pub fn short_name(path: &Path) -> String {
-    path.file_stem().map_or(shown(path), |stem| shown(Path::new(stem)))
+    let name = if path.file_stem().is_some_and(|stem| stem == "VSOP87D") { path.file_name() } else { path.file_stem() };
+    name.map_or(shown(path), |name| shown(Path::new(name)))
 }
