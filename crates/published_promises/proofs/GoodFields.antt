@@ -18,7 +18,8 @@ use Rattle.published_records.specs.Rows.{decimal-column, no-digit, unbegun, may
 use Rattle.text_promises.proofs.GoodLines.{flag, lexes-append, decimal-run, count-run}
 use Rattle.text_promises.proofs.OneByte.{Lexed, none, digit, pointed, spaced, kept, negated, view}
 use Rattle.text_promises.proofs.TakenTerms.{no-digit as no-more}
-use Rattle.published_promises.proofs.RowLaws.{in-field, begun-digit, decimal-whole, decimal-part, field-lines}
+use Rattle.published_promises.proofs.RowLaws.{in-field, begun-digit}
+use Rattle.published_promises.proofs.Stretches.{decimal-whole, decimal-part, field-lines}
 
 -- ---- Spaces before a figure.
 

@@ -21,10 +21,11 @@ use Rattle.published_records.specs.Layout.{a-first, a-last, b-first, b-last, c-
 use Rattle.published_records.specs.Rows.{heading-column, decimal-column, column-limit, fresh-row, with-figure, with-number, lex-rows, whole-row}
 use Rattle.text_promises.proofs.GoodLines.{flag, line-of-term}
 use Rattle.published_promises.specs.Decided.{BeginsHeading, BeginsRecord}
-use Rattle.published_promises.proofs.RowLaws.{rows-append, rows-before, held, next-under, put-at, figure-step, field-lines, stretch-run, filler-run}
-use Rattle.published_promises.proofs.RowLaws.{before-version-stretch, before-coordinate-stretch, before-power-stretch, count-stretch}
-use Rattle.published_promises.proofs.RowLaws.{before-number-stretch, number-stretch, before-a-stretch, a-run, b-run, c-run}
-use Rattle.published_promises.proofs.RowLaws.{heading-rest, record-rest}
+use Rattle.published_promises.proofs.RowLaws.{rows-append, rows-before, held, next-under}
+use Rattle.published_promises.proofs.Stretches.{put-at, figure-step, field-lines, stretch-run, filler-run}
+use Rattle.published_promises.proofs.Stretches.{before-version-stretch, before-coordinate-stretch, before-power-stretch, count-stretch}
+use Rattle.published_promises.proofs.Stretches.{before-number-stretch, number-stretch, before-a-stretch, a-run, b-run, c-run}
+use Rattle.published_promises.proofs.Stretches.{heading-rest, record-rest}
 use Rattle.published_promises.proofs.GoodFields.{count-field, decimal-field}
 
 -- ---- The row after a record.

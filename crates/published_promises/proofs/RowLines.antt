@@ -17,8 +17,9 @@ use Rattle.published_records.specs.declared.Column.{Column}
 use Rattle.published_records.specs.declared.Column.the-variants.{Count, Whole}
 use Rattle.published_records.specs.Layout.{a-first, b-first, c-first}
 use Rattle.published_records.specs.Rows.{heading-column, decimal-column, term-column, in-whole, next-column, entered, lex-heading, lex-term, lex-row, lex-rows}
-use Rattle.published_promises.proofs.RowLaws.{in-field, field-lines, in-line, field-bad, held, held-under, held-over, next-under, row-column}
-use Rattle.published_promises.proofs.RowLaws.{heading-after, term-after, decimal-whole, decimal-part}
+use Rattle.published_promises.proofs.RowLaws.{in-field, in-line, field-bad, held, held-under, held-over, next-under, row-column}
+use Rattle.published_promises.proofs.Stretches.{field-lines}
+use Rattle.published_promises.proofs.Stretches.{heading-after, term-after, decimal-whole, decimal-part}
 use Rattle.published_promises.proofs.Fields.{whole-bytes, at-point, decimal-line}
 
 -- ---- The line alone.

@@ -17,8 +17,9 @@ use Rattle.published_records.specs.Layout.{NoFeed, Free, heading-bytes, record-
 use Rattle.published_records.specs.Rows.{heading-column, decimal-column, fresh-row, lex-rows, whole-row}
 use Rattle.published_promises.specs.Decided.{IsHeading, IsRecord}
 use Rattle.text_promises.proofs.GoodLines.{put, keep, flag}
-use Rattle.published_promises.proofs.RowLaws.{in-field, field-lines, filler-lines, held, held-under, rows-column, heading-filler, heading-count}
-use Rattle.published_promises.proofs.RowLaws.{term-before, term-number, term-between, term-a, term-b, term-c, term-after}
+use Rattle.published_promises.proofs.RowLaws.{in-field, held, held-under, rows-column}
+use Rattle.published_promises.proofs.Stretches.{field-lines, filler-lines, heading-filler, heading-count}
+use Rattle.published_promises.proofs.Stretches.{term-before, term-number, term-between, term-a, term-b, term-c, term-after}
 use Rattle.published_promises.proofs.Fields.{whole-bytes, decimal-line, count-field, decimal-field}
 use Rattle.published_promises.proofs.RowLines.{enter, line-step, lines, enters-none, rows-lines, lines-bad, Inside, Are}
 use Rattle.published_promises.proofs.RowLines.{inside-run, field-run, count-columns, decimal-columns}

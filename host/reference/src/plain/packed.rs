@@ -105,15 +105,23 @@ impl Judge {
         0
     }
 
-    pub fn a_in_limit(a: i64) -> bool {
+    /// The refusal of a term of a line, or 0: its numbers are judged before what they add to.
+    pub fn line_term(&mut self, Term { a, b, c }: Term) -> u64 {
+        if !Judge::a_in_limit(a) || !Judge::b_in_limit(b) || !Judge::c_in_limit(c) {
+            return 4;
+        }
+        [self.a(a), self.b(b), self.c(c)].into_iter().find(|&refusal| refusal != 0).unwrap_or(0)
+    }
+
+    fn a_in_limit(a: i64) -> bool {
         a.abs() < 100_000 * PARTS
     }
 
-    pub fn b_in_limit(b: i64) -> bool {
+    fn b_in_limit(b: i64) -> bool {
         (0..10 * PARTS).contains(&b)
     }
 
-    pub fn c_in_limit(c: i64) -> bool {
+    fn c_in_limit(c: i64) -> bool {
         c.abs() < 1_000_000 * PARTS
     }
 

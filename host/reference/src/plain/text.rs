@@ -193,13 +193,9 @@ impl Reader {
     fn term_line(&mut self, packed: &mut [u8]) -> u64 {
         self.line.next_field();
         let [a, b, c] = self.line.fields;
-        if !Judge::a_in_limit(a) || !Judge::b_in_limit(b) || !Judge::c_in_limit(c) {
-            return 4;
-        }
-        for refusal in [self.judge.a(a), self.judge.b(b), self.judge.c(c)] {
-            if refusal != 0 {
-                return refusal;
-            }
+        let refusal = self.judge.line_term(Term { a, b, c });
+        if refusal != 0 {
+            return refusal;
         }
         let mut bytes = Vec::new();
         put_term(&mut bytes, Term { a, b, c });
