@@ -17,7 +17,7 @@ const THEORY_VERSION: u64 = 4;
 
 const COORDINATE_COUNT: u64 = 3;
 
-// The block of a coordinate, counted from 1, and a power, of a heading that has both.
+// The block, counted from 0, of a coordinate (from 1) and a power (from 0), of a heading that has both.
 pub fn block_of(coordinate: u64, power: u64) -> u64
     requires { ⌜ (1 ≤ coordinate) × (coordinate ≤ coordinate-count) × (power < powers) ⌝ }
     ensures { λ r. ⌜ r ≡ block-of coordinate power ⌝ }

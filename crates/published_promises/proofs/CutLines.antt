@@ -81,7 +81,7 @@ heading-long : (h : Heading) → GoodHeading h → 60 + length (count-bytes (h .
 unfolding heading-bytes
 heading-long h g =
     let tail = count-bytes (h .count) ++ h .after in
-    let counted = spaces (h .before-count) ++ tail in
+    let counted = spaces (h .count-indent) ++ tail in
     let power = h .before-power ++ ((digit-0 + h .power) ∷ counted) in
     let coordinate = h .before-coordinate ++ ((digit-0 + h .coordinate) ∷ power) in
     omega (
@@ -92,7 +92,7 @@ heading-long h g =
       length-append (h .before-version) ((digit-0 + h .version) ∷ coordinate),
       length-append (h .before-coordinate) ((digit-0 + h .coordinate) ∷ power),
       length-append (h .before-power) ((digit-0 + h .power) ∷ counted),
-      length-append (spaces (h .before-count)) tail,
+      length-append (spaces (h .count-indent)) tail,
       length-append (count-bytes (h .count)) (h .after),
     )
 

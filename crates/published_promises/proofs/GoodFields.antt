@@ -40,17 +40,17 @@ spaces-field k least l s (suc n) ys h =
 
 record Begun (l : Line) : Type 0 where
   some : 1 ≤ l .spot
-  not-before-count : l .spot ≡ spot-count - 1 → ⊥
+  not-count-indent : l .spot ≡ spot-count - 1 → ⊥
   not-count : l .spot ≡ spot-count → ⊥
 
 begun-next : (l : Line) (d : ℕ) → Begun l → Begun (lex l (digit-0 + d))
 begun-next l d b = go (lex l (digit-0 + d)) (view l (digit-0 + d))
   where
     go : (m : Line) → Lexed l (digit-0 + d) m → Begun m
-    go _ none = record { some = omega arith; not-before-count = λ e. omega (arith, e); not-count = λ e. omega (arith, e) }
+    go _ none = record { some = omega arith; not-count-indent = λ e. omega (arith, e); not-count = λ e. omega (arith, e) }
     go _ (digit c i h t) =
         let k : l .spot ≡ spot-done → ⊥ = λ e. no-more (l .minus) (l .value) c (rw e at t) in
-        record { some = omega arith; not-before-count = λ e. k (omega (arith, e)); not-count = λ e. b .not-before-count (omega (arith, e)) }
+        record { some = omega arith; not-count-indent = λ e. k (omega (arith, e)); not-count = λ e. b .not-count-indent (omega (arith, e)) }
     go _ (pointed i h k) = absurd (omega arith)
     go _ (spaced i h k) = absurd (omega arith)
     go _ (kept i h k) = absurd (omega arith)
@@ -101,8 +101,8 @@ first-begun : (l : Line) (d : ℕ) → (l .spot ≡ spot-done → ⊥) → (l .s
 first-begun l d a c = go (lex l (digit-0 + d)) (view l (digit-0 + d))
   where
     go : (m : Line) → Lexed l (digit-0 + d) m → Begun m
-    go _ none = record { some = omega arith; not-before-count = λ e. omega (arith, e); not-count = λ e. omega (arith, e) }
-    go _ (digit x i h t) = record { some = omega arith; not-before-count = λ e. a (omega (arith, e)); not-count = λ e. c (omega (arith, e)) }
+    go _ none = record { some = omega arith; not-count-indent = λ e. omega (arith, e); not-count = λ e. omega (arith, e) }
+    go _ (digit x i h t) = record { some = omega arith; not-count-indent = λ e. a (omega (arith, e)); not-count = λ e. c (omega (arith, e)) }
     go _ (pointed i h k) = absurd (omega arith)
     go _ (spaced i h k) = absurd (omega arith)
     go _ (kept i h k) = absurd (omega arith)

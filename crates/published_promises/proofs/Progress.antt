@@ -15,7 +15,7 @@ use Rattle.series_lines.specs.declared.Line.{Line}
 use Rattle.series_lines.specs.Lexer.{spot-bad, fresh, bad, lex}
 use Rattle.series_lines.specs.Grammar.{part-digits}
 use Rattle.published_records.specs.declared.Column.{Column}
-use Rattle.published_records.specs.declared.Column.the-variants.{Filler, Figure, Count, Whole}
+use Rattle.published_records.specs.declared.Column.the-variants.{Filler, Digit, Count, Whole}
 use Rattle.published_records.specs.Layout.{a-first, a-last, b-first, b-last, c-first, c-last, NoFeed}
 use Rattle.published_records.specs.Rows.{heading-column, decimal-column, in-whole, fresh-row, lex-rows}
 use Rattle.published_promises.specs.Decided.{BeginsHeading, BeginsRecord}
@@ -88,7 +88,7 @@ data ReadyHeading (c : ℕ) (l : Line) : Type 0 where
   number : (w : ℕ) → c + suc w ≡ 68 → w ≤ 6 → Figuring 20 4 (suc w) l → ReadyHeading c l
   after : 68 ≤ c → Good l → ReadyHeading c l
 
-free-or-figure : (c : ℕ) → c ≤ 60 → (heading-column c ≡ Filler) ⊎ (heading-column c ≡ Figure)
+free-or-figure : (c : ℕ) → c ≤ 60 → (heading-column c ≡ Filler) ⊎ (heading-column c ≡ Digit)
 unfolding heading-column
 free-or-figure c h =
     by-cases (eqb c 18)
@@ -98,14 +98,14 @@ free-or-figure c h =
     (λ q. by-cases (eqb c 60) (λ s. inr (rw (p, q, s))) (λ s. inl (rw (p, q, s, lt-ltb c 61 (omega arith))))))
 
 -- In a free column or that of a single digit the line stays; and a digit 1 may come.
-free-step : (k : Column) (l : Line) (b : ℕ) → (k ≡ Filler) ⊎ (k ≡ Figure) → Good (in-field k l b) → in-field k l b ≡ l
+free-step : (k : Column) (l : Line) (b : ℕ) → (k ≡ Filler) ⊎ (k ≡ Digit) → Good (in-field k l b) → in-field k l b ≡ l
 unfolding in-field
 free-step k l b (inl e) y = rw e
 free-step k l b (inr e) y =
-    let z : Good (in-field Figure l b) = subst (λ (q : Column). Good (in-field q l b)) e y in
+    let z : Good (in-field Digit l b) = subst (λ (q : Column). Good (in-field q l b)) e y in
     rw e (by-cases (leb 48 b) (λ p. by-cases (ltb b 58) (λ q. rw (p, q)) (λ q. absurd (z (rw (p, q))))) (λ p. absurd (z (rw p))))
 
-free-one : (k : Column) (l : Line) → (k ≡ Filler) ⊎ (k ≡ Figure) → in-field k l 49 ≡ l
+free-one : (k : Column) (l : Line) → (k ≡ Filler) ⊎ (k ≡ Digit) → in-field k l 49 ≡ l
 unfolding in-field
 free-one k l (inl e) = rw e
 free-one k l (inr e) = rw e

@@ -14,7 +14,7 @@ use Rattle.series_lines.specs.Grammar.{digit-0, point, spaces, sign, digits, Co
 use Rattle.series_lines.specs.Grammar.{count-digits, Decimal, decimal, size, GoodDecimal}
 use Rattle.series_lines.specs.Lexer.{spot-decimal, spot-done, spot-count, spot-bad, fresh, bad, put, keep, with-space, whole-count}
 use Rattle.published_records.specs.declared.Row.{Row}
-use Rattle.published_records.specs.declared.Column.the-variants.{Figure, Count}
+use Rattle.published_records.specs.declared.Column.the-variants.{Digit, Count}
 use Rattle.published_records.specs.Layout.{Heading, heading-bytes, GoodHeading, TermRecord, record-bytes, GoodRecord, NoFeed, cut-term}
 use Rattle.published_records.specs.Layout.{version-column, coordinate-column, power-column, count-first, count-last, number-first, number-last}
 use Rattle.published_records.specs.Layout.{a-first, a-last, b-first, b-last, c-first, c-last}
@@ -66,7 +66,7 @@ past-field : (h : Bool) (r s : Row) (xs ys zs : List ℕ) → lex-rows h r (xs +
 past-field h r s xs ys zs e = ap (λ (bs : List ℕ). lex-rows h r bs) (sym (append-assoc xs ys zs)) ∙ past h r s (xs ++ ys) zs e
 
 -- After a digit of a heading.
-past-figure : (r : Row) (d : ℕ) (ys : List ℕ) → heading-column (r .column) ≡ Figure → r .column < column-limit → d < 10
+past-figure : (r : Row) (d : ℕ) (ys : List ℕ) → heading-column (r .column) ≡ Digit → r .column < column-limit → d < 10
     → lex-rows true r ((digit-0 + d) ∷ ys)
     ≡ lex-rows true (record { column = r .column + 1; line = r .line; version = r .coordinate; coordinate = r .power; power = d; number = r .number }) ys
 unfolding lex-rows with-figure
@@ -104,7 +104,7 @@ heading-run h g =
     let v = h .version in
     let k = h .coordinate in
     let p = h .power in
-    let c : List ℕ = spaces (h .before-count) ++ (count-bytes (h .count) ++ h .after) in
+    let c : List ℕ = spaces (h .count-indent) ++ (count-bytes (h .count) ++ h .after) in
     let p-on : List ℕ = h .before-power ++ ((digit-0 + p) ∷ c) in
     let k-on : List ℕ = h .before-coordinate ++ ((digit-0 + k) ∷ p-on) in
     let r₀ : Row = put-at fresh-row version-column l in
@@ -126,8 +126,8 @@ heading-run h g =
     (filler-run true (coordinate-column + 1) (power-column - 1) before-power-stretch (omega arith) r₃ (h .before-power) (omega arith)
     (omega (arith, g .before-power .columns)))
     ∙ past-figure r₄ p c (unfold heading-column in refl) (omega arith) (g .power)
-    ∙ past-field true r₅ r₆ (spaces (h .before-count)) (count-bytes (h .count)) (h .after)
-    (heading-count-run r₅ (h .before-count) (h .count) (g .count) (g .count-right) refl refl)
+    ∙ past-field true r₅ r₆ (spaces (h .count-indent)) (count-bytes (h .count)) (h .after)
+    (heading-count-run r₅ (h .count-indent) (h .count) (g .count) (g .count-right) refl refl)
     ∙ heading-rest r₆ (h .after) (omega arith) (omega arith)
 
 -- ---- A term record.
@@ -304,7 +304,7 @@ heading-no-feed h g =
         (λ e. omega (arith, e)),
         no-feed-append (h .before-power) _ (g .before-power .no-feed) (
           (λ e. omega (arith, e)),
-          no-feed-append (spaces (h .before-count)) _ (spaces-no-feed (h .before-count))
+          no-feed-append (spaces (h .count-indent)) _ (spaces-no-feed (h .count-indent))
               (no-feed-append (count-bytes (h .count)) (h .after) (count-no-feed (h .count)) (g .after)),
         ),
       ),

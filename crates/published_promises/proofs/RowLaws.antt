@@ -14,7 +14,7 @@ use Rattle.series_lines.specs.Grammar.{space, point, digit-0, count-digits, who
 use Rattle.series_lines.specs.Lexer.{spot-decimal, spot-count, spot-done, spot-bad, bad, with-space, lex, lexes, whole-count}
 use Rattle.published_records.specs.declared.Row.{Row}
 use Rattle.published_records.specs.declared.Column.{Column}
-use Rattle.published_records.specs.declared.Column.the-variants.{Filler, Figure, Count, Whole, Point, Part, Blank}
+use Rattle.published_records.specs.declared.Column.the-variants.{Filler, Digit, Count, Whole, Point, Part, Blank}
 use Rattle.published_records.specs.Layout.{a-first, b-first, c-first}
 use Rattle.published_records.specs.Rows.{heading-column, term-column, no-digit, unbegun, in-whole, column-limit, next-column}
 use Rattle.published_records.specs.Rows.{with-figure, entered, in-column, lex-heading, lex-term, lex-row, lex-rows}
@@ -31,7 +31,7 @@ rows-append h r (x ∷ xs) ys = rows-append h (lex-row h r x) xs ys
 
 unfoldable pub in-field : Column → Line → ℕ → Line
 in-field Filler l byte = l
-in-field Figure l byte = cond (leb digit-0 byte) (cond (ltb byte (digit-0 + 10)) l bad) bad
+in-field Digit l byte = cond (leb digit-0 byte) (cond (ltb byte (digit-0 + 10)) l bad) bad
 in-field (Count w) l byte = in-whole w count-digits l byte
 in-field (Whole w) l byte = in-whole w whole-digits l byte
 in-field Point l byte = cond (eqb byte point) (lex l byte) bad
@@ -41,7 +41,7 @@ in-field Blank l byte = cond (eqb byte space) l bad
 pub in-line : (k : Column) (r : Row) (byte : ℕ) → in-column k r byte .line ≡ in-field k (r .line) byte
 unfolding in-column in-field with-figure
 in-line Filler r byte = refl
-in-line Figure r byte =
+in-line Digit r byte =
     by-cases (leb digit-0 byte)
     (λ p. by-cases (ltb byte (digit-0 + 10)) (λ q. rw (p, q)) (λ q. rw (p, q)))
     (λ p. rw p)
@@ -77,7 +77,7 @@ whole-bad w most l byte e =
 pub field-bad : (k : Column) (l : Line) (byte : ℕ) → l .spot ≡ spot-bad → in-field k l byte .spot ≡ spot-bad
 unfolding in-field
 field-bad Filler l byte e = e
-field-bad Figure l byte e =
+field-bad Digit l byte e =
     by-cases (leb digit-0 byte)
     (λ p. by-cases (ltb byte (digit-0 + 10)) (λ q. rw (p, q) e) (λ q. rw (p, q)))
     (λ p. rw p)
@@ -149,7 +149,7 @@ next-held c n =
 column-step : (k : Column) (r : Row) (byte : ℕ) → in-column k r byte .column ≡ next-column (r .column)
 unfolding in-column with-figure
 column-step Filler r byte = refl
-column-step Figure r byte =
+column-step Digit r byte =
     by-cases (leb digit-0 byte)
     (λ p. by-cases (ltb byte (digit-0 + 10)) (λ q. rw (p, q)) (λ q. rw (p, q)))
     (λ p. rw p)

@@ -14,7 +14,7 @@ use Rattle.series_lines.specs.Grammar.{space, spaces, part-digits}
 use Rattle.series_lines.specs.Lexer.{spot-bad, with-space}
 use Rattle.published_records.specs.declared.Row.{Row}
 use Rattle.published_records.specs.declared.Column.{Column}
-use Rattle.published_records.specs.declared.Column.the-variants.{Filler, Figure, Count, Whole, Part, Blank}
+use Rattle.published_records.specs.declared.Column.the-variants.{Filler, Digit, Count, Whole, Part, Blank}
 use Rattle.published_records.specs.Layout.{version-column, coordinate-column, power-column, count-first, count-last, number-first, number-last}
 use Rattle.published_records.specs.Layout.{a-first, a-last, b-first, b-last, c-first, c-last}
 use Rattle.published_records.specs.Rows.{heading-column, decimal-column, term-column, column-limit, next-column}
@@ -232,7 +232,7 @@ c-stretch =
     (λ c i j. term-c c (omega arith) j)
 
 -- The single bytes between them: the digits of a heading, and the first byte of each decimal.
-pub figure-step : (r : Row) (byte : ℕ) → heading-column (r .column) ≡ Figure → lex-row true r byte ≡ with-figure r byte
+pub figure-step : (r : Row) (byte : ℕ) → heading-column (r .column) ≡ Digit → lex-row true r byte ≡ with-figure r byte
 unfolding lex-row lex-heading in-column
 figure-step r byte e = rw e
 

@@ -12,7 +12,7 @@ use Rattle.series_lines.specs.declared.Line.{Line}
 use Rattle.series_lines.specs.Grammar.{spaces, CountLine, count, count-bytes, GoodCount, Decimal, decimal, GoodDecimal, size}
 use Rattle.series_lines.specs.Lexer.{spot-bad, fresh, bad, with-space, whole-count}
 use Rattle.published_records.specs.declared.Column.{Column}
-use Rattle.published_records.specs.declared.Column.the-variants.{Filler, Figure, Count}
+use Rattle.published_records.specs.declared.Column.the-variants.{Filler, Digit, Count}
 use Rattle.published_records.specs.Layout.{NoFeed, Free, heading-bytes, record-bytes}
 use Rattle.published_records.specs.Rows.{heading-column, decimal-column, fresh-row, lex-rows, whole-row}
 use Rattle.published_promises.specs.Decided.{IsHeading, IsRecord}
@@ -112,11 +112,11 @@ record FigureIn (m e : ℕ) (l : Line) (xs : List ℕ) : Type 0 where
   rest-free : NoFeed rest
   live : Live true e l rest
 
-figure-byte : (c : ℕ) (l : Line) (b : ℕ) (rest : List ℕ) → heading-column c ≡ Figure → Live true c l (b ∷ rest)
+figure-byte : (c : ℕ) (l : Line) (b : ℕ) (rest : List ℕ) → heading-column c ≡ Digit → Live true c l (b ∷ rest)
     → ((48 ≤ b) × (b < 58)) × Live true (suc c) l rest
 unfolding lines line-step in-field enter
 figure-byte c l b rest k y =
-    let z : lines true (suc c) (in-field Figure l b) rest .spot ≡ spot-bad → ⊥ =
+    let z : lines true (suc c) (in-field Digit l b) rest .spot ≡ spot-bad → ⊥ =
     subst (λ (q : Column). lines true (suc c) (in-field q l b) rest .spot ≡ spot-bad → ⊥) k y in
     by-cases (leb 48 b)
     (λ p. by-cases (ltb b 58)
@@ -124,7 +124,7 @@ figure-byte c l b rest k y =
     (λ q. absurd (z (rw (p, q) (lines-bad true rest (suc c) bad refl)))))
     (λ p. absurd (z (rw p (lines-bad true rest (suc c) bad refl))))
 
-figure-in : (c m : ℕ) (l : Line) (xs : List ℕ) → heading-column c ≡ Figure → 1 + m ≤ length xs → NoFeed xs → Live true c l xs → FigureIn m (suc c) l xs
+figure-in : (c m : ℕ) (l : Line) (xs : List ℕ) → heading-column c ≡ Digit → 1 + m ≤ length xs → NoFeed xs → Live true c l xs → FigureIn m (suc c) l xs
 figure-in c m l xs k h f y =
     let p = next xs (omega arith) f in
     let g = figure-byte c l (p .b) (p .rest) k (subst (λ (z : List ℕ). Live true c l z) (p .is) y) in
@@ -230,7 +230,7 @@ heading-lines-in xs n f y =
             coordinate = c .d;
             before-power = d .front;
             power = p .d;
-            before-count = k .indent;
+            count-indent = k .indent;
             count = k .k;
             after = k .rest;
           };

@@ -69,7 +69,7 @@ pub record Heading : Type 0 where
   pub coordinate : ℕ
   pub before-power : List ℕ
   pub power : ℕ
-  pub before-count : ℕ
+  pub count-indent : ℕ
   pub count : CountLine
   pub after : List ℕ
 
@@ -79,7 +79,7 @@ heading-bytes h =
     h .before-version ++ ((digit-0 + h .version)
     ∷ (h .before-coordinate ++ ((digit-0 + h .coordinate)
     ∷ (h .before-power ++ ((digit-0 + h .power)
-    ∷ (spaces (h .before-count) ++ (count-bytes (h .count) ++ h .after)))))))
+    ∷ (spaces (h .count-indent) ++ (count-bytes (h .count) ++ h .after)))))))
 
 -- A heading as it may stand in a file, by its columns; its version, block and order (13) and its limits are judged at the line feed.
 pub record GoodHeading (h : Heading) : Type 0 where
@@ -90,7 +90,7 @@ pub record GoodHeading (h : Heading) : Type 0 where
   pub before-power : Free (power-column - coordinate-column - 1) (h .before-power)
   pub power : h .power < 10
   pub count : GoodCount (h .count)
-  pub count-right : h .before-count + length (count-bytes (h .count)) ≡ count-last - count-first + 1
+  pub count-right : h .count-indent + length (count-bytes (h .count)) ≡ count-last - count-first + 1
   pub after : NoFeed (h .after)
 
 -- ---- A term record, before its line feed.

@@ -10,7 +10,7 @@ use Rattle.series_lines.specs.Grammar.{space, minus-sign, point, digit-0, count
 use Rattle.series_lines.specs.Lexer.{spot-decimal, spot-count, fresh, bad, with-space, lex, whole-count}
 use Rattle.published_records.specs.declared.Row.{Row}
 use Rattle.published_records.specs.declared.Column.{Column}
-use Rattle.published_records.specs.declared.Column.the-variants.{Filler, Figure, Count, Whole, Point, Part, Blank}
+use Rattle.published_records.specs.declared.Column.the-variants.{Filler, Digit, Count, Whole, Point, Part, Blank}
 use Rattle.published_records.specs.Layout.{version-column, coordinate-column, power-column, count-first, count-last, number-first, number-last}
 use Rattle.published_records.specs.Layout.{a-first, a-last, b-first, b-last, c-first, c-last}
 
@@ -19,9 +19,9 @@ use Rattle.published_records.specs.Layout.{a-first, a-last, b-first, b-l
 -- In a heading.
 unfoldable pub heading-column : ℕ → Column
 heading-column c =
-    cond (eqb c version-column) Figure
-    (cond (eqb c coordinate-column) Figure
-    (cond (eqb c power-column) Figure
+    cond (eqb c version-column) Digit
+    (cond (eqb c coordinate-column) Digit
+    (cond (eqb c power-column) Digit
     (cond (ltb c count-first) Filler
     (cond (leb c count-last) (Count (count-last - c))
     Filler))))
@@ -133,7 +133,7 @@ entered r =
 -- A byte in a column.
 unfoldable pub in-column : Column → Row → ℕ → Row
 in-column Filler r byte = moved r (r .line)
-in-column Figure r byte = with-figure r byte
+in-column Digit r byte = with-figure r byte
 in-column (Count w) r byte = moved r (in-whole w count-digits (r .line) byte)
 in-column (Whole w) r byte = moved r (in-whole w whole-digits (r .line) byte)
 in-column Point r byte = moved r (cond (eqb byte point) (lex (r .line) byte) bad)

@@ -37,13 +37,13 @@ pub fn heading_column(c: u64) -> Column
     ensures { λ r. ⌜ r ≡ heading-column c ⌝ }
 {
     if c == VERSION_COLUMN {
-        return Column::Figure;
+        return Column::Digit;
     }
     if c == COORDINATE_COLUMN {
-        return Column::Figure;
+        return Column::Digit;
     }
     if c == POWER_COLUMN {
-        return Column::Figure;
+        return Column::Digit;
     }
     if c < COUNT_FIRST {
         return Column::Filler;

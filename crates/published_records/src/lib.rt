@@ -13,7 +13,7 @@ use series_lines::Line;
 // decimal's point, a digit after it, or a space.
 pub enum Column {
     Filler,
-    Figure,
+    Digit,
     Count(u64),
     Whole(u64),
     Point,

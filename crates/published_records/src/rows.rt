@@ -170,7 +170,7 @@ fn in_column(column: Column, row: Row, byte: u8) -> Row
     let l = row.line;
     match column {
         Column::Filler => moved(row, l),
-        Column::Figure => with_figure(row, byte),
+        Column::Digit => with_figure(row, byte),
         Column::Count(w) => moved(row, in_whole(w, COUNT_DIGITS, l, byte)),
         Column::Whole(w) => moved(row, in_whole(w, WHOLE_DIGITS, l, byte)),
         Column::Point => moved(row, in_point(l, byte)),
