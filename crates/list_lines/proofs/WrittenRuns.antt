@@ -45,10 +45,10 @@ clocks-put start first last m n at a b c z out o1 o2 o3 o4 e f p1 p2 p3 p4 =
 pub same-minute : (start j : ℕ) → (start % 1440 + j % 1440) % 1440 ≡ (start + j) % day
 same-minute start j = omega arith
 
-pub run-put : (start first last a z : ℕ) (out o1 o2 : List ℕ) → Put out 0 (minutes-text first last) a o1 → Put o1 a (clocks-text start first last) z o2
-    → Put out 0 (run-text start first last) z o2
+pub run-put : (start first last at a z : ℕ) (out o1 o2 : List ℕ) → Put out at (minutes-text first last) a o1
+    → Put o1 a (clocks-text start first last) z o2 → Put out at (run-text start first last) z o2
 unfolding run-text
-run-put start first last a z out o1 o2 p q = put-both (minutes-text first last) (clocks-text start first last) 0 a z out o1 o2 p q
+run-put start first last at a z out o1 o2 p q = put-both (minutes-text first last) (clocks-text start first last) at a z out o1 o2 p q
 
 -- ---- lengths
 clock-length : (m : ℕ) → length (clock-text m) ≡ 5

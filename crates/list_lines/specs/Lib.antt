@@ -1,2 +1,4 @@
--- RULES, "Programs": what the program `list` prints for a run.
+-- RULES, "Programs": what the program `list` prints.
 pub mod Lines
+pub mod List
+pub mod Printed

@@ -1,4 +1,4 @@
-// The line of a run, written into a lent buffer. All of this is for lib.rt.
+// The line of a run, written into a lent buffer. All of this is for answer.rt.
 ghost use Prim.Native.Nat.{_+_, _%_, _≤_, _<_};
 ghost use lib.ListN.{length};
 ghost use Rattle.decimals.specs.Writing.{Put};
@@ -58,10 +58,10 @@ fn put_clocks(start: u64, first: u64, last: u64, out: &mut [u8], at: usize) -> u
 }
 
 // One run: "12 to 40, 00:12 to 00:40".
-pub fn put_run(start: u64, first: u64, last: u64, out: &mut [u8]) -> usize
-    requires { ⌜ run-most ≤ length (now out) ⌝ }
-    ensures { λ r. ⌜ Put (now (out .entry)) 0 (run-text start first last) r (now (out .exit)) ⌝ }
+pub fn put_run(start: u64, first: u64, last: u64, out: &mut [u8], at: usize) -> usize
+    requires { ⌜ at + run-most ≤ length (now out) ⌝ }
+    ensures { λ r. ⌜ Put (now (out .entry)) at (run-text start first last) r (now (out .exit)) ⌝ }
 {
-    let clocks = put_minutes(first, last, out, 0);
+    let clocks = put_minutes(first, last, out, at);
     put_clocks(start, first, last, out, clocks)
 }

@@ -18,7 +18,7 @@ same-length : tie.Need-same-length
 same-length c = search needs
 
 returns : tie.Need-returns
-returns c = let q = c .before .before in run-put _ _ _ _ _ _ _ _ (q .before .before .before .before .put-minutes .ensures) (q .put-clocks .ensures)
+returns c = let q = c .before .before in run-put _ _ _ _ _ _ _ _ _ (q .before .before .before .before .put-minutes .ensures) (q .put-clocks .ensures)
 
 pub put-run-spec : {M : Type 1} → statement M
 put-run-spec = tie.close (tie.spec put-minutes-requires put-clocks-requires same-length returns)
