@@ -139,6 +139,8 @@ module _ (out result : List ℕ) (z : ℕ) where
     unfolding list-text
     no-instant r e h = rw e h
 
-    pub same-window : (asked : InstantAnswer) (begin : ℕ) → from ≡ asked → start ≡ begin
-        → Put out 0 (list-text planet earth from start minutes keep-out) z result → Put out 0 (list-text planet earth asked begin minutes keep-out) z result
-    same-window asked begin e f h = rw (← e, ← f) h
+  -- What stands in the machine is what was asked for.
+  pub same-window : (planet earth : List ℕ) (from asked : InstantAnswer) (start begin : ℕ) (m minutes k keep-out : ℤ)
+      → Put out 0 (list-text planet earth from start m k) z result → from ≡ asked → start ≡ begin → m ≡ minutes → k ≡ keep-out
+      → Put out 0 (list-text planet earth asked begin minutes keep-out) z result
+  same-window planet earth from asked start begin m minutes k keep-out h d e f g = rw (← d, ← e, ← f, ← g) h

@@ -39,7 +39,7 @@ put-run-requires : tie.Need-put-run-requires Inv-loop μ-loop
 put-run-requires c κs =
     let l = c .before .before .before .before in
     let p = l .before .before .before .pre in
-    omega (arith, left-room _ _ _ _ _ _ _ (l .loop .inv) (c .before .before .before .loop-test .taken), l .loop .inv .same, p .1)
+    omega (arith, left-room _ _ _ _ _ _ _ (l .loop .inv) (omega arith), l .loop .inv .same, p .1)
 
 add-i : tie.Need-add-i Inv-loop μ-loop
 add-i c = omega arith
@@ -51,13 +51,13 @@ loop-again : tie.Need-loop-again Inv-loop μ-loop
 loop-again c =
     let p = c .before .before in
     let l = p .before .before .before .before .before in
-    left-more _ _ _ _ _ _ _ (l .loop .inv) _ _ (p .before .before .before .before .loop-test .taken) (p .put-run .ensures)
+    left-more _ _ _ _ _ _ _ (l .loop .inv) _ _ (omega arith) (p .put-run .ensures)
 
 same-length : tie.Need-same-length Inv-loop μ-loop
 same-length c = c .before .loop .inv .same
 
 returns : tie.Need-returns Inv-loop μ-loop
-returns c = left-last _ _ _ _ _ _ _ (c .before .loop .inv) (c .loop-test .left)
+returns c = left-last _ _ _ _ _ _ _ (c .before .loop .inv) (omega arith)
 
 pub put-lines-spec : {M : Type 1} → statement M
 put-lines-spec =

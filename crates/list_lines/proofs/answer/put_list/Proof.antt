@@ -26,9 +26,8 @@ returns c =
     let a = i .before .before .before .before .args in
     let h : Cell (a .window .first) ≡ a .window .first = search needs in
     let m : Cell (a .window .second) ≡ a .window .second = search needs in
-    let n : Cell (a .window .third) ≡ a .window .third = search needs in
-    let k : Cell (a .keep-out) ≡ a .keep-out = search needs in
-    same-window _ _ _ _ _ _ _ _ _ _ _ (i .instant-of .ensures) (rw (h, m) at (d .minute-of-day .ensures)) (rw (n, k) at (p .put-at .ensures))
+    same-window _ _ _ _ _ _ _ _ _ _ _ _ _ (p .put-at .ensures) (i .instant-of .ensures) (rw (h, m) at (d .minute-of-day .ensures)) (search needs)
+    (search needs)
 
 pub put-list-spec : {M : Type 1} → statement M
 put-list-spec =
