@@ -11,15 +11,15 @@ use Rattle.sunlist.specs.SunList.{sun-list, sun-list-out}
 use Rattle.sunlist.specs.declared.ListAnswer.{ListAnswer}
 use Rattle.sunlist.specs.declared.ListAnswer.the-variants.{Runs}
 use Rattle.sunlist.proofs.Demand.{demand-3}
-use Rattle.list_lines.specs.List.{answer-text, no-numbers, list-text}
+use Rattle.list_lines.specs.List.{answer-text, lent-numbers, list-text}
 use Rattle.list_lines.specs.Printed.{Printed}
 
 pub printed : (planet earth : List ℕ) (t0 : Instant) (start : ℕ) (minutes keep-out : ℤ) (count : ℕ)
     → sun-list planet earth t0 minutes keep-out most-minutes ≡ Runs count → Printed planet earth t0 start minutes keep-out
 unfolding answer-text list-text
 printed planet earth t0 start minutes keep-out count e =
-    let out : List ℕ = sun-list-out planet earth t0 minutes keep-out no-numbers in
-    let d : Demand-3 planet earth t0 minutes keep-out count out = demand-3 planet earth t0 minutes keep-out no-numbers count e in
+    let out : List ℕ = sun-list-out planet earth t0 minutes keep-out lent-numbers in
+    let d : Demand-3 planet earth t0 minutes keep-out count out = demand-3 planet earth t0 minutes keep-out lent-numbers count e in
     let even : count ≡ 2 * (count / 2) = omega (arith, d .count-is) in
     record {
       numbers = out;

@@ -22,7 +22,7 @@ use Rattle.sunlist.specs.declared.ListAnswer.{ListAnswer}
 use Rattle.sunlist.specs.declared.ListAnswer.the-variants.{Runs, NoList}
 use Rattle.sunlist.proofs.Call.{sun-list-promised}
 use Rattle.list_lines.specs.Lines.{run-text, run-most}
-use Rattle.list_lines.specs.List.{run-lines, runs-text, answer-text, no-numbers, list-text, most-runs, list-most}
+use Rattle.list_lines.specs.List.{run-lines, runs-text, answer-text, lent-numbers, list-text, most-runs, list-most}
 use Rattle.list_lines.proofs.WrittenRuns.{run-length}
 
 -- ---- lengths
@@ -39,15 +39,15 @@ unfolding runs-text text
 runs-length start numbers zero h = omega arith
 runs-length start numbers (suc n) h = omega (arith, lines-length start numbers 0 (suc n))
 
--- A list that is answered has at most 720 runs.
+-- A list that is answered has no more runs than a day can have.
 few-runs : (planet earth : List ℕ) (t0 : Instant) (minutes keep-out : ℤ) (count : ℕ)
-    → sun-list planet earth t0 minutes keep-out (length no-numbers) ≡ Runs count → count / 2 ≤ most-runs
+    → sun-list planet earth t0 minutes keep-out (length lent-numbers) ≡ Runs count → count / 2 ≤ most-runs
 few-runs planet earth t0 minutes keep-out count e =
-    let p = sun-list-promised planet earth t0 minutes keep-out no-numbers _ _ refl refl in
+    let p = sun-list-promised planet earth t0 minutes keep-out lent-numbers _ _ refl refl in
     omega (arith, p .few count e)
 
 answer-length : (planet earth : List ℕ) (t0 : Instant) (minutes keep-out : ℤ) (start : ℕ) (numbers : List ℕ) (a : ListAnswer)
-    → sun-list planet earth t0 minutes keep-out (length no-numbers) ≡ a → length (answer-text start numbers a) ≤ list-most
+    → sun-list planet earth t0 minutes keep-out (length lent-numbers) ≡ a → length (answer-text start numbers a) ≤ list-most
 unfolding answer-text
 answer-length planet earth t0 minutes keep-out start numbers (Runs count) e =
     runs-length start numbers (count / 2) (few-runs planet earth t0 minutes keep-out count e)
@@ -128,8 +128,8 @@ module _ (out result : List ℕ) (z : ℕ) where
 
   module _ (planet earth : List ℕ) (from : InstantAnswer) (start : ℕ) (minutes keep-out : ℤ) where
     pub at-instant : (t0 : Instant) → from ≡ At t0
-        → Put out 0 (answer-text start (sun-list-out planet earth t0 minutes keep-out no-numbers)
-        (sun-list planet earth t0 minutes keep-out (length no-numbers))) z result
+        → Put out 0 (answer-text start (sun-list-out planet earth t0 minutes keep-out lent-numbers)
+        (sun-list planet earth t0 minutes keep-out (length lent-numbers))) z result
         → Put out 0 (list-text planet earth from start minutes keep-out) z result
     unfolding list-text
     at-instant t0 e h = rw e h

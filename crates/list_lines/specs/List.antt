@@ -18,7 +18,7 @@ unfoldable pub run-lines : ℕ → List ℕ → ℕ → ℕ → List ℕ
 run-lines start numbers i zero = []
 run-lines start numbers i (suc n) = run-text start (first-minute numbers i) (last-minute numbers i) ++ run-lines start numbers (suc i) n
 
--- All runs.
+-- All n runs.
 unfoldable pub runs-text : ℕ → List ℕ → ℕ → List ℕ
 runs-text start numbers zero = text "no minute\n"
 runs-text start numbers (suc n) = run-lines start numbers 0 (suc n)
@@ -28,17 +28,17 @@ unfoldable pub answer-text : ℕ → List ℕ → ListAnswer → List ℕ
 answer-text start numbers (Runs count) = runs-text start numbers (count / 2)
 answer-text start numbers (NoList r) = refusal-text r
 
--- What is lent for the numbers: a place for each minute of a day, as two runs have a minute or more between them.
-abbrev pub no-numbers : List ℕ
-no-numbers = replicate day 0
+-- The room that is lent for the numbers, a place for each minute of a day, all 0.
+abbrev pub lent-numbers : List ℕ
+lent-numbers = replicate day 0
 
 -- The list of the planet from the instant on, seen from Earth; or the refusal of the instant.
 unfoldable pub list-text : (planet earth : List ℕ) → InstantAnswer → (start : ℕ) → (minutes keep-out : ℤ) → List ℕ
 list-text planet earth (At t0) start minutes keep-out =
-    answer-text start (sun-list-out planet earth t0 minutes keep-out no-numbers) (sun-list planet earth t0 minutes keep-out (length no-numbers))
+    answer-text start (sun-list-out planet earth t0 minutes keep-out lent-numbers) (sun-list planet earth t0 minutes keep-out (length lent-numbers))
 list-text planet earth (NoInstant r) start minutes keep-out = refusal-text r
 
--- A day has no more runs, and no list is longer.
+-- A day has no more runs, and no list is longer: two runs have a minute or more between them.
 abbrev pub most-runs : ℕ
 most-runs = 720
 

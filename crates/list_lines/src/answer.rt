@@ -7,7 +7,7 @@ ghost use Rattle.command_line.specs.Clock.{instant-of-clock, minute-of-day};
 ghost use Rattle.decimals.specs.Writing.{Put};
 ghost use Rattle.sunlist.specs.SunList.{sun-list, sun-list-out};
 ghost use Rattle.list_lines.specs.Lines.{run-most};
-ghost use Rattle.list_lines.specs.List.{run-lines, runs-text, answer-text, no-numbers, list-text, most-runs, list-most};
+ghost use Rattle.list_lines.specs.List.{run-lines, runs-text, answer-text, lent-numbers, list-text, most-runs, list-most};
 use crate::DAY;
 use crate::lines::RUN_MOST;
 use crate::lines::put_run;
@@ -65,8 +65,8 @@ fn put_answer(
     requires { ⌜ list-most ≤ length (now out) ⌝ }
     ensures { λ r. ⌜ Put (now (out .entry)) 0
         (answer-text start
-        (sun-list-out (now (planet .entry)) (now (earth .entry)) t0 minutes «keep_out» no-numbers)
-        (sun-list (now (planet .entry)) (now (earth .entry)) t0 minutes «keep_out» (length no-numbers)))
+        (sun-list-out (now (planet .entry)) (now (earth .entry)) t0 minutes «keep_out» lent-numbers)
+        (sun-list (now (planet .entry)) (now (earth .entry)) t0 minutes «keep_out» (length lent-numbers)))
         r (now (out .exit)) ⌝ }
 {
     let mut numbers = [0u64; DAY as usize];
