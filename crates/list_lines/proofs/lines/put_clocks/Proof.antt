@@ -28,10 +28,9 @@ put-clock-requires-2 : tie.Need-put-clock-requires-2
 put-clock-requires-2 c κs =
     let q = c .before .before .before in
     let p = q .before .before .before .before .before in
-    let s = p .before .before .before in (
-      omega arith,
-      omega (arith, q .put-bytes .ensures .0, after-clock _ _ _ (p .put-clock .ensures .0), q .put-bytes .kept .1 .0, p .put-clock .kept .1 .0, s .pre),
-    )
+    let s = p .before .before .before in
+    let h = after-clock _ _ _ (p .put-clock .ensures .0) in
+    (omega arith, omega (arith, q .put-bytes .ensures .0, h, q .put-bytes .kept .1 .0, p .put-clock .kept .1 .0, s .pre))
 
 slice-aggregate-put-bytes-2 : tie.Need-slice-aggregate-put-bytes-2
 slice-aggregate-put-bytes-2 c = search needs
