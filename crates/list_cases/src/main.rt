@@ -1,4 +1,4 @@
-// Six runs of the program `list` in one, for its stored cases: each 9 arguments are a run.
+// Nine runs of the program `list` in one, for its stored cases: each 9 arguments are a run.
 use list_lines::list_of_arguments;
 
 fn main() {
@@ -8,4 +8,7 @@ fn main() {
     list_of_arguments(28);
     list_of_arguments(37);
     list_of_arguments(46);
+    list_of_arguments(55);
+    list_of_arguments(64);
+    list_of_arguments(73);
 }

@@ -1,15 +1,15 @@
 -- The line of a run: its first and last minute, then their clock times, as `12 to 40, 00:12 to 00:40`.
 use mathlib.Core.List.{List, [], _∷_, _++_}
-use Prim.Native.Nat.{ℕ, _+_, _/_, _%_}
+use Prim.Native.Nat.{ℕ, _+_, _*_, _/_, _%_}
 use Rattle.decimals.specs.Texts.{text}
 use Rattle.decimals.specs.Decimals.{zero-digit, most-digits, decimal}
 
--- The minutes of a day, and of an hour.
-abbrev pub day : ℕ
-day = 1440
-
+-- The minutes of an hour, and of a day.
 abbrev pub hour : ℕ
 hour = 60
+
+abbrev pub day : ℕ
+day = 24 * hour
 
 -- A number below a hundred as two digits.
 unfoldable pub two-digits : ℕ → List ℕ
@@ -29,6 +29,12 @@ clocks-text start first last = clock-text ((start + first) % day) ++ (text " to 
 unfoldable pub run-text : ℕ → ℕ → ℕ → List ℕ
 run-text start first last = minutes-text first last ++ clocks-text start first last
 
--- No line is longer.
+-- No text of a run's minutes is longer, none of its clock times, and no line.
+abbrev pub minutes-most : ℕ
+minutes-most = 2 * most-digits + 6
+
+abbrev pub clocks-most : ℕ
+clocks-most = 15
+
 abbrev pub run-most : ℕ
-run-most = 61
+run-most = minutes-most + clocks-most

@@ -8,7 +8,6 @@ ghost use Rattle.decimals.specs.Writing.{Put};
 ghost use Rattle.sunlist.specs.SunList.{sun-list, sun-list-out};
 ghost use Rattle.list_lines.specs.Lines.{run-most};
 ghost use Rattle.list_lines.specs.List.{run-lines, runs-text, answer-text, lent-numbers, list-text, most-runs, list-most};
-use crate::DAY;
 use crate::lines::RUN_MOST;
 use crate::lines::put_run;
 use calendar::InstantAnswer;
@@ -17,12 +16,13 @@ use command_line::arguments::instant_of_clock;
 use command_line::arguments::minute_of_day;
 use decimals::writing::put_bytes;
 use refusal_words::put_refusal;
+use runs::MOST_MINUTES;
 use sunlist::ListAnswer;
 use sunlist::sun_list;
 use units::Instant;
 
-// A day has no more runs; specs/List.antt has the same name.
-const MOST_RUNS: usize = 720;
+// No window has more runs; specs/List.antt has the same name.
+const MOST_RUNS: usize = MOST_MINUTES as usize / 2;
 
 // Room for any list; likewise.
 pub const LIST_MOST: usize = MOST_RUNS * RUN_MOST;
@@ -69,7 +69,7 @@ fn put_answer(
         (sun-list (now (planet .entry)) (now (earth .entry)) t0 minutes «keep_out» (length lent-numbers)))
         r (now (out .exit)) ⌝ }
 {
-    let mut numbers = [0u64; DAY as usize];
+    let mut numbers = [0u64; MOST_MINUTES as usize];
     let a = sun_list(planet, earth, t0, minutes, keep_out, &mut numbers);
     match a {
         ListAnswer::NoList(r) => put_refusal(r, out, 0),

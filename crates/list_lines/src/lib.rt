@@ -18,11 +18,10 @@ use command_line::files::read_both;
 use decimals::reading::Read;
 use libc::STDOUT_FILENO;
 
-// The minutes of a day; specs/Lines.antt has the same name.
-const DAY: u64 = 1440;
+// The longest file that is taken, and room for a byte more, by which a longer one is known.
+const FILE_MOST: usize = 24576;
 
-// A byte more than the longest file that is taken.
-const ROOM: usize = 24577;
+const ROOM: usize = FILE_MOST + 1;
 
 // What the arguments ask for: year, month and day; hour, minute, and how many minutes; the keep-out.
 enum Asked {

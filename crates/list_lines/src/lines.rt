@@ -2,15 +2,17 @@
 ghost use Prim.Native.Nat.{_+_, _%_, _≤_, _<_};
 ghost use lib.ListN.{length};
 ghost use Rattle.decimals.specs.Writing.{Put};
-ghost use Rattle.list_lines.specs.Lines.{day, two-digits, clock-text, minutes-text, clocks-text, run-text, run-most};
-use crate::DAY;
+ghost use Rattle.list_lines.specs.Lines.{day, two-digits, clock-text, minutes-text, clocks-text, run-text};
+ghost use Rattle.list_lines.specs.Lines.{minutes-most, clocks-most, run-most};
 use decimals::MOST_DIGITS;
 use decimals::ZERO_DIGIT;
 use decimals::writing::put_bytes;
 use decimals::writing::put_decimal;
 
-// The minutes of an hour; specs/Lines.antt has the same name.
+// The minutes of an hour and of a day; specs/Lines.antt has the same names.
 const HOUR: u64 = 60;
+
+const DAY: u64 = 24 * HOUR;
 
 // Room for any line; likewise.
 pub const RUN_MOST: usize = 61;
@@ -37,7 +39,7 @@ fn put_clock(m: u64, out: &mut [u8], at: usize) -> usize
 
 // The minutes of a run.
 fn put_minutes(first: u64, last: u64, out: &mut [u8], at: usize) -> usize
-    requires { ⌜ at + 46 ≤ length (now out) ⌝ }
+    requires { ⌜ at + minutes-most ≤ length (now out) ⌝ }
     ensures { λ r. ⌜ Put (now (out .entry)) at (minutes-text first last) r (now (out .exit)) ⌝ }
 {
     let to = put_decimal(first, MOST_DIGITS, out, at);
@@ -48,7 +50,7 @@ fn put_minutes(first: u64, last: u64, out: &mut [u8], at: usize) -> usize
 
 // Their clock times, where minute 0 is at this minute of the day.
 fn put_clocks(start: u64, first: u64, last: u64, out: &mut [u8], at: usize) -> usize
-    requires { ⌜ at + 15 ≤ length (now out) ⌝ }
+    requires { ⌜ at + clocks-most ≤ length (now out) ⌝ }
     ensures { λ r. ⌜ Put (now (out .entry)) at (clocks-text start first last) r (now (out .exit)) ⌝ }
 {
     let to = put_clock((start % DAY + first % DAY) % DAY, out, at);
