@@ -1,4 +1,5 @@
-// Refusals in words, written into a lent buffer: the one table that all programs print from. For command_line and position_lines, which lend room enough.
+// Refusals in words, written into a lent buffer: the one table that all programs print from. For command_line, position_lines and
+// list_lines, which lend room enough.
 ghost use Prim.Native.Nat.{_+_, _≤_};
 ghost use lib.ListN.{length};
 ghost use Rattle.units.specs.Refusals.{whole};
