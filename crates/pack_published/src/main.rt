@@ -1,4 +1,4 @@
-// The program `pack` on a published file, for its stored case.
+// The program `pack` on a published file that takes three reads, for its stored case: the first terms of Venus, with some blocks left out.
 use packing::pack_input;
 
 fn main() {

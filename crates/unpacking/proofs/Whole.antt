@@ -14,7 +14,7 @@ use Rattle.printer.specs.Printer.{plain-text, text-fits, printed, printed-out}
 use Rattle.printer.specs.declared.Printed.{Printed}
 use Rattle.printer.specs.declared.Printed.the-variants.{Length, NoText}
 use Rattle.printer_promises.proofs.Theorems.{longest}
-use Rattle.unpack.specs.Input.{text-limit, Input, all, begins, Roomy, Answered}
+use Rattle.unpacking.specs.Input.{text-limit, Input, all, begins, Roomy, Answered}
 
 -- No packed bytes are refused 7.
 never-seven : (x : List ℕ) (k : ℕ) → parse x ≡ refused (NoRoom k) → ⊥

@@ -1,11 +1,11 @@
--- `unpack::text_of` meets its contract: what `print` answers for the bytes that are held is the answer for the whole input. Assumes nothing.
+-- `unpacking::text_of` meets its contract: what `print` answers for the bytes that are held is the answer for the whole input. Assumes nothing.
 use mathlib.Core.Path.{sym}
 use native.Mathlib.Omega.{arith}
 use lib.Seq.{length-take-le}
-use Rattle.unpack.proofs.Whole.{answered}
+use Rattle.unpacking.proofs.Whole.{answered}
 use borrow.Author.Needs.{needs}
-use Rattle.unpack.proofs.text_of.Statement.{statement}
-use Rattle.unpack.proofs.text_of.Tie as tie
+use Rattle.unpacking.proofs.text_of.Statement.{statement}
+use Rattle.unpacking.proofs.text_of.Tie as tie
 
 slice-aggregate-print : tie.Need-slice-aggregate-print
 slice-aggregate-print c = sym (length-take-le _ _ (omega arith))

@@ -1,8 +1,8 @@
--- `unpack::main` is safe, and its buffers are long enough for any series and its text. Assumes nothing.
+-- `unpacking::unpack_input` is safe, and its buffers are long enough for any series and its text. Assumes nothing.
 use native.Mathlib.Omega.{arith}
 use borrow.Author.Needs.{needs}
-use Rattle.unpack.proofs.main.Statement.{statement}
-use Rattle.unpack.proofs.main.Tie as tie
+use Rattle.unpacking.proofs.unpack_input.Statement.{statement}
+use Rattle.unpacking.proofs.unpack_input.Tie as tie
 
 slice-aggregate-read-full : tie.Need-slice-aggregate-read-full
 slice-aggregate-read-full c = search needs
@@ -22,8 +22,8 @@ convert-requires c κs = record { held = omega arith; series = omega arith; text
 returns : tie.Need-returns
 returns c = search needs
 
-pub main-spec : {M : Type 1} → statement M
-main-spec =
+pub unpack-input-spec : {M : Type 1} → statement M
+unpack-input-spec =
     tie.close
     (tie.spec
     slice-aggregate-read-full
