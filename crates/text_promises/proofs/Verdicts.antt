@@ -168,19 +168,19 @@ is-whole c g = rw (lt-ltb 20 (21 + length (c .more)) (omega arith), lt-ltb (21 +
 -- The refusals that a count and a term can have, and the status after them.
 pub count-among : (P : ℕ → Type 0) → P 0 → P over-limit → P byte-after-end → (k : ℕ) (s : Tally) (n : ℕ) → P (count-refusal k s n)
 unfolding count-refusal
-count-among P none over after k s n = go (ltb k block-count) (count-fits s n)
+count-among P passes over after k s n = go (ltb k block-count) (count-fits s n)
   where
     go : (t u : Bool) → P (cond t (cond u 0 over-limit) byte-after-end)
-    go true true = none
+    go true true = passes
     go true false = over
     go false u = after
 
 pub term-among : (P : ℕ → Type 0) → P 0 → P over-limit → P total-over-limit → P too-coarse → (f : ℕ) (s : Tally) (m : ℕ) (t : Term) → P (term-line-refusal f s m t)
 unfolding term-line-refusal
-term-among P none over total coarse f s m t = go (eqb m 0)
+term-among P passes over total coarse f s m t = go (eqb m 0)
   where
     go : (b : Bool) → P (cond b (term-refusal f s t) over-limit)
-    go true = refusal-among P none over total coarse f s t
+    go true = refusal-among P passes over total coarse f s t
     go false = over
 
 pub wrote-status : (n : ℕ) → (0 ≡ n → ⊥) → (no-room ≡ n → ⊥) → (r : Reader) (out : List ℕ) (v : Verdict) → (v .refusal ≡ n → ⊥) → wrote r out v .status ≡ n → ⊥
