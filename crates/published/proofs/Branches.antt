@@ -22,11 +22,11 @@ use Rattle.series_lines.specs.machine.Writer.{put-bytes-answer}
 use Rattle.series_lines.proofs.Branches.{no-fit, fit, wrote-full, wrote-next}
 use Rattle.published_records.specs.declared.Row.{Row}
 use Rattle.published_records.specs.Rows.{lex-row, whole-row}
+use Rattle.published_headings.specs.Judge.{block-of, record-refusal, skipped, zeros}
+use Rattle.published_headings.proofs.Zeros.{length-zeros}
 use Rattle.published.specs.declared.Published.{Published}
-use Rattle.published.specs.Judge.{block-of, record-refusal, skipped, zeros}
 use Rattle.published.specs.Reader.{at-heading, halted, further, other, heading-end, record-end, verdict, judged, complete, step, step-out}
 use Rattle.published.specs.Reader.{inside, missing, finished, ended, ended-out}
-use Rattle.published.proofs.Zeros.{length-zeros}
 
 -- ---- A term record whose running number does not come next, or does: then it is judged as a line of a text.
 

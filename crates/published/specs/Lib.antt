@@ -1,4 +1,3 @@
--- The reader of published files: the judgement of a record (Judge), and the calls (Reader); and what only the code needs (machine).
-pub mod Judge
+-- The reader of published files: the calls (Reader), and what only the code needs (machine).
 pub mod Reader
 pub mod machine

@@ -18,8 +18,8 @@ use Rattle.series_lines.specs.Calls.{Run}
 use Rattle.series_lines.specs.Calls as calls-of
 use Rattle.published_records.specs.declared.Row.{Row}
 use Rattle.published_records.specs.Rows.{fresh-row, lex-row, whole-row}
+use Rattle.published_headings.specs.Judge.{block-of, heading-refusal, record-refusal, skipped, zeros, heading-packed}
 use Rattle.published.specs.declared.Published.{Published}
-use Rattle.published.specs.Judge.{block-of, heading-refusal, record-refusal, skipped, zeros, heading-packed}
 
 -- Before the first byte.
 abbrev pub begun-file : Published

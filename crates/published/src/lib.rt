@@ -1,9 +1,7 @@
 // The reader of published VSOP87D files (RULES, "Published files"): a file comes in pieces, and the packed form of its series is written record
 // by record into one buffer that each call lends.
-mod judge;
 mod rows;
 mod steps;
-mod writer;
 
 use crate::rows::take_row;
 use crate::steps::close;

@@ -1,16 +1,17 @@
 // The reader's steps: one byte, the end of a record, the end of the file. Ends of records are judged only where one more byte can be counted.
 use crate::Published;
-use crate::judge::block_of;
-use crate::judge::follows;
-use crate::judge::heading_refusal;
-use crate::judge::skip_blocks;
-use crate::writer::put_heading;
-use crate::writer::put_missing;
 use limits::Tally;
 use limits::add_term;
 use limits::block_factor;
 use limits::open_block;
 use packed_numbers::Put;
+use published_headings::judge::block_of;
+use published_headings::judge::follows;
+use published_headings::judge::heading_refusal;
+use published_headings::judge::missing_blocks;
+use published_headings::judge::skip_blocks;
+use published_headings::writer::put_heading;
+use published_headings::writer::put_missing;
 use published_records::rows::fresh_row;
 use published_records::rows::lex_row;
 use published_records::rows::whole_row;
@@ -27,10 +28,8 @@ use series_lines::steps::less_one;
 use series_lines::steps::next_spot;
 use series_lines::steps::stop;
 use series_lines::writer::put_term;
-use units::BLOCK_COUNT;
 ghost use mathlib.Core.Path.{_≡_};
-ghost use Prim.Native.Nat.{_+_, _-_, _≤_, _<_};
-ghost use Rattle.units.specs.Units.{block-count};
+ghost use Prim.Native.Nat.{_+_, _≤_, _<_};
 ghost use Rattle.series_lines.specs.Reader.{last-offset, wrote, wrote-out};
 ghost use Rattle.published.specs.Reader.{at-heading, halted, heading-end, record-end, verdict, next-last, judged};
 ghost use Rattle.published.specs.Reader.{other, step, step-out, finished, ended, ended-out};
@@ -206,16 +205,6 @@ pub fn take_byte(p: Published, byte: u8, out: &mut [u8]) -> Published
         return judge(p, out);
     }
     take_other(p, byte)
-}
-
-// The number of blocks that never came.
-fn missing_blocks(blocks: u64) -> u64
-    ensures { λ n. ⌜ n ≡ block-count - blocks ⌝ }
-{
-    if blocks < BLOCK_COUNT {
-        return BLOCK_COUNT - blocks;
-    }
-    0
 }
 
 // Accepted, with n bytes more, which were written.

@@ -18,8 +18,8 @@ use Rattle.series_lines.specs.Reader.{last-offset, uncounted, refusal}
 use Rattle.series_lines.specs.Reader as lines
 use Rattle.series_lines.specs.Calls.{Run}
 use Rattle.published_records.specs.Rows.{lex-row, whole-row}
+use Rattle.published_headings.specs.Judge.{in-order, heading-refusal, record-refusal}
 use Rattle.published.specs.declared.Published.{Published}
-use Rattle.published.specs.Judge.{in-order, heading-refusal, record-refusal}
 use Rattle.published.specs.Reader.{begun-file, at-heading, other, verdict, complete, step, step-out, run, ended, told, whole}
 use Rattle.integers.proofs.Tests.{by-cases}
 use Rattle.text_promises.proofs.Verdicts.{term-among, wrote-status}

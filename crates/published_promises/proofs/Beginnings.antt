@@ -14,8 +14,8 @@ use Rattle.series_lines.specs.Grammar.{feed, AnyLine, any-packed}
 use Rattle.series_lines.specs.Reader.{last-offset, next-spot}
 use Rattle.series_lines.proofs.WrittenTerm.{sets-append}
 use Rattle.published_records.specs.Layout.{Heading, heading-bytes, TermRecord, record-bytes}
+use Rattle.published_headings.specs.Judge.{theory-version, coordinate-count, block-of, in-order}
 use Rattle.published.specs.declared.Published.{Published}
-use Rattle.published.specs.Judge.{theory-version, coordinate-count, block-of, in-order}
 use Rattle.published.specs.Reader.{begun-file, run}
 use Rattle.published_promises.specs.HandCut.{AnyRecord, a-heading, a-record, any-record-bytes, file-bytes, cut-one, blocks-with}
 use Rattle.published_promises.specs.HandCut.{cut-records, blocks-of}

@@ -20,7 +20,7 @@ use Rattle.series_lines.specs.declared.Outcome.the-variants.{Refused}
 use Rattle.series_lines.specs.Grammar.{feed, spaces, digit-0, digits, AllDigits, numeral, decimal, count, count-bytes, GoodCount, CountLine, term-bytes}
 use Rattle.series_lines.specs.Grammar.{AnyLine, a-count, a-term, line-bytes, line-packed, any-bytes, any-packed}
 use Rattle.published_records.specs.Layout.{Heading, heading-bytes, GoodHeading, TermRecord, record-bytes, GoodRecord, cut-term}
-use Rattle.published.specs.Judge.{skipped}
+use Rattle.published_headings.specs.Judge.{skipped}
 use Rattle.integers.proofs.Tests.{by-cases}
 use Rattle.text_promises.specs.Decided as text
 use Rattle.text_promises.proofs.Beginnings.{bytes-more, bytes-length, packed-length}

@@ -26,8 +26,8 @@ use Rattle.series_lines.specs.Calls.{Run}
 use Rattle.published_records.specs.declared.Row.{Row}
 use Rattle.published_records.specs.Layout.{Heading, heading-bytes, GoodHeading, TermRecord, record-bytes, GoodRecord, NoFeed, cut-term}
 use Rattle.published_records.specs.Rows.{fresh-row, lex-row, lex-rows, whole-row}
+use Rattle.published_headings.specs.Judge.{in-order, zeros}
 use Rattle.published.specs.declared.Published.{Published}
-use Rattle.published.specs.Judge.{in-order, zeros}
 use Rattle.published.specs.Reader.{begun-file, run, inside, ended, ended-out, told, whole}
 use Rattle.published_promises.specs.HandCut.{AnyRecord, a-heading, a-record, any-record-bytes, file-bytes, cut-one, cut-records}
 use Rattle.published_promises.specs.Decided.{Beginning, empty, with-heading, with-record, packed-so-far, Stands}

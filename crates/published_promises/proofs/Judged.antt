@@ -21,8 +21,8 @@ use Rattle.series_lines.specs.Reader.{last-offset, after-line, fits, wrote, put
 use Rattle.published_records.specs.declared.Row.{Row}
 use Rattle.published_records.specs.Layout.{Heading, heading-bytes, GoodHeading, TermRecord, record-bytes, GoodRecord, NoFeed, cut-term}
 use Rattle.published_records.specs.Rows.{fresh-row, lex-rows, whole-row}
+use Rattle.published_headings.specs.Judge.{in-order, heading-refusal, record-refusal, skipped, zeros, heading-packed}
 use Rattle.published.specs.declared.Published.{Published}
-use Rattle.published.specs.Judge.{in-order, heading-refusal, record-refusal, skipped, zeros, heading-packed}
 use Rattle.published.specs.Reader.{at-heading, heading-end, record-end, verdict, next-last, judged, step, run}
 use Rattle.published_promises.specs.HandCut.{AnyRecord, a-heading, a-record, heading-block, zero-lines, cut-one}
 use Rattle.published_promises.specs.Decided.{Awaits, CanBegin, IsWhole}

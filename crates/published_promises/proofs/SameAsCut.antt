@@ -15,7 +15,7 @@ use Rattle.series_lines.specs.declared.Outcome.the-variants.{Accepted, Refused}
 use Rattle.series_lines.specs.Grammar.{AnyLine, any-bytes, any-packed}
 use Rattle.series_lines.specs.Reader.{last-offset, told}
 use Rattle.series_lines.specs.Calls.{Run, joined}
-use Rattle.published.specs.Judge.{skipped}
+use Rattle.published_headings.specs.Judge.{skipped}
 use Rattle.published.specs.declared.Published.{Published}
 use Rattle.published.specs.Reader as published
 use Rattle.text.specs.Reader.{whole}

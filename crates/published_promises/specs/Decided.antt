@@ -17,7 +17,7 @@ use Rattle.series_lines.specs.declared.Outcome.the-variants.{More, Accepted, Re
 use Rattle.series_lines.specs.Grammar.{feed, size, value, count, term-of-line, any-packed, TermInLimits}
 use Rattle.text_promises.specs.Decided.{NumbersInLimits}
 use Rattle.published_records.specs.Layout.{Heading, heading-bytes, GoodHeading, TermRecord, record-bytes, GoodRecord, cut-term}
-use Rattle.published.specs.Judge.{in-order, skipped}
+use Rattle.published_headings.specs.Judge.{in-order, skipped}
 use Rattle.published_promises.specs.HandCut.{AnyRecord, a-heading, a-record, file-bytes, heading-block, cut-one, cut-records, zero-lines}
 
 -- ---- A good beginning.

@@ -5,7 +5,7 @@ use Prim.Native.Nat.{ℕ, zero, suc, _+_, _-_}
 use Rattle.units.specs.Units.{block-count}
 use Rattle.series_lines.specs.Grammar.{feed, AnyLine, a-count, a-term, any-bytes}
 use Rattle.published_records.specs.Layout.{Heading, heading-bytes, TermRecord, record-bytes, cut-term}
-use Rattle.published.specs.Judge.{block-of}
+use Rattle.published_headings.specs.Judge.{block-of}
 
 -- A record of either kind.
 pub data AnyRecord : Type 0 where

@@ -12,7 +12,7 @@ use Rattle.series_lines.specs.declared.Outcome.the-variants.{Accepted, Refused}
 use Rattle.series_lines.specs.Grammar.{count, any-bytes, any-packed}
 use Rattle.series_lines.specs.Reader.{refusal, told}
 use Rattle.published_records.specs.Layout.{Heading, heading-bytes, GoodHeading, TermRecord, GoodRecord}
-use Rattle.published.specs.Judge.{in-order}
+use Rattle.published_headings.specs.Judge.{in-order}
 use Rattle.published.specs.Reader as published
 use Rattle.text.specs.Reader as text
 use Rattle.published_promises.specs.HandCut.{AnyRecord, a-heading, a-record, any-record-bytes, file-bytes, heading-block}

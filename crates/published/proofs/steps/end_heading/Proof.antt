@@ -6,8 +6,8 @@ use borrow.Author.Needs.{needs}
 use Rattle.limits.specs.Limits.{count-fits}
 use Rattle.series_lines.specs.Judge.{tally}
 use Rattle.series_lines.proofs.Branches.{wrote-refused}
+use Rattle.published_headings.proofs.Judged.{InOrder, unrefused, no-terms-fit, skipped-fits}
 use Rattle.published.specs.Reader.{heading-end}
-use Rattle.published.proofs.Judged.{InOrder, unrefused, no-terms-fit, skipped-fits}
 use Rattle.published.proofs.Branches.{heading-full, heading-next}
 use Rattle.published.proofs.steps.end_heading.Statement.{statement}
 use Rattle.published.proofs.steps.end_heading.Tie as tie

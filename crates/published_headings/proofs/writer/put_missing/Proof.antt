@@ -1,12 +1,12 @@
--- `published::writer::put_missing` meets its contract. Assumes nothing.
+-- `published_headings::writer::put_missing` meets its contract. Assumes nothing.
 use mathlib.Core.Path.{sym, ap, _∙_}
 use Prim.Native.Nat.{ℕ, _+_}
 use native.Mathlib.Omega.{arith}
 use borrow.Author.Needs.{needs}
 use Rattle.series_lines.proofs.WrittenTerm.{put-full, put-next}
-use Rattle.published.proofs.Zeros.{length-zeros}
-use Rattle.published.proofs.writer.put_missing.Statement.{statement}
-use Rattle.published.proofs.writer.put_missing.Tie as tie
+use Rattle.published_headings.proofs.Zeros.{length-zeros}
+use Rattle.published_headings.proofs.writer.put_missing.Statement.{statement}
+use Rattle.published_headings.proofs.writer.put_missing.Tie as tie
 
 returns : tie.Need-returns
 returns c = let a = c .before .before .args in put-full _ _ _ _ (sym (length-zeros (a .n))) (omega arith)

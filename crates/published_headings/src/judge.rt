@@ -1,16 +1,17 @@
-// The judgement of a record's numbers: refusals 13, 14 and 4, and the tally with the blocks that have no heading. For the steps, which judge a
-// whole record and go on only with one that is not refused.
+// The judgement of a record's numbers: refusals 13, 14 and 4, and the tally with the blocks that have no heading. For the steps of the crate
+// published, which judge a whole record and go on only with one that is not refused.
 use limits::Tally;
 use limits::count_fits;
 use limits::open_block;
+use units::BLOCK_COUNT;
 use units::POWERS;
 ghost use mathlib.Core.Path.{_≡_};
 ghost use mathlib.Core.Bool.{true};
 ghost use Prim.Native.Nat.{_+_, _-_, _<_, _≤_};
 ghost use lib.Dec.{eqb};
-ghost use Rattle.units.specs.Units.{powers};
+ghost use Rattle.units.specs.Units.{powers, block-count};
 ghost use Rattle.limits.specs.Limits.{count-fits};
-ghost use Rattle.published.specs.Judge.{coordinate-count, block-of, in-order, heading-refusal, skipped};
+ghost use Rattle.published_headings.specs.Judge.{coordinate-count, block-of, in-order, heading-refusal, skipped};
 
 // The version of the theory, and longitude, latitude and radius; specs/Judge.antt has the same names.
 const THEORY_VERSION: u64 = 4;
@@ -76,6 +77,16 @@ pub fn skip_blocks(k: u64, end: u64, tally: Tally) -> Tally
         i = i + 1;
     }
     s
+}
+
+// The number of blocks that never came.
+pub fn missing_blocks(blocks: u64) -> u64
+    ensures { λ n. ⌜ n ≡ block-count - blocks ⌝ }
+{
+    if blocks < BLOCK_COUNT {
+        return BLOCK_COUNT - blocks;
+    }
+    0
 }
 
 // The running number of a record comes after the last one.

@@ -1,9 +1,9 @@
--- `published::judge::block_of` meets its contract. Assumes nothing.
+-- `published_headings::judge::block_of` meets its contract. Assumes nothing.
 use mathlib.Core.Path.{refl}
 use borrow.Author.Needs.{needs}
-use Rattle.published.specs.Judge.{block-of}
-use Rattle.published.proofs.judge.block_of.Statement.{statement}
-use Rattle.published.proofs.judge.block_of.Tie as tie
+use Rattle.published_headings.specs.Judge.{block-of}
+use Rattle.published_headings.proofs.judge.block_of.Statement.{statement}
+use Rattle.published_headings.proofs.judge.block_of.Tie as tie
 
 sub-result : tie.Need-sub-result
 sub-result c = search needs

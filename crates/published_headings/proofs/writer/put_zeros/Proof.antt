@@ -1,9 +1,9 @@
--- `published::writer::put_zeros` meets its contract. Assumes nothing.
+-- `published_headings::writer::put_zeros` meets its contract. Assumes nothing.
 use Prim.Native.Nat.{_+_, _-_}
 use native.Mathlib.Omega.{arith}
-use Rattle.published.proofs.Zeros.{Zeroed, zeroed-none, zeroed-more, zeroed-done}
-use Rattle.published.proofs.writer.put_zeros.Statement.{statement}
-use Rattle.published.proofs.writer.put_zeros.Tie as tie
+use Rattle.published_headings.proofs.Zeros.{Zeroed, zeroed-none, zeroed-more, zeroed-done}
+use Rattle.published_headings.proofs.writer.put_zeros.Statement.{statement}
+use Rattle.published_headings.proofs.writer.put_zeros.Tie as tie
 
 abbrev Inv-loop : tie.InvT-loop
 Inv-loop n out₀ at end i₀ out i = Zeroed out₀ at n out i

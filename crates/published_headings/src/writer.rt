@@ -1,5 +1,5 @@
-// The writer of counts: zeros for the blocks that have no heading, and the count of one (refusal 7: no room for all of them). For the steps, which
-// write what was judged: at most one zero for each block.
+// The writer of counts: zeros for the blocks that have no heading, and the count of one (refusal 7: no room for all of them). For the steps of the
+// crate published, which write what was judged: at most one zero for each block.
 use packed_numbers::Put;
 use packed_numbers::groups_of;
 use packed_numbers::put_groups;
@@ -12,7 +12,7 @@ ghost use Rattle.units.specs.Units.{block-count};
 ghost use Rattle.packed_numbers.specs.Numbers.{encode};
 ghost use Rattle.series_lines.specs.Reader.{put-bytes};
 ghost use Rattle.series_lines.specs.machine.Writer.{put-bytes-answer};
-ghost use Rattle.published.specs.Judge.{zeros};
+ghost use Rattle.published_headings.specs.Judge.{zeros};
 
 // Writes n zeros from at, where they fit.
 fn put_zeros(n: usize, out: &mut [u8], at: usize) -> usize

@@ -10,7 +10,7 @@ use Rattle.units.specs.Units.{powers, block-count}
 use Rattle.limits.specs.declared.Tally.{Tally}
 use Rattle.limits.specs.Limits.{opened, count-fits}
 use Rattle.limits.proofs.Passing.{count-passed, count-passes}
-use Rattle.published.specs.Judge.{theory-version, coordinate-count, block-of, in-order, heading-refusal, skipped}
+use Rattle.published_headings.specs.Judge.{theory-version, coordinate-count, block-of, in-order, heading-refusal, skipped}
 
 -- The running number after the last one.
 pub number-none : (last number : ℕ) → number ≡ 0 → false ≡ eqb number (last + 1)

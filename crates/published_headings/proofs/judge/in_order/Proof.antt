@@ -1,11 +1,11 @@
--- `published::judge::in_order` meets its contract. Assumes nothing.
+-- `published_headings::judge::in_order` meets its contract. Assumes nothing.
 use native.Mathlib.Omega.{arith}
 use borrow.Author.Needs.{needs}
 use borrow.Author.Tests.{eq-eqb, ne-eqb, le-leb, lt-leb, lt-ltb, le-ltb}
 use Rattle.units.specs.Units.{powers}
-use Rattle.published.specs.Judge.{theory-version, coordinate-count, in-order}
-use Rattle.published.proofs.judge.in_order.Statement.{statement}
-use Rattle.published.proofs.judge.in_order.Tie as tie
+use Rattle.published_headings.specs.Judge.{theory-version, coordinate-count, in-order}
+use Rattle.published_headings.proofs.judge.in_order.Statement.{statement}
+use Rattle.published_headings.proofs.judge.in_order.Tie as tie
 
 returns : tie.Need-returns
 unfolding in-order

@@ -1,13 +1,13 @@
--- `published::judge::skip_blocks` meets its contract: what is left to skip gives what all of it gives. Assumes nothing.
+-- `published_headings::judge::skip_blocks` meets its contract: what is left to skip gives what all of it gives. Assumes nothing.
 use mathlib.Core.Path.{_≡_, refl, sym, _∙_}
 use mathlib.Core.Bool.{true}
 use Prim.Native.Nat.{_-_}
 use native.Mathlib.Omega.{arith}
 use Rattle.limits.specs.Limits.{count-fits}
-use Rattle.published.specs.Judge.{skipped}
-use Rattle.published.proofs.Judged.{opened-fits, skip-more, skip-end}
-use Rattle.published.proofs.judge.skip_blocks.Statement.{statement}
-use Rattle.published.proofs.judge.skip_blocks.Tie as tie
+use Rattle.published_headings.specs.Judge.{skipped}
+use Rattle.published_headings.proofs.Judged.{opened-fits, skip-more, skip-end}
+use Rattle.published_headings.proofs.judge.skip_blocks.Statement.{statement}
+use Rattle.published_headings.proofs.judge.skip_blocks.Tie as tie
 
 abbrev Inv-loop : tie.InvT-loop
 Inv-loop k end s₀ i₀ s i = (count-fits s 0 ≡ true) × (skipped i (end - i) s ≡ skipped k (end - k) s₀)

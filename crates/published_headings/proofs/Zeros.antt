@@ -8,7 +8,7 @@ use lib.ListN.{length, set, length-set, length-append}
 use lib.Seq.{sets}
 use Rattle.packed_numbers.specs.Numbers.{encode}
 use Rattle.series_lines.proofs.WrittenTerm.{sets-append}
-use Rattle.published.specs.Judge.{zeros}
+use Rattle.published_headings.specs.Judge.{zeros}
 
 pub length-zeros : (n : ℕ) → length (zeros n) ≡ n
 unfolding zeros

@@ -1,4 +1,4 @@
--- `published::writer::put_heading` meets its contract. Assumes nothing.
+-- `published_headings::writer::put_heading` meets its contract. Assumes nothing.
 use mathlib.Core.Path.{_≡_, sym, ap, _∙_}
 use mathlib.Core.List.{_++_}
 use Prim.Native.Nat.{ℕ, _+_}
@@ -8,10 +8,10 @@ use lib.ListN.{length}
 use Rattle.packed_numbers.specs.Numbers.{encode}
 use Rattle.packed_numbers.proofs.Encode.{encode-short}
 use Rattle.series_lines.proofs.WrittenTerm.{put-full, put-next}
-use Rattle.published.specs.Judge.{zeros}
-use Rattle.published.proofs.Zeros.{heading-length, heading-stored}
-use Rattle.published.proofs.writer.put_heading.Statement.{statement}
-use Rattle.published.proofs.writer.put_heading.Tie as tie
+use Rattle.published_headings.specs.Judge.{zeros}
+use Rattle.published_headings.proofs.Zeros.{heading-length, heading-stored}
+use Rattle.published_headings.proofs.writer.put_heading.Statement.{statement}
+use Rattle.published_headings.proofs.writer.put_heading.Tie as tie
 
 groups-of-requires : tie.Need-groups-of-requires
 groups-of-requires c κs = search needs

@@ -1,10 +1,10 @@
--- `published::judge::heading_refusal` meets its contract. Assumes nothing.
+-- `published_headings::judge::heading_refusal` meets its contract. Assumes nothing.
 use mathlib.Core.Path.{sym, _∙_}
 use borrow.Author.Needs.{needs}
 use borrow.Author.Tests.{not-true, not-false}
-use Rattle.published.specs.Judge.{heading-refusal}
-use Rattle.published.proofs.judge.heading_refusal.Statement.{statement}
-use Rattle.published.proofs.judge.heading_refusal.Tie as tie
+use Rattle.published_headings.specs.Judge.{heading-refusal}
+use Rattle.published_headings.proofs.judge.heading_refusal.Statement.{statement}
+use Rattle.published_headings.proofs.judge.heading_refusal.Tie as tie
 
 in-order-requires : tie.Need-in-order-requires
 in-order-requires c κs = search needs

@@ -1,8 +1,8 @@
--- `published::judge::follows` meets its contract. Assumes nothing.
+-- `published_headings::judge::follows` meets its contract. Assumes nothing.
 use borrow.Author.Needs.{needs}
-use Rattle.published.proofs.Judged.{number-none, number-some}
-use Rattle.published.proofs.judge.follows.Statement.{statement}
-use Rattle.published.proofs.judge.follows.Tie as tie
+use Rattle.published_headings.proofs.Judged.{number-none, number-some}
+use Rattle.published_headings.proofs.judge.follows.Statement.{statement}
+use Rattle.published_headings.proofs.judge.follows.Tie as tie
 
 returns : tie.Need-returns
 returns c = let a = c .before .args in number-none (a .last) (a .number) (c .if1 .taken)

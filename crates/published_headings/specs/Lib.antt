@@ -1,0 +1,2 @@
+-- The judgement of a record of a published file.
+pub mod Judge
