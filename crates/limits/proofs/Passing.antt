@@ -105,7 +105,8 @@ module _ (f : ℕ) (s : Tally) (t : Term) where
       go false pa b pb c pc u pu w pw e = absurd (omega arith)
 
 -- The refusals that a term can have.
-pub refusal-among : (P : ℕ → Type 0) → P 0 → P over-limit → P total-over-limit → P too-coarse → (f : ℕ) (s : Tally) (t : Term) → P (term-refusal f s t)
+pub refusal-among : (P : ℕ → Type 0) → P 0 → P over-limit → P total-over-limit → P too-coarse
+    → (f : ℕ) (s : Tally) (t : Term) → P (term-refusal f s t)
 unfolding term-refusal
 refusal-among P none over total coarse f s t = go (numbers-fit t) (total-fits s (t .a)) (coarse-fits f s (t .a) (t .b) (t .c))
   where

@@ -48,7 +48,9 @@ module _ (bytes : List ℕ) where
   groups-placed [] k acc at e = off (early {n = at} (omega arith))
   groups-placed (b ∷ x) k acc at e =
       either (ltb b 128)
-      (either (eqb b 0) (either (eqb k 0) (on (omega arith) (omega arith)) (off (unshortened {at = at} (omega arith)))) (on (omega arith) (omega arith)))
+      (either (eqb b 0)
+      (either (eqb k 0) (on (omega arith) (omega arith)) (off (unshortened {at = at} (omega arith))))
+      (on (omega arith) (omega arith)))
       (either (leb 8 k) (off (over {at = at} (omega arith)))
       (later (at + 1) (omega arith) (groups-placed x (k + 1) (acc + (b - 128) * 128 ^ k) (at + 1) (omega arith))))
 
@@ -60,7 +62,8 @@ module _ (bytes : List ℕ) where
   unfolding read-a
   a-placed s at x e =
       then 1 (number at x) _ (number-placed at x e) (λ v to rest p h.
-      last (a-fits (unfolded v)) OverLimit to rest (λ at l. over l) p h (last (total-fits s (unfolded v)) TotalOverLimit to rest (λ at l. total l) p h (on p h)))
+      last (a-fits (unfolded v)) OverLimit to rest (λ at l. over l) p h
+      (last (total-fits s (unfolded v)) TotalOverLimit to rest (λ at l. total l) p h (on p h)))
 
   b-placed : (at : ℕ) (x : List ℕ) → at + length x ≡ length bytes → Placed 1 (read-b at x)
   unfolding read-b
@@ -70,7 +73,8 @@ module _ (bytes : List ℕ) where
   unfolding read-c
   c-placed f s a b at x e =
       then 1 (number at x) _ (number-placed at x e) (λ v to rest p h.
-      last (c-fits (unfolded v)) OverLimit to rest (λ at l. over l) p h (last (coarse-fits f s a b (unfolded v)) TooCoarse to rest (λ at l. coarse l) p h (on p h)))
+      last (c-fits (unfolded v)) OverLimit to rest (λ at l. over l) p h
+      (last (coarse-fits f s a b (unfolded v)) TooCoarse to rest (λ at l. coarse l) p h (on p h)))
 
   term-placed : (f : ℕ) (s : Tally) (at : ℕ) (x : List ℕ) → at + length x ≡ length bytes → Placed 1 (read-term f s at x)
   unfolding read-term

@@ -58,7 +58,9 @@ pub unrefused : (done : ℕ) (s : Tally) (version coordinate power n : ℕ) → 
 unfolding heading-refusal
 unrefused done s version coordinate power n e =
     by-cases (in-order done version coordinate power)
-    (λ p. by-cases (count-fits s n) (λ q. (orderly done version coordinate power p, q)) (λ q. absurd (apart over-limit (λ x. omega (arith, x)) (rw (p, q) at e))))
+    (λ p. by-cases (count-fits s n)
+    (λ q. (orderly done version coordinate power p, q))
+    (λ q. absurd (apart over-limit (λ x. omega (arith, x)) (rw (p, q) at e))))
     (λ p. absurd (apart bad-heading (λ x. omega (arith, x)) (rw p at e)))
   where
     apart : (x : ℕ) → (x ≡ 0 → ⊥) → x ≡ 0 → ⊥

@@ -1,5 +1,5 @@
-// The judgement of a record's numbers: its place in the order and its count, and the tally with the blocks that have no heading. For the steps of the crate
-// published, which judge a whole record and go on only with one that is not refused.
+// The judgement of a record's numbers: the order and the count of headings, running numbers, and the tally with the blocks that have no heading.
+// For the steps of the crate published, which judge a whole record and go on only with one that is not refused.
 use limits::Tally;
 use limits::count_fits;
 use limits::open_block;

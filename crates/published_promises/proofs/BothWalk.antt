@@ -155,7 +155,8 @@ module _ (out : List ℕ) (rs : List AnyRecord) (k n m : ℕ) (s : Tally) (b : B
           by-cases (total-fits s (value (t .a)))
           (λ u. by-cases (coarse-fits (factor (k - 1)) s (value (t .a)) (size (t .b)) (value (t .c)))
           (λ v. goes-on (record { from-zero = x .from-zero; a = x .a; b = x .b; c = x .c; total = u; coarse = v }))
-          (λ v. stops-there numbers.too-coarse coarse (λ more. too-coarse t more g number x u v) (λ more. text.too-coarse (cut-term t) more good-line x u v)))
+          (λ v. stops-there numbers.too-coarse coarse (λ more. too-coarse t more g number x u v)
+          (λ more. text.too-coarse (cut-term t) more good-line x u v)))
           (λ u. stops-there total-over-limit total (λ more. total-over t more g number x u) (λ more. text.total-over (cut-term t) more good-line x u))
 
 -- With a heading more: first the lines `0` of the blocks before it, then its count.
@@ -240,7 +241,8 @@ module _ (out : List ℕ) (rs : List AnyRecord) (k m : ℕ) (s : Tally) (o : Ord
       (cut-at _ _ (text-stops out d r counted (of-number no-room count-place)
       (λ more. text.no-room-count (h .count) more block (g .count) (same ∙ e) (omega (arith, f, packed-length filled counted))))))))
       (λ e. off (alike out rs (a-heading h) over-limit count-place over in-count _ _ (file-over e)
-      (cut-at _ _ (text-stops out d r counted (of-number over-limit count-place) (λ more. text.count-over (h .count) more block (g .count) (same ∙ e))))))
+      (cut-at _ _ (text-stops out d r counted (of-number over-limit count-place)
+      (λ more. text.count-over (h .count) more block (g .count) (same ∙ e))))))
 
   -- They have not.
   without-counts : (place : ℕ) (left : List ℕ) → length (any-bytes (cut-records 0 rs)) ≤ place → place < length (any-bytes filled)

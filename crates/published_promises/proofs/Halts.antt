@@ -31,7 +31,8 @@ use Rattle.published_promises.specs.Decided.{out-of-order, count-over, w
 use Rattle.integers.proofs.Tests.{by-cases}
 use Rattle.published_promises.proofs.Records.{no-feed-append}
 use Rattle.published_promises.proofs.Lines.{in-record, st, kind, run-none, run-one, stays, step-bad, step-feed, one-more, begun-past, row-run}
-use Rattle.published_promises.proofs.Judged.{verdict-early, Says, begins, live, no-feed, whole-in, heading-can, record-can, heading-says, record-says}
+use Rattle.published_promises.proofs.Judged.{verdict-early, Says, begins, live, no-feed}
+use Rattle.published_promises.proofs.Judged.{whole-in, heading-can, record-can, heading-says, record-says}
 use Rattle.published_promises.proofs.Judged.{heading-judged, order-refused, heading-count-refused, heading-zero}
 use Rattle.published_promises.proofs.Judged.{record-judged, record-number-refused, record-limit-refused, record-total-refused, record-coarse-refused, record-zero}
 
@@ -169,7 +170,8 @@ module _ (at w k n m : ℕ) (s : Tally) (o : List ℕ) where
   module _ (xs more : List ℕ) (r : AnyRecord) (j blocks left last : ℕ) (after : Tally) (a : Awaits k n) (c : CanBegin n xs)
       (y : Says (at + length xs) w k n m s (lex-rows (kind n) fresh-row xs) r j blocks left last after)
       (l : at + length (xs ++ (feed ∷ more)) ≤ last-offset) where
-    judged-halts : (d : ℕ) → j ≡ d → eqb d 0 ≡ false → eqb d 1 ≡ false → Halts (st at w k n m s) o (xs ++ (feed ∷ more)) (of-number d (at + length xs))
+    judged-halts : (d : ℕ) → j ≡ d → eqb d 0 ≡ false → eqb d 1 ≡ false
+        → Halts (st at w k n m s) o (xs ++ (feed ∷ more)) (of-number d (at + length xs))
     judged-halts d e =
         feed-halts at w k n m s o xs a (no-feed n xs c) (live n xs c) (inside-record at xs feed more l) d more (y .refusal ∙ e)
 

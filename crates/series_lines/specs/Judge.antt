@@ -28,8 +28,8 @@ signed minus value = sgn (ltb 0 minus) value
 abbrev pub term-on-line : Line → Term
 term-on-line l = record { a = signed (l .minusa) (l .a); b = l .b; c = signed (l .minus) (l .value) }
 
--- What a whole line says: the number of the refusal of its numbers, or 0; its packed bytes; and with it the counts so far, the terms left of the block
--- and the tally.
+-- What a whole line says: the number of the refusal of its numbers, or 0; its packed bytes; and with it the counts so far, the terms left of
+-- the block and the tally.
 pub record Verdict : Type 0 where
   pub refusal : ℕ
   pub bytes : List ℕ

@@ -183,7 +183,8 @@ module _ (f : ℕ) (s : Tally) (l : TermLine) where
       go : (m : Bool) → l .b .minus ≡ m → (a : Bool) → a-fits (value (l .a)) ≡ a → (b : Bool) → b-fits (size (l .b)) ≡ b
           → (c : Bool) → c-fits (value (l .c)) ≡ c
           → _≡_ {A = ℕ} (cond (eqb (flag m) 0) (cond (a && (b && c)) (cond (total-fits s (value (l .a)))
-          (cond (coarse-fits f s (value (l .a)) (size (l .b)) (value (l .c))) 0 numbers.too-coarse) total-over-limit) over-limit) over-limit) over-limit
+          (cond (coarse-fits f s (value (l .a)) (size (l .b)) (value (l .c))) 0 numbers.too-coarse)
+          total-over-limit) over-limit) over-limit) over-limit
       go true pm a pa b pb c pc = refl
       go false pm true pa true pb true pc = absurd (h (record { from-zero = pm; a = pa; b = pb; c = pc }))
       go false pm true pa true pb false pc = refl
@@ -194,7 +195,8 @@ module _ (f : ℕ) (s : Tally) (l : TermLine) where
   unfolding term-line-refusal flag
   from-zero e = ap (λ (m : Bool). cond (eqb (flag m) 0) (term-refusal f s (term-of-line l)) over-limit) e
 
-  pub total-refused : NumbersInLimits l → total-fits s (value (l .a)) ≡ false → term-line-refusal f s (flag (l .b .minus)) (term-of-line l) ≡ total-over-limit
+  pub total-refused : NumbersInLimits l → total-fits s (value (l .a)) ≡ false
+      → term-line-refusal f s (flag (l .b .minus)) (term-of-line l) ≡ total-over-limit
   total-refused p e = from-zero (p .from-zero) ∙ go (p .a) (p .b) (p .c) e
     where
       go : a-fits (value (l .a)) ≡ true → b-fits (size (l .b)) ≡ true → c-fits (value (l .c)) ≡ true → total-fits s (value (l .a)) ≡ false
@@ -289,7 +291,8 @@ after-halts at w s o b more h =
     let t = by-after (λ e. omega (arith, e)) in
     subst (λ (i : ℕ). Halts (sp i at w 18 0 s) o (b ∷ more) (ByteAfterEnd at)) (sym spot-after)
     (halts r o (b ∷ more) (ByteAfterEnd at) r byte-after-end
-    (ap (λ (y : List ℕ). run (step r o b) y more) (t .1) ∙ ap (λ (q : Reader). run q o more) (t .0) ∙ stays more (stopped r byte-after-end) o (λ q. omega (arith, q)))
+    (ap (λ (y : List ℕ). run (step r o b) y more) (t .1) ∙ ap (λ (q : Reader). run q o more) (t .0)
+    ∙ stays more (stopped r byte-after-end) o (λ q. omega (arith, q)))
     refl refl refl)
   where
     by-after : (at ≡ last-offset → ⊥)

@@ -51,7 +51,8 @@ step-in r out byte g h k =
     let w = ne-eqb byte 10 h in
     (rw (t, u, v, w, ne-eqb (lex (r .line) byte .spot) 31 k), rw (t, u, v, w))
 
-pub step-bad : (r : Reader) (out : List ℕ) (byte : ℕ) → Going r → (byte ≡ 10 → ⊥) → lex (r .line) byte .spot ≡ 31 → step r out byte ≡ stopped r bad-byte
+pub step-bad : (r : Reader) (out : List ℕ) (byte : ℕ) → Going r → (byte ≡ 10 → ⊥)
+    → lex (r .line) byte .spot ≡ 31 → step r out byte ≡ stopped r bad-byte
 unfolding step uncounted other
 step-bad r out byte g h k =
     rw (

@@ -175,7 +175,8 @@ count-among P passes over after k s n = go (ltb k block-count) (count-fits s n)
     go true false = over
     go false u = after
 
-pub term-among : (P : ℕ → Type 0) → P 0 → P over-limit → P total-over-limit → P too-coarse → (f : ℕ) (s : Tally) (m : ℕ) (t : Term) → P (term-line-refusal f s m t)
+pub term-among : (P : ℕ → Type 0) → P 0 → P over-limit → P total-over-limit → P too-coarse
+    → (f : ℕ) (s : Tally) (m : ℕ) (t : Term) → P (term-line-refusal f s m t)
 unfolding term-line-refusal
 term-among P passes over total coarse f s m t = go (eqb m 0)
   where
@@ -183,7 +184,8 @@ term-among P passes over total coarse f s m t = go (eqb m 0)
     go true = refusal-among P passes over total coarse f s t
     go false = over
 
-pub wrote-status : (n : ℕ) → (0 ≡ n → ⊥) → (no-room ≡ n → ⊥) → (r : Reader) (out : List ℕ) (v : Verdict) → (v .refusal ≡ n → ⊥) → wrote r out v .status ≡ n → ⊥
+pub wrote-status : (n : ℕ) → (0 ≡ n → ⊥) → (no-room ≡ n → ⊥)
+    → (r : Reader) (out : List ℕ) (v : Verdict) → (v .refusal ≡ n → ⊥) → wrote r out v .status ≡ n → ⊥
 unfolding wrote
 wrote-status n a b r out v h =
     by-cases (eqb (v .refusal) 0)

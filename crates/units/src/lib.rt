@@ -97,12 +97,12 @@ pub struct Coordinates {
     pub radius: i64,
 }
 
-// Why a call gives no answer, in the order of its numbers. One more refusal wants (CONTRIBUTING.md names the documents too):
-// - its case here, and an arm in `number` and in `figure` below (whose proof has a `cc` for each arm that has a figure);
-// - a line in both definitions of specs/Refusals.antt;
+// Why a call gives no answer, in the order of its numbers. One more refusal wants (CONTRIBUTING.md has the whole list, with the documents):
+// - its case here, the constant of its number, and an arm in `number` and in `figure` below; in `of_number` too where a reader of series gives it;
+// - the same in specs/Refusals.antt, and a line in proofs/Refusals.antt and proofs/Refusal/figure;
 // - its words, in `words` and `put_words` of the crate refusal_words;
 // - a line in the table of include/stephylax.h, and its name in the enum there;
-// - its case in the host's enum, host/src/refusal.rs, its line in the help, and its name and words in python/stephylax.py.
+// - its line in the host's table, host/src/refusal.rs, its line in the help, and its name and words in python/stephylax.py.
 pub enum Refusal {
     // 1: the first field of a date that does not exist, 1 year, 2 month, 3 day, 4 ms; 5 a day number.
     NoSuchDate(u64),
