@@ -52,11 +52,11 @@ mul-wide-2 c = search needs
 add-wide : tie.Need-add-wide
 add-wide c = search needs
 
-add-wide-2 : tie.Need-add-wide-2
-add-wide-2 c = search needs
-
 mul-wide-3 : tie.Need-mul-wide-3
 mul-wide-3 c = search needs
+
+add-wide-2 : tie.Need-add-wide-2
+add-wide-2 c = search needs
 
 wide-requires : tie.Need-wide-requires
 wide-requires c κs = search needs
@@ -83,7 +83,7 @@ ms-of-day-spec =
     mul-wide
     mul-wide-2
     add-wide
-    add-wide-2
     mul-wide-3
+    add-wide-2
     wide-requires
     returns-4)
