@@ -12,102 +12,108 @@ pub enum Field {
     DayNumber,
 }
 
-/// Why a call gave no answer. Each case has a number in the table of include/stephylax.h and, but for 12, a figure.
-#[derive(Clone, Copy, Debug, PartialEq, Eq)]
-pub enum Refusal {
-    /// 1: the first field that does not exist.
-    NoSuchDate(Field),
-    /// 2: the instant, in milliseconds from 2000-01-01 12h TD.
-    PastLimit(i64),
-    /// 3: the offset of the byte.
-    BadByte(i64),
-    /// 4: the offset.
-    OverLimit(i64),
-    /// 5: the offset.
-    TotalOverLimit(i64),
-    /// 6: the offset.
-    TooCoarse(i64),
-    /// 7: the length that the output would need; in a text or a published file the offset of the line that does not fit.
-    NoRoom(i64),
-    /// 8: the length of the input.
-    EndedEarly(i64),
-    /// 9: the offset of the first byte after the series.
-    ByteAfterEnd(i64),
-    /// 10: the offset of the number's last byte.
-    NotShortest(i64),
-    /// 11: the minute in a Sun list, else 0.
-    NotUsable(i64),
-    /// 12.
-    BadWindow,
-    /// 13: the offset of the heading's line feed.
-    BadHeading(i64),
-    /// 14: the offset of the line feed.
-    BadNumber(i64),
+/// What a case holds beside its number.
+trait Held: Sized {
+    fn of(figure: i64) -> Option<Self>;
+    fn figure(self) -> i64;
+}
+
+impl Held for i64 {
+    fn of(figure: i64) -> Option<i64> {
+        Some(figure)
+    }
+
+    fn figure(self) -> i64 {
+        self
+    }
+}
+
+/// The fields in the order of their figures, from 1 on.
+const FIELDS: [Field; 5] = [Field::Year, Field::Month, Field::Day, Field::Milliseconds, Field::DayNumber];
+
+impl Held for Field {
+    fn of(figure: i64) -> Option<Field> {
+        FIELDS.into_iter().find(|field| field.figure() == figure)
+    }
+
+    fn figure(self) -> i64 {
+        self as i64 + 1
+    }
+}
+
+/// The cases, each from its line in the table below, with what is read off that table.
+macro_rules! refusals {
+    ($($(#[$doc:meta])* $number:literal $case:ident $(($name:ident: $held:ty))?,)*) => {
+        /// Why a call gave no answer. Each case has a number in the table of include/stephylax.h and, but for 12, a figure.
+        #[derive(Clone, Copy, Debug, PartialEq, Eq)]
+        pub enum Refusal {
+            $($(#[$doc])* $case $(($held))?,)*
+        }
+
+        impl Refusal {
+            fn read(number: u64, figure: i64) -> Option<Refusal> {
+                match number {
+                    $($number => Some(Refusal::$case $((<$held as Held>::of(figure)?))?),)*
+                    _ => None,
+                }
+            }
+
+            /// The number in that table.
+            pub fn number(self) -> u64 {
+                match self {
+                    $(Refusal::$case { .. } => $number,)*
+                }
+            }
+
+            /// The figure given with it.
+            pub fn figure(self) -> i64 {
+                match self {
+                    $(Refusal::$case $(($name))? => refusals!(@figure $($name)?),)*
+                }
+            }
+        }
+    };
+    (@figure) => { 0 };
+    (@figure $name:ident) => { Held::figure($name) };
+}
+
+refusals! {
+    /// The first field that does not exist.
+    1 NoSuchDate(field: Field),
+    /// The instant, in milliseconds from 2000-01-01 12h TD.
+    2 PastLimit(t: i64),
+    /// The offset of the byte.
+    3 BadByte(at: i64),
+    /// The offset.
+    4 OverLimit(at: i64),
+    /// The offset.
+    5 TotalOverLimit(at: i64),
+    /// The offset.
+    6 TooCoarse(at: i64),
+    /// The length that the output would need; in a text or a published file the offset of the line that does not fit.
+    7 NoRoom(length: i64),
+    /// The length of the input.
+    8 EndedEarly(length: i64),
+    /// The offset of the first byte after the series.
+    9 ByteAfterEnd(at: i64),
+    /// The offset of the number's last byte.
+    10 NotShortest(at: i64),
+    /// The minute in a Sun list, else 0.
+    11 NotUsable(minute: i64),
+    /// Nothing.
+    12 BadWindow,
+    /// The offset of the heading's line feed.
+    13 BadHeading(at: i64),
+    /// The offset of the line feed.
+    14 BadNumber(at: i64),
 }
 
 impl Refusal {
     /// From the number and the figure that the library gives.
     pub fn of(number: u64, figure: i64) -> Refusal {
-        match (number, figure) {
-            (1, 1) => Refusal::NoSuchDate(Field::Year),
-            (1, 2) => Refusal::NoSuchDate(Field::Month),
-            (1, 3) => Refusal::NoSuchDate(Field::Day),
-            (1, 4) => Refusal::NoSuchDate(Field::Milliseconds),
-            (1, 5) => Refusal::NoSuchDate(Field::DayNumber),
-            (2, t) => Refusal::PastLimit(t),
-            (3, at) => Refusal::BadByte(at),
-            (4, at) => Refusal::OverLimit(at),
-            (5, at) => Refusal::TotalOverLimit(at),
-            (6, at) => Refusal::TooCoarse(at),
-            (7, length) => Refusal::NoRoom(length),
-            (8, length) => Refusal::EndedEarly(length),
-            (9, at) => Refusal::ByteAfterEnd(at),
-            (10, at) => Refusal::NotShortest(at),
-            (11, minute) => Refusal::NotUsable(minute),
-            (12, 0) => Refusal::BadWindow,
-            (13, at) => Refusal::BadHeading(at),
-            (14, at) => Refusal::BadNumber(at),
+        match Refusal::read(number, figure) {
+            Some(refusal) if refusal.figure() == figure => refusal,
             _ => panic!("the table of refusals has no {number} with {figure}"),
-        }
-    }
-
-    /// The number in that table.
-    pub fn number(self) -> u64 {
-        match self {
-            Refusal::NoSuchDate(_) => 1,
-            Refusal::PastLimit(_) => 2,
-            Refusal::BadByte(_) => 3,
-            Refusal::OverLimit(_) => 4,
-            Refusal::TotalOverLimit(_) => 5,
-            Refusal::TooCoarse(_) => 6,
-            Refusal::NoRoom(_) => 7,
-            Refusal::EndedEarly(_) => 8,
-            Refusal::ByteAfterEnd(_) => 9,
-            Refusal::NotShortest(_) => 10,
-            Refusal::NotUsable(_) => 11,
-            Refusal::BadWindow => 12,
-            Refusal::BadHeading(_) => 13,
-            Refusal::BadNumber(_) => 14,
-        }
-    }
-
-    /// The figure given with it.
-    pub fn figure(self) -> i64 {
-        match self {
-            Refusal::NoSuchDate(field) => field as i64 + 1,
-            Refusal::PastLimit(figure)
-            | Refusal::BadByte(figure)
-            | Refusal::OverLimit(figure)
-            | Refusal::TotalOverLimit(figure)
-            | Refusal::TooCoarse(figure)
-            | Refusal::NoRoom(figure)
-            | Refusal::EndedEarly(figure)
-            | Refusal::ByteAfterEnd(figure)
-            | Refusal::NotShortest(figure)
-            | Refusal::NotUsable(figure)
-            | Refusal::BadHeading(figure)
-            | Refusal::BadNumber(figure) => figure,
-            Refusal::BadWindow => 0,
         }
     }
 

@@ -6,10 +6,11 @@ use native.Mathlib.Omega.{arith}
 use lib.IntN.{ℤ, pos, negsuc, _+ℤ_, _*ℤ_}
 use borrow.Author.Tests.{le-ltb, lt-ltb}
 use Rattle.arith.specs.machine.Signed.{natural-or}
+use Rattle.units.specs.Units.{minute-ms}
 use Rattle.units.specs.declared.Refusal.the-variants.{NoSuchDate}
 use Rattle.calendar.specs.Calendar.{first-bad, first-bad-of-four, instant-of-date}
 use Rattle.calendar.specs.declared.InstantAnswer.the-variants.{NoInstant}
-use Rattle.command_line.specs.Clock.{below, on-clock, ms-of-day, instant-of-clock}
+use Rattle.command_line.specs.Clock.{hours, minutes, seconds, hour-ms, second-ms, below, on-clock, ms-of-day, instant-of-clock}
 
 out-of : (x : ℤ) (k : ℕ) → k ≤ natural-or x k → below x k ≡ false
 unfolding below natural-or
@@ -21,34 +22,33 @@ unfolding below natural-or
 in-to (pos n) k h = lt-ltb n k h
 in-to (negsuc n) k h = absurd (omega arith)
 
-sum : (h m s : ℤ) → natural-or h 24 < 24 → natural-or m 60 < 60 → natural-or s 60 < 60
-    → pos ((3600 * natural-or h 24 + 60 * natural-or m 60 + natural-or s 60) * 1000)
-    ≡ pos 3600000 *ℤ h +ℤ pos 60000 *ℤ m +ℤ pos 1000 *ℤ s
+sum : (h m s : ℤ) → natural-or h hours < hours → natural-or m minutes < minutes → natural-or s seconds < seconds
+    → pos (hour-ms * natural-or h hours + minute-ms * natural-or m minutes + second-ms * natural-or s seconds)
+    ≡ pos hour-ms *ℤ h +ℤ pos minute-ms *ℤ m +ℤ pos second-ms *ℤ s
 unfolding natural-or
-sum (pos h) (pos m) (pos s) a b d =
-    ap pos (let e : (3600 * h + 60 * m + s) * 1000 ≡ 3600000 * h + 60000 * m + 1000 * s = omega arith in e)
+sum (pos h) (pos m) (pos s) a b d = refl
 sum (pos h) (pos m) (negsuc s) a b d = absurd (omega arith)
 sum (pos h) (negsuc m) s a b d = absurd (omega arith)
 sum (negsuc h) m s a b d = absurd (omega arith)
 
--- The hour, minute and second as the code counts them: a is the hour, or 24 where it is negative; so b and d, with 60.
-module _ (h m s : ℤ) {a b d : ℕ} (ea : a ≡ natural-or h 24) (eb : b ≡ natural-or m 60) (ed : d ≡ natural-or s 60) where
-  pub no-hour : 24 ≤ a → negsuc 0 ≡ ms-of-day h m s
+-- The hour, minute and second as the code counts them: a is the hour, or `hours` where it is negative; so b and d.
+module _ (h m s : ℤ) {a b d : ℕ} (ea : a ≡ natural-or h hours) (eb : b ≡ natural-or m minutes) (ed : d ≡ natural-or s seconds) where
+  pub no-hour : hours ≤ a → negsuc 0 ≡ ms-of-day h m s
   unfolding ms-of-day on-clock
-  no-hour p = rw (out-of h 24 (omega arith)) refl
+  no-hour p = rw (out-of h hours (omega arith)) refl
 
-  pub no-minute : a < 24 → 60 ≤ b → negsuc 0 ≡ ms-of-day h m s
+  pub no-minute : a < hours → minutes ≤ b → negsuc 0 ≡ ms-of-day h m s
   unfolding ms-of-day on-clock
-  no-minute p q = rw (in-to h 24 (omega arith), out-of m 60 (omega arith)) refl
+  no-minute p q = rw (in-to h hours (omega arith), out-of m minutes (omega arith)) refl
 
-  pub no-second : a < 24 → b < 60 → 60 ≤ d → negsuc 0 ≡ ms-of-day h m s
+  pub no-second : a < hours → b < minutes → seconds ≤ d → negsuc 0 ≡ ms-of-day h m s
   unfolding ms-of-day on-clock
-  no-second p q r = rw (in-to h 24 (omega arith), in-to m 60 (omega arith), out-of s 60 (omega arith)) refl
+  no-second p q r = rw (in-to h hours (omega arith), in-to m minutes (omega arith), out-of s seconds (omega arith)) refl
 
-  pub at-clock : a < 24 → b < 60 → d < 60 → (x : ℤ) → x ≡ pos ((3600 * a + 60 * b + d) * 1000) → x ≡ ms-of-day h m s
+  pub at-clock : a < hours → b < minutes → d < seconds → (x : ℤ) → x ≡ pos (hour-ms * a + minute-ms * b + second-ms * d) → x ≡ ms-of-day h m s
   unfolding ms-of-day on-clock
   at-clock p q r x e =
-      rw (in-to h 24 (omega arith), in-to m 60 (omega arith), in-to s 60 (omega arith))
+      rw (in-to h hours (omega arith), in-to m minutes (omega arith), in-to s seconds (omega arith))
       (e ∙ rw (ea, eb, ed) (sum h m s (omega arith) (omega arith) (omega arith)))
 
 -- A clock time that does not exist, on a date that does, is refused 1 at field 4.

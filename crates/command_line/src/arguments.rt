@@ -8,16 +8,19 @@ use calendar::InstantAnswer;
 use calendar::instant_of_date;
 use decimals::reading::Read;
 use decimals::reading::number_of;
+use units::MINUTE_MS;
 
-// The hours of a day, the minutes of an hour, the seconds of a minute.
+// The hours of a day, the minutes of an hour, the seconds of a minute; specs/Clock.antt has the same constants under the same names.
 const HOURS: u64 = 24;
 
 const MINUTES: u64 = 60;
 
 const SECONDS: u64 = 60;
 
-// A minute in milliseconds.
-const MINUTE_MS: u64 = 60000;
+// An hour and a second in milliseconds.
+const HOUR_MS: u64 = MINUTES * MINUTE_MS;
+
+const SECOND_MS: u64 = MINUTE_MS / SECONDS;
 
 // The bytes that the argument of a number may have; one that is longer is no number.
 const ARGUMENT_MOST: usize = 16;
@@ -77,7 +80,7 @@ pub fn ms_of_day(hour: i64, minute: i64, second: i64) -> i64
     if SECONDS <= s {
         return -1;
     }
-    wide((3600 * h + 60 * m + s) * 1000)
+    wide(HOUR_MS * h + MINUTE_MS * m + SECOND_MS * s)
 }
 
 // The instant of a date and a clock time.

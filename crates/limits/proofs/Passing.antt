@@ -10,6 +10,7 @@ use Rattle.integers.proofs.Tests.{both}
 use Rattle.units.specs.Units.{a-limit, b-limit, c-limit, block-limit, series-limit, total-limit, coarse-limit}
 use Rattle.limits.specs.declared.Term.{Term}
 use Rattle.limits.specs.declared.Tally.{Tally}
+use Rattle.units.specs.Refusals.{over-limit, total-over-limit, too-coarse}
 use Rattle.limits.specs.Limits.{weight, count-fits, a-fits, b-fits, c-fits, total-fits, coarse-fits, term-may-come, numbers-fit, term-refusal}
 
 -- A count.
@@ -95,7 +96,7 @@ module _ (f : ℕ) (s : Tally) (t : Term) where
     where
       go : (a : Bool) → a-fits (t .a) ≡ a → (b : Bool) → b-fits (t .b) ≡ b → (c : Bool) → c-fits (t .c) ≡ c → (u : Bool) → total-fits s (t .a) ≡ u
           → (w : Bool) → coarse-fits f s (t .a) (t .b) (t .c) ≡ w
-          → _≡_ {A = ℕ} (cond (a && (b && c)) (cond u (cond w 0 6) 5) 4) 0 → Passes f s t
+          → _≡_ {A = ℕ} (cond (a && (b && c)) (cond u (cond w 0 too-coarse) total-over-limit) over-limit) 0 → Passes f s t
       go true pa true pb true pc true pu true pw e = record { a = pa; total = pu; b = pb; c = pc; coarse = pw }
       go true pa true pb true pc true pu false pw e = absurd (omega arith)
       go true pa true pb true pc false pu w pw e = absurd (omega arith)
@@ -104,12 +105,13 @@ module _ (f : ℕ) (s : Tally) (t : Term) where
       go false pa b pb c pc u pu w pw e = absurd (omega arith)
 
 -- The refusals that a term can have.
-pub refusal-among : (P : ℕ → Type 0) → P 0 → P 4 → P 5 → P 6 → (f : ℕ) (s : Tally) (t : Term) → P (term-refusal f s t)
+pub refusal-among : (P : ℕ → Type 0) → P 0 → P over-limit → P total-over-limit → P too-coarse
+    → (f : ℕ) (s : Tally) (t : Term) → P (term-refusal f s t)
 unfolding term-refusal
-refusal-among P zero four five six f s t = go (numbers-fit t) (total-fits s (t .a)) (coarse-fits f s (t .a) (t .b) (t .c))
+refusal-among P none over total coarse f s t = go (numbers-fit t) (total-fits s (t .a)) (coarse-fits f s (t .a) (t .b) (t .c))
   where
-    go : (n u w : Bool) → P (cond n (cond u (cond w 0 6) 5) 4)
-    go true true true = zero
-    go true true false = six
-    go true false w = five
-    go false u w = four
+    go : (n u w : Bool) → P (cond n (cond u (cond w 0 too-coarse) total-over-limit) over-limit)
+    go true true true = none
+    go true true false = coarse
+    go true false w = total
+    go false u w = over

@@ -8,6 +8,7 @@ use lib.IntN.{ℤ, natAbs}
 use lib.ListN.{length}
 use Rattle.units.specs.Units.{U, coarse-tau, a-limit, b-limit, c-limit, block-limit, series-limit, total-limit, powers}
 use Rattle.units.specs.Units.{coarse-share, coarse-base, coarse-limit}
+use Rattle.units.specs.Refusals.{over-limit, total-over-limit, too-coarse}
 use Rattle.limits.specs.declared.Term.{Term}
 use Rattle.limits.specs.declared.Tally.{Tally}
 
@@ -80,12 +81,12 @@ unfoldable pub term-may-come : ℕ → Tally → Term → Bool
 term-may-come f s t =
     a-fits (t .a) && (total-fits s (t .a) && (b-fits (t .b) && (c-fits (t .c) && coarse-fits f s (t .a) (t .b) (t .c))))
 
--- The refusal of a term that has come whole, or 0: 4 for its numbers, then 5 for the total, then 6 for the coarseness.
+-- The number of the refusal of a term that has come whole, or 0: for its numbers, then for the total, then for the coarseness.
 unfoldable pub numbers-fit : Term → Bool
 numbers-fit t = a-fits (t .a) && (b-fits (t .b) && c-fits (t .c))
 
 unfoldable pub term-refusal : ℕ → Tally → Term → ℕ
 term-refusal f s t =
     cond (numbers-fit t)
-    (cond (total-fits s (t .a)) (cond (coarse-fits f s (t .a) (t .b) (t .c)) 0 6) 5)
-    4
+    (cond (total-fits s (t .a)) (cond (coarse-fits f s (t .a) (t .b) (t .c)) 0 too-coarse) total-over-limit)
+    over-limit

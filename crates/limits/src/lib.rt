@@ -8,9 +8,12 @@ use units::COARSE_BASE;
 use units::COARSE_LIMIT;
 use units::COARSE_SHARE;
 use units::COARSE_TAU;
+use units::OVER_LIMIT;
 use units::POWERS;
 use units::SERIES_LIMIT;
+use units::TOO_COARSE;
 use units::TOTAL_LIMIT;
+use units::TOTAL_OVER_LIMIT;
 use units::U;
 ghost use mathlib.Core.Path.{_≡_};
 ghost use mathlib.Core.Bool.{true};
@@ -173,25 +176,25 @@ pub fn term_may_come(f: u64, tally: Tally, m: u64, b: u64, n: u64) -> bool
     coarse_fits(f, tally, m, b, n)
 }
 
-// The refusal of a whole term, or 0: 4 for its numbers, then 5, then 6.
+// The number of a whole term's refusal, or 0: for its numbers, then for the total, then for the coarseness.
 pub fn judge_term(f: u64, tally: Tally, m: u64, b: u64, n: u64) -> u64
     requires { ⌜ f ≤ factor-limit ⌝ }
     ensures { λ r. ⌜ r ≡ term-refusal f tally (unsigned m b n) ⌝ }
 {
     if !a_fits(m) {
-        return 4;
+        return OVER_LIMIT;
     }
     if !b_fits(b) {
-        return 4;
+        return OVER_LIMIT;
     }
     if !c_fits(n) {
-        return 4;
+        return OVER_LIMIT;
     }
     if !total_fits(tally, m) {
-        return 5;
+        return TOTAL_OVER_LIMIT;
     }
     if !coarse_fits(f, tally, m, b, n) {
-        return 6;
+        return TOO_COARSE;
     }
     0
 }

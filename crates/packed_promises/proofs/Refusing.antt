@@ -8,19 +8,19 @@ use lib.Dec.{leb, ltb, eqb}
 use lib.IntN.{ℤ}
 use lib.ListN.{length}
 use Rattle.units.specs.declared.Refusal.{Refusal}
-use Rattle.units.specs.declared.Refusal.the-variants.{OverLimit, TotalOverLimit, TooCoarse, EndedEarly, NotShortest}
+use Rattle.units.specs.declared.Refusal.the-variants.{OverLimit, TotalOverLimit, TooCoarse}
 use Rattle.units.specs.Units.{block-count}
 use Rattle.packed_numbers.specs.Numbers.{Read, got, bad, next, closed, groups-from, number, unfolded}
 use Rattle.limits.specs.declared.Tally.{Tally}
 use Rattle.limits.specs.Limits.{no-tally, opened, added, after-block, factor, count-fits, a-fits, b-fits, c-fits, total-fits, coarse-fits}
 use Rattle.packed.specs.Series.{judged, read-a, read-b, read-c, read-term, read-terms, read-block, read-blocks, read-series}
-use Rattle.packed_promises.specs.Bounds.{Where}
+use Rattle.packed_promises.specs.Bounds.{Where, over, total, coarse, early, unshortened}
 
 module _ (bytes : List ℕ) where
   -- A reader in these bytes that has come to at least the offset low, or a refusal that says where.
   pub data Placed {A : Type 0} (low : ℕ) : Read A → Type 0 where
     on : {x : A} {to : ℕ} {rest : List ℕ} → to + length rest ≡ length bytes → low ≤ to → Placed low (got x to rest)
-    off : {r : Refusal} → Where r bytes → Placed low (bad r)
+    off : {r : Refusal} → Where bytes r → Placed low (bad r)
 
   either : {A : Type 0} {low : ℕ} {q r : Read A} (t : Bool) → Placed low q → Placed low r → Placed low (cond t q r)
   either true h k = h
@@ -38,30 +38,20 @@ module _ (bytes : List ℕ) where
 
   -- A refusal at the byte before the offset that a reader has come to.
   last : {A : Type 0} {low : ℕ} {r : Read A} (t : Bool) (refusal : ℕ → Refusal) (to : ℕ) (rest : List ℕ)
-      → ((at : ℕ) → at < length bytes → Where (refusal at) bytes) → to + length rest ≡ length bytes → 1 ≤ to
+      → ((at : ℕ) → at < length bytes → Where bytes (refusal at)) → to + length rest ≡ length bytes → 1 ≤ to
       → Placed low r → Placed low (judged t refusal to r)
   unfolding judged
   last t refusal to rest w e h k = either t k (off (w (to - 1) (omega arith)))
 
-  over : (at : ℕ) → at < length bytes → Where (OverLimit at) bytes
-  unfolding Where
-  over at h = h
-
-  total : (at : ℕ) → at < length bytes → Where (TotalOverLimit at) bytes
-  unfolding Where
-  total at h = h
-
-  coarse : (at : ℕ) → at < length bytes → Where (TooCoarse at) bytes
-  unfolding Where
-  coarse at h = h
-
   groups-placed : (x : List ℕ) (k acc at : ℕ) → at + length x ≡ length bytes → Placed (at + 1) (groups-from k acc at x)
-  unfolding groups-from closed Where
-  groups-placed [] k acc at e = off {r = EndedEarly at} (omega arith)
+  unfolding groups-from closed
+  groups-placed [] k acc at e = off (early {n = at} (omega arith))
   groups-placed (b ∷ x) k acc at e =
       either (ltb b 128)
-      (either (eqb b 0) (either (eqb k 0) (on (omega arith) (omega arith)) (off {r = NotShortest at} (omega arith))) (on (omega arith) (omega arith)))
-      (either (leb 8 k) (off {r = OverLimit at} (omega arith))
+      (either (eqb b 0)
+      (either (eqb k 0) (on (omega arith) (omega arith)) (off (unshortened {at = at} (omega arith))))
+      (on (omega arith) (omega arith)))
+      (either (leb 8 k) (off (over {at = at} (omega arith)))
       (later (at + 1) (omega arith) (groups-placed x (k + 1) (acc + (b - 128) * 128 ^ k) (at + 1) (omega arith))))
 
   number-placed : (at : ℕ) (x : List ℕ) → at + length x ≡ length bytes → Placed 1 (number at x)
@@ -72,17 +62,19 @@ module _ (bytes : List ℕ) where
   unfolding read-a
   a-placed s at x e =
       then 1 (number at x) _ (number-placed at x e) (λ v to rest p h.
-      last (a-fits (unfolded v)) OverLimit to rest over p h (last (total-fits s (unfolded v)) TotalOverLimit to rest total p h (on p h)))
+      last (a-fits (unfolded v)) OverLimit to rest (λ at l. over l) p h
+      (last (total-fits s (unfolded v)) TotalOverLimit to rest (λ at l. total l) p h (on p h)))
 
   b-placed : (at : ℕ) (x : List ℕ) → at + length x ≡ length bytes → Placed 1 (read-b at x)
   unfolding read-b
-  b-placed at x e = then 1 (number at x) _ (number-placed at x e) (λ v to rest p h. last (b-fits v) OverLimit to rest over p h (on p h))
+  b-placed at x e = then 1 (number at x) _ (number-placed at x e) (λ v to rest p h. last (b-fits v) OverLimit to rest (λ at l. over l) p h (on p h))
 
   c-placed : (f : ℕ) (s : Tally) (a : ℤ) (b at : ℕ) (x : List ℕ) → at + length x ≡ length bytes → Placed 1 (read-c f s a b at x)
   unfolding read-c
   c-placed f s a b at x e =
       then 1 (number at x) _ (number-placed at x e) (λ v to rest p h.
-      last (c-fits (unfolded v)) OverLimit to rest over p h (last (coarse-fits f s a b (unfolded v)) TooCoarse to rest coarse p h (on p h)))
+      last (c-fits (unfolded v)) OverLimit to rest (λ at l. over l) p h
+      (last (coarse-fits f s a b (unfolded v)) TooCoarse to rest (λ at l. coarse l) p h (on p h)))
 
   term-placed : (f : ℕ) (s : Tally) (at : ℕ) (x : List ℕ) → at + length x ≡ length bytes → Placed 1 (read-term f s at x)
   unfolding read-term
@@ -102,7 +94,7 @@ module _ (bytes : List ℕ) where
   unfolding read-block
   block-placed k s at x e =
       then 0 (number at x) _ (number-placed at x e) (λ n to rest p h.
-      last (count-fits s n) OverLimit to rest over p h (terms-placed n (factor k) (opened k n s) to rest p))
+      last (count-fits s n) OverLimit to rest (λ at l. over l) p h (terms-placed n (factor k) (opened k n s) to rest p))
 
   blocks-placed : (n k : ℕ) (s : Tally) (at : ℕ) (x : List ℕ) → at + length x ≡ length bytes → Placed 0 (read-blocks n k s at x)
   unfolding read-blocks

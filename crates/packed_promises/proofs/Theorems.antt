@@ -4,6 +4,7 @@ use mathlib.Core.List.{List, [], _∷_, _++_, append-nil}
 use Prim.Native.Nat.{ℕ, _+_, _≤_, _<_}
 use native.Mathlib.Omega.{arith}
 use lib.ListN.{length, replicate}
+use Rattle.units.specs.Refusals as refusals
 use Rattle.units.specs.declared.Refusal.{Refusal}
 use Rattle.units.specs.declared.Refusal.the-variants.{EndedEarly, ByteAfterEnd, NotShortest}
 use Rattle.packed_numbers.specs.Numbers.{Read, got, bad, next, closed, groups-from, number, groups, encode}
@@ -14,7 +15,7 @@ use Rattle.limits.specs.Limits.{no-tally, opened, summed, after-block, count-fi
 use Rattle.packed.specs.Series.{accepted, refused, judged, read-terms, read-block, read-blocks, read-series, ended, parse, pack}
 use Rattle.limits.specs.Allowed.{Allowed}
 use Rattle.limits.proofs.Series.{good-allowed, allowed-good}
-use Rattle.packed_promises.specs.Bounds.{packed-limit, early-limit, Where}
+use Rattle.packed_promises.specs.Bounds.{packed-limit, early-limit, Where, over, total, coarse, early, after, unshortened}
 use Rattle.packed_promises.proofs.Appending.{series-append, series-bad}
 use Rattle.packed_promises.proofs.Refusing.{Placed, on, off, series-placed}
 use Rattle.packed_promises.proofs.Longest.{Bounded, within, stopped, By, series-bounded}
@@ -41,18 +42,26 @@ accepted-allowed x blocks e =
     let g = blocks-are-good block-count 0 no-tally 0 x blocks (t .at) [] (t .is) in
     good-allowed blocks (g .many) (g .good)
 
--- Refused bytes say where: with 8 how many they are, with 4, 5, 6, 9 and 10 the offset of one of them; and nothing else is refused.
-pub refused-where : (bytes : List ℕ) (r : Refusal) → parse bytes ≡ refused r → Where r bytes
-unfolding parse ended Where
+-- Refused bytes say where: how many they are, or the offset of one of them; and they have no other refusal.
+pub refused-where : (bytes : List ℕ) (r : Refusal) → parse bytes ≡ refused r → Where bytes r
+unfolding parse ended
 refused-where bytes r e = go (read-series 0 bytes) (series-placed bytes) e
   where
-    go : (a : Read (List (List Term))) → Placed bytes 0 a → ended a ≡ refused r → Where r bytes
+    go : (a : Read (List (List Term))) → Placed bytes 0 a → ended a ≡ refused r → Where bytes r
     go (got bs at []) h q = let z : _≡_ {A = ℕ} 0 1 = cc in absurd (omega arith)
     go (got bs at (b ∷ rest)) (on p l) q =
         let w : ByteAfterEnd at ≡ r = cc in
-        let i : Where (ByteAfterEnd at) bytes = omega arith in
-        subst (λ (s : Refusal). Where s bytes) w i
+        subst (λ (s : Refusal). Where bytes s) w (after {at = at} (omega arith))
     go (bad s) (off w) q = let p : s ≡ r = cc in rw p at w
+
+-- So none is refused for want of room.
+pub room-where : {bytes : List ℕ} {r : Refusal} → Where bytes r → refusals.number r ≡ refusals.no-room → ⊥
+room-where (over h) e = omega arith
+room-where (total h) e = omega arith
+room-where (coarse h) e = omega arith
+room-where (early h) e = omega arith
+room-where (after h) e = omega arith
+room-where (unshortened h) e = omega arith
 
 -- An accepted series has at most 188,452 bytes.
 pub longest-series : (bytes : List ℕ) (blocks : List (List Term)) → parse bytes ≡ accepted blocks → length bytes ≤ packed-limit
@@ -74,9 +83,8 @@ longest-early bytes n e = go (read-series 0 bytes) (series-bounded bytes) e
     go (got bs at (b ∷ rest)) h q = let z : _≡_ {A = ℕ} 0 1 = cc in absurd (omega arith)
     go (bad r) (stopped h) q = let p : r ≡ EndedEarly n = cc in h n p
 
-early-where : (bytes : List ℕ) (n : ℕ) → Where (EndedEarly n) bytes → n ≡ length bytes
-unfolding Where
-early-where bytes n h = h
+early-where : (bytes : List ℕ) (n : ℕ) → Where bytes (EndedEarly n) → n ≡ length bytes
+early-where bytes n (early e) = e
 
 -- More bytes than that decide: they are refused, and whatever follows them is refused in the same way.
 pub record Decided (x y : List ℕ) : Type 0 where
@@ -94,7 +102,7 @@ decided x y l = go (read-series 0 x) refl (series-placed x) (series-bounded x)
     go (bad r) e (off w) (stopped h) = record { refusal = r; alone = rw e; with-more = rw (series-bad 0 x y r late e) }
       where
         late : (n : ℕ) → r ≡ EndedEarly n → ⊥
-        late n q = omega (arith, h n q, early-where x n (subst (λ (s : Refusal). Where s x) q w))
+        late n q = omega (arith, h n q, early-where x n (subst (λ (s : Refusal). Where x s) q w))
 
 -- The packed form of a series within the limits is accepted as that series.
 pub pack-parse : (blocks : List (List Term)) → Allowed blocks → parse (pack blocks) ≡ accepted blocks

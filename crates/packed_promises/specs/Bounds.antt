@@ -4,28 +4,19 @@ use mathlib.Core.List.{List}
 use Prim.Native.Nat.{ℕ, _+_, _*_, _-_, _≤_, _<_}
 use lib.ListN.{length}
 use Rattle.units.specs.declared.Refusal.{Refusal}
-use Rattle.units.specs.declared.Refusal.the-variants.{NoSuchDate, PastLimit, BadByte, OverLimit, TotalOverLimit, TooCoarse}
-use Rattle.units.specs.declared.Refusal.the-variants.{NoRoom, EndedEarly, ByteAfterEnd, NotShortest, NotUsable, BadWindow, BadHeading, BadNumber}
+use Rattle.units.specs.declared.Refusal.the-variants.{OverLimit, TotalOverLimit, TooCoarse, EndedEarly, ByteAfterEnd, NotShortest}
 use Rattle.units.specs.Units.{series-limit, block-count}
 use Rattle.packed_numbers.specs.Numbers.{group-limit, encode, folded}
 use Rattle.limits.specs.declared.Term.{Term}
 
--- What the figure of a refusal is: with 8 the number of the bytes, with 4, 5, 6, 9 and 10 the offset of one of them. Packed bytes have no other refusal.
-unfoldable pub Where : Refusal → List ℕ → Type 0
-Where (NoSuchDate field) bytes = ⊥
-Where (PastLimit t) bytes = ⊥
-Where (BadByte at) bytes = ⊥
-Where (OverLimit at) bytes = at < length bytes
-Where (TotalOverLimit at) bytes = at < length bytes
-Where (TooCoarse at) bytes = at < length bytes
-Where (NoRoom n) bytes = ⊥
-Where (EndedEarly n) bytes = n ≡ length bytes
-Where (ByteAfterEnd at) bytes = at < length bytes
-Where (NotShortest at) bytes = at < length bytes
-Where (NotUsable minute) bytes = ⊥
-Where BadWindow bytes = ⊥
-Where (BadHeading at) bytes = ⊥
-Where (BadNumber at) bytes = ⊥
+-- What the figure of a refusal of packed bytes is: with one the number of the bytes, with the others the offset of one of them. There is no other.
+pub data Where (bytes : List ℕ) : Refusal → Type 0 where
+  over : {at : ℕ} → at < length bytes → Where bytes (OverLimit at)
+  total : {at : ℕ} → at < length bytes → Where bytes (TotalOverLimit at)
+  coarse : {at : ℕ} → at < length bytes → Where bytes (TooCoarse at)
+  early : {n : ℕ} → n ≡ length bytes → Where bytes (EndedEarly n)
+  after : {at : ℕ} → at < length bytes → Where bytes (ByteAfterEnd at)
+  unshortened : {at : ℕ} → at < length bytes → Where bytes (NotShortest at)
 
 -- The most bytes that a, b and c of a term within its limits take, and the count of a block.
 abbrev pub a-bytes : ℕ

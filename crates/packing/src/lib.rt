@@ -10,6 +10,7 @@ use published::Published;
 use published_records::columns::COUNT_FIRST;
 use series_lines::Outcome;
 use series_lines::Reader;
+use units::Refusal;
 
 // How much is read at once.
 const PIECE: usize = 16384;
@@ -60,11 +61,12 @@ fn read_all(text_out: &mut [u8], file_out: &mut [u8]) -> State {
 }
 
 // Refused at its line feed: out of order, or with a count over its limit.
-fn judged(number: u64) -> bool {
-    if number == 13 {
-        return true;
+fn judged(refusal: Refusal) -> bool {
+    match refusal {
+        Refusal::BadHeading(_) => true,
+        Refusal::OverLimit(_) => true,
+        _ => false,
     }
-    number == 4
 }
 
 // The first line has the digits of a heading in their columns, up to its count: it was judged as one, or the count comes next. (No line of a
@@ -80,7 +82,7 @@ fn heading_came(p: Published) -> bool {
     }
     let outcome = published::answer(p);
     match outcome {
-        Outcome::Refused(refusal) => judged(refusal.number()),
+        Outcome::Refused(refusal) => judged(refusal),
         Outcome::More(_) => false,
         Outcome::Accepted(_) => false,
     }

@@ -8,6 +8,7 @@ use borrow.Author.Tests.{eq-eqb, ne-eqb, lt-ltb, le-ltb, leb-true}
 use lib.Dec.{eqb}
 use lib.ListN.{length}
 use Rattle.units.specs.Units.{block-count}
+use Rattle.units.specs.Refusals.{bad-byte, no-room, ended-early, byte-after-end, bad-number}
 use Rattle.packed_numbers.specs.declared.Put.{Put}
 use Rattle.packed_numbers.specs.declared.Put.the-variants.{Next, NoRoom}
 use Rattle.packed_numbers.specs.Numbers.{encode}
@@ -30,7 +31,7 @@ use Rattle.published.specs.Reader.{inside, missing, finished, ended, end
 
 -- ---- A term record whose running number does not come next, or does: then it is judged as a line of a text.
 
-pub record-wrong : (p : Published) → eqb (p .row .number) (p .last + 1) ≡ false → record-end p .refusal ≡ 14
+pub record-wrong : (p : Published) → eqb (p .row .number) (p .last + 1) ≡ false → record-end p .refusal ≡ bad-number
 unfolding record-refusal
 record-wrong p e = rw e
 
@@ -57,7 +58,7 @@ module _ (p : Published) (k : ℕ) (is-block : k ≡ block-of (p .row .coordinat
     store-is : o ≡ put-bytes (heading-end p .bytes) (p .reader .written) out
     store-is = stores ∙ ap (λ (j : ℕ). put-bytes (counts j) (p .reader .written) out) is-block
 
-    pub heading-full : put ≡ NoRoom n → s ≡ stopped (p .reader) 7
+    pub heading-full : put ≡ NoRoom n → s ≡ stopped (p .reader) no-room
         → (s ≡ wrote (p .reader) out (heading-end p)) × (o ≡ wrote-out (p .reader) out (heading-end p))
     heading-full f e = wrote-full (p .reader) s out (heading-end p) good put o n _ answer-is store-is f e
 
@@ -69,7 +70,7 @@ module _ (p : Published) (k : ℕ) (is-block : k ≡ block-of (p .row .coordinat
 
 -- ---- A line feed, by what the record is.
 
-pub verdict-early : (p : Published) → whole-row (at-heading p) (p .row) ≡ false → verdict p .refusal ≡ 3
+pub verdict-early : (p : Published) → whole-row (at-heading p) (p .row) ≡ false → verdict p .refusal ≡ bad-byte
 unfolding verdict
 verdict-early p e = rw e
 
@@ -83,7 +84,7 @@ verdict-record p e h = rw (e, h)
 
 -- A byte that is no line feed.
 pub other-bad : (p q : Published) (row : Row) (byte : ℕ) → row ≡ lex-row (at-heading p) (p .row) byte → row .line .spot ≡ spot-bad
-    → q ≡ halted p 3 → q ≡ other p byte
+    → q ≡ halted p bad-byte → q ≡ other p byte
 unfolding other
 other-bad p q row byte e h f = rw (← e, eq-eqb (row .line .spot) spot-bad h, f)
 
@@ -100,14 +101,14 @@ module _ (p q : Published) (out after : List ℕ) (byte : ℕ) where
   step-stopped h = let t = ne-eqb (p .reader .status) reading h in (rw t, rw t)
 
   module _ (going : p .reader .status ≡ reading) where
-    pub step-uncounted : p .reader .at ≡ last-offset → q ≡ halted p 3 → (q ≡ step p out byte) × (out ≡ step-out p out byte)
+    pub step-uncounted : p .reader .at ≡ last-offset → q ≡ halted p bad-byte → (q ≡ step p out byte) × (out ≡ step-out p out byte)
     unfolding step step-out uncounted
     step-uncounted h e =
         let g = eq-eqb (p .reader .status) reading going in
         let t = eq-eqb (p .reader .at) last-offset h in (rw (g, t, e), rw (g, t))
 
     module _ (counts : p .reader .at ≡ last-offset → ⊥) where
-      pub step-after : complete p ≡ true → q ≡ halted p 9 → (q ≡ step p out byte) × (out ≡ step-out p out byte)
+      pub step-after : complete p ≡ true → q ≡ halted p byte-after-end → (q ≡ step p out byte) × (out ≡ step-out p out byte)
       unfolding step step-out uncounted
       step-after h e =
           let g = eq-eqb (p .reader .status) reading going in
@@ -145,14 +146,14 @@ module _ (p q : Published) (out after : List ℕ) where
   ended-stopped h = let t = ne-eqb (p .reader .status) reading h in (rw t, rw t)
 
   module _ (going : p .reader .status ≡ reading) where
-    pub ended-in-row : 1 < p .row .column → q ≡ halted p 8 → (q ≡ ended p out) × (out ≡ ended-out p out)
+    pub ended-in-row : 1 < p .row .column → q ≡ halted p ended-early → (q ≡ ended p out) × (out ≡ ended-out p out)
     unfolding ended ended-out inside
     ended-in-row h e =
         let g = eq-eqb (p .reader .status) reading going in
         let t = lt-ltb 1 (p .row .column) h in (rw (g, t, e), rw (g, t))
 
     module _ (between : p .row .column ≤ 1) where
-      pub ended-in-block : 0 < p .reader .left → q ≡ halted p 8 → (q ≡ ended p out) × (out ≡ ended-out p out)
+      pub ended-in-block : 0 < p .reader .left → q ≡ halted p ended-early → (q ≡ ended p out) × (out ≡ ended-out p out)
       unfolding ended ended-out inside
       ended-in-block h e =
           let g = eq-eqb (p .reader .status) reading going in
@@ -168,7 +169,7 @@ module _ (p q : Published) (out after : List ℕ) where
         store-for : after ≡ put-bytes (missing p) (p .reader .written) out
         store-for = stores ∙ ap (λ (j : ℕ). put-bytes (zeros j) (p .reader .written) out) is-missing
 
-        pub ended-full : put ≡ NoRoom n → q ≡ halted p 7 → (q ≡ ended p out) × (after ≡ ended-out p out)
+        pub ended-full : put ≡ NoRoom n → q ≡ halted p no-room → (q ≡ ended p out) × (after ≡ ended-out p out)
         unfolding ended ended-out inside
         ended-full f e =
             let g = eq-eqb (p .reader .status) reading going in

@@ -6,6 +6,7 @@ use Prim.Native.Nat.{ℕ, _+_, _-_}
 use lib.Dec.{ltb, eqb}
 use lib.ListN.{length}
 use Rattle.units.specs.Units.{block-count}
+use Rattle.units.specs.Refusals.{bad-byte, no-room, ended-early, byte-after-end}
 use Rattle.limits.specs.Limits.{opened, added, factor}
 use Rattle.packed.specs.Series.{pack-term}
 use Rattle.series_lines.specs.declared.Outcome.{Outcome}
@@ -37,11 +38,11 @@ halted p status = record { reader = stopped (p .reader) status; row = p .row; la
 abbrev pub further : Published → Row → Published
 further p row = record { reader = in-line (p .reader) (p .reader .line) (p .reader .at + 1); row = row; last = p .last }
 
--- A byte that is no line feed: 3 where it cannot continue the record.
+-- A byte that is no line feed, and may not continue the record.
 unfoldable pub other : Published → ℕ → Published
 other p byte =
     cond (eqb (lex-row (at-heading p) (p .row) byte .line .spot) spot-bad)
-    (halted p 3)
+    (halted p bad-byte)
     (further p (lex-row (at-heading p) (p .row) byte))
 
 -- What a heading says at its line feed.
@@ -73,7 +74,7 @@ record-end p =
 
 -- A record that is not whole.
 abbrev pub early-end : Published → Verdict
-early-end p = record { refusal = 3; bytes = []; blocks = p .reader .blocks; left = p .reader .left; tally = tally (p .reader) }
+early-end p = record { refusal = bad-byte; bytes = []; blocks = p .reader .blocks; left = p .reader .left; tally = tally (p .reader) }
 
 unfoldable pub verdict : Published → Verdict
 verdict p = cond (whole-row (at-heading p) (p .row)) (cond (at-heading p) (heading-end p) (record-end p)) (early-end p)
@@ -82,7 +83,7 @@ verdict p = cond (whole-row (at-heading p) (p .row)) (cond (at-heading p) (headi
 unfoldable pub next-last : Published → ℕ
 next-last p = cond (at-heading p) 0 (p .row .number)
 
--- After the judgement of a record: 7 where its bytes do not fit.
+-- After the judgement of a record, whose bytes may not fit.
 abbrev pub judged : Published → List ℕ → Published
 judged p out = record { reader = wrote (p .reader) out (verdict p); row = fresh-row; last = next-last p }
 
@@ -94,8 +95,8 @@ complete p = eqb (next-spot (p .reader .blocks) (p .reader .left)) spot-after
 unfoldable pub step : Published → List ℕ → ℕ → Published
 step p out byte =
     cond (eqb (p .reader .status) reading)
-    (cond (uncounted (p .reader)) (halted p 3)
-    (cond (complete p) (halted p 9)
+    (cond (uncounted (p .reader)) (halted p bad-byte)
+    (cond (complete p) (halted p byte-after-end)
     (cond (eqb byte feed) (judged p out) (other p byte))))
     p
 
@@ -147,12 +148,13 @@ finished p n =
       last = p .last;
     }
 
--- 8 inside a record or a block; else the counts that are missing are written, all or none of them, and 7 has the number of bytes.
+-- Refused inside a record or a block; else the counts that are missing are written, all or none of them: where they do not fit, the refusal has the
+-- number of bytes.
 unfoldable pub ended : Published → List ℕ → Published
 ended p out =
     cond (eqb (p .reader .status) reading)
-    (cond (inside p) (halted p 8)
-    (cond (fits (missing p) (p .reader .written) out) (finished p (length (missing p))) (halted p 7)))
+    (cond (inside p) (halted p ended-early)
+    (cond (fits (missing p) (p .reader .written) out) (finished p (length (missing p))) (halted p no-room)))
     p
 
 unfoldable pub ended-out : Published → List ℕ → List ℕ

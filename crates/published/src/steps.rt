@@ -28,6 +28,11 @@ use series_lines::steps::less_one;
 use series_lines::steps::next_spot;
 use series_lines::steps::stop;
 use series_lines::writer::put_term;
+use units::BAD_BYTE;
+use units::BAD_NUMBER;
+use units::BYTE_AFTER_END;
+use units::ENDED_EARLY;
+use units::NO_ROOM;
 ghost use mathlib.Core.Path.{_≡_};
 ghost use Prim.Native.Nat.{_+_, _≤_, _<_};
 ghost use Rattle.series_lines.specs.Reader.{last-offset, wrote, wrote-out};
@@ -78,7 +83,7 @@ fn end_heading(p: Published, out: &mut [u8]) -> Reader
     let k = block_of(row.coordinate, row.power);
     let put = put_heading((k - done) as usize, n, out, r.written);
     match put {
-        Put::NoRoom(_) => stop(r, 7),
+        Put::NoRoom(_) => stop(r, NO_ROOM),
         Put::Next(next) => {
             let opened = open_block(k, n, skip_blocks(done, k, s));
             advance(r, next, k + 1, n, opened)
@@ -96,7 +101,7 @@ fn end_record(p: Published, out: &mut [u8]) -> Reader
     let r = p.reader;
     let row = p.row;
     if !follows(p.last, row.number) {
-        return stop(r, 14);
+        return stop(r, BAD_NUMBER);
     }
     let line = row.line;
     let s = Tally {
@@ -111,7 +116,7 @@ fn end_record(p: Published, out: &mut [u8]) -> Reader
     }
     let put = put_term(line, out, r.written);
     match put {
-        Put::NoRoom(_) => stop(r, 7),
+        Put::NoRoom(_) => stop(r, NO_ROOM),
         Put::Next(next) => {
             let more = add_term(f, s, line.a, line.b, line.value);
             advance(r, next, r.blocks, less_one(r.left), more)
@@ -127,7 +132,7 @@ fn end_row(p: Published, out: &mut [u8]) -> Reader
 {
     let heading = at_heading(p);
     if !whole_row(heading, p.row) {
-        return stop(p.reader, 3);
+        return stop(p.reader, BAD_BYTE);
     }
     if heading {
         return end_heading(p, out);
@@ -168,7 +173,7 @@ fn take_other(p: Published, byte: u8) -> Published
     let row = lex_row(at_heading(p), p.row, byte);
     let line = row.line;
     if line.spot == SPOT_BAD {
-        return halt(p, 3);
+        return halt(p, BAD_BYTE);
     }
     let r = p.reader;
     let reader = in_line(r, r.line, r.at + 1);
@@ -196,10 +201,10 @@ pub fn take_byte(p: Published, byte: u8, out: &mut [u8]) -> Published
         return p;
     }
     if r.at == LAST_OFFSET {
-        return halt(p, 3);
+        return halt(p, BAD_BYTE);
     }
     if complete(p) {
-        return halt(p, 9);
+        return halt(p, BYTE_AFTER_END);
     }
     if byte == b'\n' {
         return judge(p, out);
@@ -243,15 +248,15 @@ pub fn close(p: Published, out: &mut [u8]) -> Published
     }
     let row = p.row;
     if 1 < row.column {
-        return halt(p, 8);
+        return halt(p, ENDED_EARLY);
     }
     if 0 < r.left {
-        return halt(p, 8);
+        return halt(p, ENDED_EARLY);
     }
     let n = missing_blocks(r.blocks) as usize;
     let put = put_missing(n, out, r.written);
     match put {
-        Put::NoRoom(_) => halt(p, 7),
+        Put::NoRoom(_) => halt(p, NO_ROOM),
         Put::Next(_) => finish(p, n),
     }
 }

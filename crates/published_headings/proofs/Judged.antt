@@ -7,6 +7,7 @@ use borrow.Author.Tests.{eq-eqb, ne-eqb, eqb-true, eqb-false, leb-true, ltb-true
 use lib.Dec.{leb, ltb, eqb}
 use Rattle.integers.proofs.Tests.{by-cases, both}
 use Rattle.units.specs.Units.{powers, block-count}
+use Rattle.units.specs.Refusals.{over-limit, bad-heading}
 use Rattle.limits.specs.declared.Tally.{Tally}
 use Rattle.limits.specs.Limits.{opened, count-fits}
 use Rattle.limits.proofs.Passing.{count-passed, count-passes}
@@ -57,8 +58,10 @@ pub unrefused : (done : ℕ) (s : Tally) (version coordinate power n : ℕ) → 
 unfolding heading-refusal
 unrefused done s version coordinate power n e =
     by-cases (in-order done version coordinate power)
-    (λ p. by-cases (count-fits s n) (λ q. (orderly done version coordinate power p, q)) (λ q. absurd (apart 4 (λ x. omega (arith, x)) (rw (p, q) at e))))
-    (λ p. absurd (apart 13 (λ x. omega (arith, x)) (rw p at e)))
+    (λ p. by-cases (count-fits s n)
+    (λ q. (orderly done version coordinate power p, q))
+    (λ q. absurd (apart over-limit (λ x. omega (arith, x)) (rw (p, q) at e))))
+    (λ p. absurd (apart bad-heading (λ x. omega (arith, x)) (rw p at e)))
   where
     apart : (x : ℕ) → (x ≡ 0 → ⊥) → x ≡ 0 → ⊥
     apart x h = h

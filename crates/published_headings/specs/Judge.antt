@@ -1,11 +1,12 @@
--- RULES, "Published files": the judgement of a record at its line feed. Refusal 13 for a heading and 14 for a running number, before those that
--- a series text has; then the packed bytes that the writer has to find room for.
+-- RULES, "Published files": the judgement of a record at its line feed. Refusals for a heading and for a running number come before those
+-- that a series text has; then the packed bytes that the writer has to find room for.
 use mathlib.Core.Bool.{Bool, cond, _&&_}
 use mathlib.Core.List.{List, [], _∷_, _++_}
 use Prim.Native.Nat.{ℕ, zero, suc, _+_, _*_, _-_}
 use lib.Dec.{leb, ltb, eqb}
 use Rattle.packed_numbers.specs.Numbers.{encode}
 use Rattle.units.specs.Units.{powers}
+use Rattle.units.specs.Refusals.{over-limit, bad-heading, bad-number}
 use Rattle.limits.specs.declared.Term.{Term}
 use Rattle.limits.specs.declared.Tally.{Tally}
 use Rattle.limits.specs.Limits.{opened, count-fits}
@@ -29,14 +30,14 @@ in-order done version coordinate power =
     eqb version theory-version
     && (leb 1 coordinate && (leb coordinate coordinate-count && (ltb power powers && leb done (block-of coordinate power))))
 
--- The refusal of a heading with the count n after `done` blocks and a tally, or 0.
+-- The number of the refusal of a heading with the count n after `done` blocks and a tally, or 0.
 unfoldable pub heading-refusal : ℕ → Tally → ℕ → ℕ → ℕ → ℕ → ℕ
 heading-refusal done s version coordinate power n =
-    cond (in-order done version coordinate power) (cond (count-fits s n) 0 4) 13
+    cond (in-order done version coordinate power) (cond (count-fits s n) 0 over-limit) bad-heading
 
--- The refusal of a term whose running number comes after `last`, or 0; minusb is 1 where b has a minus.
+-- The number of the refusal of a term whose running number comes after `last`, or 0; minusb is 1 where b has a minus.
 unfoldable pub record-refusal : ℕ → ℕ → ℕ → Tally → ℕ → Term → ℕ
-record-refusal last number f s minusb t = cond (eqb number (last + 1)) (term-line-refusal f s minusb t) 14
+record-refusal last number f s minusb t = cond (eqb number (last + 1)) (term-line-refusal f s minusb t) bad-number
 
 -- Blocks without a heading, the first of them block k, have no terms: the tally after n of them, and their packed counts.
 unfoldable pub skipped : ℕ → ℕ → Tally → Tally

@@ -1,9 +1,11 @@
-// The judgement of a record's numbers: refusals 13, 14 and 4, and the tally with the blocks that have no heading. For the steps of the crate
-// published, which judge a whole record and go on only with one that is not refused.
+// The judgement of a record's numbers: the order and the count of headings, running numbers, and the tally with the blocks that have no heading.
+// For the steps of the crate published, which judge a whole record and go on only with one that is not refused.
 use limits::Tally;
 use limits::count_fits;
 use limits::open_block;
+use units::BAD_HEADING;
 use units::BLOCK_COUNT;
+use units::OVER_LIMIT;
 use units::POWERS;
 ghost use mathlib.Core.Path.{_≡_};
 ghost use mathlib.Core.Bool.{true};
@@ -45,7 +47,7 @@ pub fn in_order(done: u64, version: u64, coordinate: u64, power: u64) -> bool
     done <= block_of(coordinate, power)
 }
 
-// The refusal of a heading with the count n, or 0.
+// The number of the refusal of a heading with the count n, or 0.
 pub fn heading_refusal(
     done: u64,
     tally: Tally,
@@ -57,10 +59,10 @@ pub fn heading_refusal(
     ensures { λ r. ⌜ r ≡ heading-refusal done tally version coordinate power n ⌝ }
 {
     if !in_order(done, version, coordinate, power) {
-        return 13;
+        return BAD_HEADING;
     }
     if !count_fits(tally, n) {
-        return 4;
+        return OVER_LIMIT;
     }
     0
 }

@@ -8,13 +8,14 @@ use borrow.Author.Tests.{eqb-true}
 use lib.Dec.{eqb}
 use lib.ListN.{length}
 use Rattle.units.specs.declared.Refusal.{Refusal}
+use Rattle.units.specs.Refusals.{over-limit, bad-heading, bad-number, of-number}
 use Rattle.limits.specs.declared.Term.{Term}
 use Rattle.limits.specs.declared.Tally.{Tally}
 use Rattle.limits.specs.Limits.{count-fits}
 use Rattle.series_lines.specs.declared.Outcome.the-variants.{Accepted, Refused}
 use Rattle.series_lines.specs.Lexer.{spot-bad}
 use Rattle.series_lines.specs.Judge.{term-line-refusal}
-use Rattle.series_lines.specs.Reader.{last-offset, uncounted, refusal}
+use Rattle.series_lines.specs.Reader.{last-offset, uncounted}
 use Rattle.series_lines.specs.Reader as lines
 use Rattle.series_lines.specs.Calls.{Run}
 use Rattle.published_records.specs.Rows.{lex-row, whole-row}
@@ -34,7 +35,7 @@ heading-not-one : (k : ℕ) (s : Tally) (v c p n : ℕ) → NotOne (heading-refu
 unfolding heading-refusal
 heading-not-one k s v c p n = go (in-order k v c p) (count-fits s n)
   where
-    go : (b d : Bool) → NotOne (cond b (cond d 0 4) 13)
+    go : (b d : Bool) → NotOne (cond b (cond d 0 over-limit) bad-heading)
     go true true e = omega (arith, e)
     go true false e = omega (arith, e)
     go false d e = omega (arith, e)
@@ -43,7 +44,7 @@ record-not-one : (last number f : ℕ) (s : Tally) (m : ℕ) (t : Term) → NotO
 unfolding record-refusal
 record-not-one last number f s m t = go (eqb number (last + 1))
   where
-    go : (b : Bool) → NotOne (cond b (term-line-refusal f s m t) 14)
+    go : (b : Bool) → NotOne (cond b (term-line-refusal f s m t) bad-number)
     go true = term-among NotOne (λ e. omega (arith, e)) (λ e. omega (arith, e)) (λ e. omega (arith, e)) (λ e. omega (arith, e)) f s m t
     go false = λ e. omega (arith, e)
 
@@ -78,7 +79,7 @@ run-not-one (x ∷ xs) p out h e =
 
 -- So a reader that is told to have accepted was reading on before the end.
 refused-told : (p : Published) → eqb (p .reader .status) 0 ≡ false → eqb (p .reader .status) 1 ≡ false
-    → told p ≡ Refused (refusal (p .reader .status) (p .reader .place))
+    → told p ≡ Refused (of-number (p .reader .status) (p .reader .place))
 unfolding lines.told
 refused-told p z q = rw (z, q)
 

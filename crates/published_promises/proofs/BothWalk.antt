@@ -12,12 +12,13 @@ use lib.Seq.{sets}
 use Rattle.units.specs.Units.{block-count}
 use Rattle.units.specs.declared.Refusal.{Refusal}
 use Rattle.units.specs.declared.Refusal.the-variants.{OverLimit, NoRoom}
+use Rattle.units.specs.Refusals.{over-limit, total-over-limit, no-room, of-number}
+use Rattle.units.specs.Refusals as numbers
 use Rattle.limits.specs.declared.Tally.{Tally}
 use Rattle.limits.specs.Limits.{no-tally, opened, added, factor, count-fits, total-fits, coarse-fits}
 use Rattle.series_lines.specs.declared.Outcome.the-variants.{Refused}
 use Rattle.series_lines.specs.Grammar.{feed, size, value, count, count-bytes, term-bytes, GoodTerm, term-of-line, TermInLimits}
 use Rattle.series_lines.specs.Grammar.{AnyLine, a-count, a-term, line-bytes, any-bytes, any-packed}
-use Rattle.series_lines.specs.Reader.{refusal}
 use Rattle.published_records.specs.Layout.{Heading, heading-bytes, GoodHeading, TermRecord, record-bytes, GoodRecord, cut-term}
 use Rattle.published_headings.specs.Judge.{in-order, skipped}
 use Rattle.published.specs.Reader as published
@@ -87,15 +88,15 @@ stopped-later out rs r h =
 
 -- Where both refuse alike.
 alike : (out : List ℕ) (rs : List AnyRecord) (r : AnyRecord) (c place : ℕ) → OfLimits c → InCutOf rs r place → (left cut-left : List ℕ)
-    → FileStops out (rs ++ (r ∷ [])) (refusal c (length (file-bytes rs) + length (any-record-bytes r))) left
-    → TextStops out (cut-records 0 (rs ++ (r ∷ []))) (refusal c place) cut-left
+    → FileStops out (rs ++ (r ∷ [])) (of-number c (length (file-bytes rs) + length (any-record-bytes r))) left
+    → TextStops out (cut-records 0 (rs ++ (r ∷ []))) (of-number c place) cut-left
     → Stopped out (rs ++ (r ∷ []))
 alike out rs r c place o i left cut-left f t =
     record {
-      file = refusal c (length (file-bytes rs) + length (any-record-bytes r));
+      file = of-number c (length (file-bytes rs) + length (any-record-bytes r));
       file-left = left;
       file-halts = f;
-      cut = refusal c place;
+      cut = of-number c place;
       cut-left = cut-left;
       cut-halts = t;
       agrees = λ after. both-refuse rs after r (append-assoc rs (r ∷ []) after) c place o i left cut-left;
@@ -118,19 +119,19 @@ module _ (out : List ℕ) (rs : List AnyRecord) (k n m : ℕ) (s : Tally) (b : B
 
   stops-there : (c : ℕ) → OfLimits c
       → ((more : List ℕ) → Refuses (length (file-bytes rs)) s (length out - length (packed-so-far rs)) k (suc n) m (record-bytes t ++ (feed ∷ more))
-      (refusal c (length (file-bytes rs) + length (record-bytes t))))
+      (of-number c (length (file-bytes rs) + length (record-bytes t))))
       → ((more : List ℕ) → text.Refuses (length (any-bytes (cut-records 0 rs))) s (length out - length (packed-so-far rs)) k (suc n)
-      (term-bytes (cut-term t) ++ (feed ∷ more)) (refusal c place-of))
+      (term-bytes (cut-term t) ++ (feed ∷ more)) (of-number c place-of))
       → Walk out (rs ++ (a-record t ∷ [])) k n (m + 1)
   unfolding any-record-bytes line-bytes
   stops-there d o f u =
       off (alike out rs (a-record t) d place-of o (record { after = omega arith; inside = omega (arith, record-cut rs t) }) _ _
       (file-stops out b fit (a-record t) _ f)
-      (subst (λ (ls : List AnyLine). TextStops out ls (refusal d place-of) (sets out 0 (packed-so-far rs))) (sym (cut-record rs t))
-      (text-stops out c fit (a-term (cut-term t)) (refusal d place-of) u)))
+      (subst (λ (ls : List AnyLine). TextStops out ls (of-number d place-of) (sets out 0 (packed-so-far rs))) (sym (cut-record rs t))
+      (text-stops out c fit (a-term (cut-term t)) (of-number d place-of) u)))
 
   goes-on : TermInLimits (factor (k - 1)) s (cut-term t) → Walk out (rs ++ (a-record t ∷ [])) k n (m + 1)
-  unfolding refusal cut-one
+  unfolding of-number cut-one
   goes-on i =
       let ls = cut-records 0 rs in
       let l = a-term (cut-term t) in
@@ -140,22 +141,23 @@ module _ (out : List ℕ) (rs : List AnyRecord) (k n m : ℕ) (s : Tally) (b : B
       (text.with-term (cut-term t) c good-line i))
       (subst (λ (ms : List AnyLine). length (any-packed ms) ≤ length out) (sym (cut-record rs t)) (leb-true _ _ z)))
       (λ z. let h : length out < length (any-packed (ls ++ (l ∷ []))) = leb-false _ _ z in
-      stops-there 7 room
+      stops-there no-room room
       (λ more. no-room-record t more g number i (omega (arith, h, packed-grow ls (l ∷ []))))
       (λ more. text.no-room-term (cut-term t) more good-line i (omega (arith, h, packed-length ls l))))
 
   with-term-record : Walk out (rs ++ (a-record t ∷ [])) k n (m + 1)
-  unfolding refusal
+  unfolding of-number
   with-term-record = go (text-decided.numbers (cut-term t))
     where
       go : NumbersInLimits (cut-term t) ⊎ (NumbersInLimits (cut-term t) → ⊥) → Walk out (rs ++ (a-record t ∷ [])) k n (m + 1)
-      go (inr x) = stops-there 4 over (λ more. number-over t more g number x) (λ more. text.number-over (cut-term t) more good-line x)
+      go (inr x) = stops-there over-limit over (λ more. number-over t more g number x) (λ more. text.number-over (cut-term t) more good-line x)
       go (inl x) =
           by-cases (total-fits s (value (t .a)))
           (λ u. by-cases (coarse-fits (factor (k - 1)) s (value (t .a)) (size (t .b)) (value (t .c)))
           (λ v. goes-on (record { from-zero = x .from-zero; a = x .a; b = x .b; c = x .c; total = u; coarse = v }))
-          (λ v. stops-there 6 coarse (λ more. too-coarse t more g number x u v) (λ more. text.too-coarse (cut-term t) more good-line x u v)))
-          (λ u. stops-there 5 total (λ more. total-over t more g number x u) (λ more. text.total-over (cut-term t) more good-line x u))
+          (λ v. stops-there numbers.too-coarse coarse (λ more. too-coarse t more g number x u v)
+          (λ more. text.too-coarse (cut-term t) more good-line x u v)))
+          (λ u. stops-there total-over-limit total (λ more. total-over t more g number x u) (λ more. text.total-over (cut-term t) more good-line x u))
 
 -- With a heading more: first the lines `0` of the blocks before it, then its count.
 module _ (out : List ℕ) (rs : List AnyRecord) (k m : ℕ) (s : Tally) (o : Ordered rs k 0 m) (b : Beginning rs k 0 m s)
@@ -187,13 +189,13 @@ module _ (out : List ℕ) (rs : List AnyRecord) (k m : ℕ) (s : Tally) (o : Ord
 
   -- The file is refused at this heading.
   file-over : count-fits s (count (h .count)) ≡ false
-      → FileStops out next (refusal 4 (length (file-bytes rs) + length (heading-bytes h))) (sets out 0 (packed-so-far rs))
-  unfolding any-record-bytes refusal
+      → FileStops out next (of-number over-limit (length (file-bytes rs) + length (heading-bytes h))) (sets out 0 (packed-so-far rs))
+  unfolding any-record-bytes of-number
   file-over e = file-stops out b fit (a-heading h) _ (λ more. count-over h more fewer g i e)
 
   file-full : count-fits s (count (h .count)) ≡ true → length out < length (any-packed (filled ++ (counted ∷ [])))
-      → FileStops out next (refusal 7 (length (file-bytes rs) + length (heading-bytes h))) (sets out 0 (packed-so-far rs))
-  unfolding any-record-bytes refusal cut-one
+      → FileStops out next (of-number no-room (length (file-bytes rs) + length (heading-bytes h))) (sets out 0 (packed-so-far rs))
+  unfolding any-record-bytes of-number cut-one
   file-full e f =
       let ls = cut-records 0 rs in
       let zs = zero-lines passed in
@@ -225,7 +227,7 @@ module _ (out : List ℕ) (rs : List AnyRecord) (k m : ℕ) (s : Tally) (o : Ord
   -- The counts of the blocks before it have room.
   with-counts : text.Beginning filled (heading-block h) 0 since → length (any-packed filled) ≤ length out
       → Walk out next (heading-block h + 1) (count (h .count)) 0
-  unfolding any-record-bytes line-bytes refusal
+  unfolding any-record-bytes line-bytes of-number
   with-counts d r =
       let same = skipped-fits passed k s (count (h .count)) in
       by-cases (count-fits s (count (h .count)))
@@ -235,20 +237,21 @@ module _ (out : List ℕ) (rs : List AnyRecord) (k m : ℕ) (s : Tally) (o : Ord
       (sym (cut-heading o h)) (text.with-count (h .count) d block (g .count) (same ∙ e)))
       (subst (λ (ls : List AnyLine). length (any-packed ls) ≤ length out) (sym (cut-heading o h)) (leb-true _ _ z)))
       (λ z. let f : length out < length (any-packed (filled ++ (counted ∷ []))) = leb-false _ _ z in
-      off (alike out rs (a-heading h) 7 count-place room in-count _ _ (file-full e f)
-      (cut-at _ _ (text-stops out d r counted (refusal 7 count-place)
+      off (alike out rs (a-heading h) no-room count-place room in-count _ _ (file-full e f)
+      (cut-at _ _ (text-stops out d r counted (of-number no-room count-place)
       (λ more. text.no-room-count (h .count) more block (g .count) (same ∙ e) (omega (arith, f, packed-length filled counted))))))))
-      (λ e. off (alike out rs (a-heading h) 4 count-place over in-count _ _ (file-over e)
-      (cut-at _ _ (text-stops out d r counted (refusal 4 count-place) (λ more. text.count-over (h .count) more block (g .count) (same ∙ e))))))
+      (λ e. off (alike out rs (a-heading h) over-limit count-place over in-count _ _ (file-over e)
+      (cut-at _ _ (text-stops out d r counted (of-number over-limit count-place)
+      (λ more. text.count-over (h .count) more block (g .count) (same ∙ e))))))
 
   -- They have not.
   without-counts : (place : ℕ) (left : List ℕ) → length (any-bytes (cut-records 0 rs)) ≤ place → place < length (any-bytes filled)
       → length out < length (any-packed filled) → TextStops out filled (NoRoom place) left → Walk out next (heading-block h + 1) (count (h .count)) 0
-  unfolding any-record-bytes refusal
+  unfolding any-record-bytes of-number
   without-counts place left low high f t =
       let stops = cut-at _ _ (text-later out filled (counted ∷ []) (NoRoom place) left t) in
       by-cases (count-fits s (count (h .count)))
-      (λ e. off (alike out rs (a-heading h) 7 place room (in-zeros place low high) _ left
+      (λ e. off (alike out rs (a-heading h) no-room place room (in-zeros place low high) _ left
       (file-full e (omega (arith, f, packed-grow filled (counted ∷ [])))) stops))
       (λ e. off (record {
         file = OverLimit (length (file-bytes rs) + length (heading-bytes h));

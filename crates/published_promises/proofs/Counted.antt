@@ -8,6 +8,7 @@ use borrow.Author.Tests.{eqb-true, eqb-false, eq-eqb}
 use lib.Dec.{eqb}
 use lib.ListN.{length, take, drop, length-drop, take-append-drop}
 use lib.Seq.{length-take-le}
+use Rattle.units.specs.Refusals.{bad-byte}
 use Rattle.series_lines.specs.declared.Reader.{Reader}
 use Rattle.series_lines.specs.Judge.{Verdict}
 use Rattle.series_lines.specs.Lexer.{spot-bad}
@@ -65,7 +66,7 @@ counted (x ∷ xs) p out h e =
 
 -- Bytes past those that can be counted leave the output as it was.
 module _ (p : Published) (out : List ℕ) (x : ℕ) (s : p .reader .status ≡ 0) (e : p .reader .at ≡ last-offset) where
-  step-last : (step p out x ≡ halted p 3) × (step-out p out x ≡ out)
+  step-last : (step p out x ≡ halted p bad-byte) × (step-out p out x ≡ out)
   unfolding step step-out uncounted
   step-last =
       let a = eq-eqb (p .reader .status) 0 s in
@@ -80,7 +81,7 @@ past (x ∷ xs) p out h =
     let t = step-last p out x s (h s) in
     ap (λ (y : Run Published). y .out)
     (run-one p out x xs ∙ ap (λ (o : List ℕ). run (step p out x) o xs) (t .1) ∙ ap (λ (q : Published). run q out xs) (t .0)
-    ∙ stays (halted p 3) (λ e. omega (arith, e)) out xs))
+    ∙ stays (halted p bad-byte) (λ e. omega (arith, e)) out xs))
     (λ z. ap (λ (y : Run Published). y .out) (stays p (eqb-false (p .reader .status) 0 z) out (x ∷ xs)))
 
 pub uncounted-out : (file out : List ℕ) → run begun-file out file .out ≡ run begun-file out (take last-offset file) .out

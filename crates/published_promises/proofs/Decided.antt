@@ -14,13 +14,14 @@ use lib.Seq.{sets, length-sets}
 use Rattle.units.specs.Units.{block-count}
 use Rattle.units.specs.declared.Refusal.{Refusal}
 use Rattle.units.specs.declared.Refusal.the-variants.{NoRoom}
+use Rattle.units.specs.Refusals.{of-number}
 use Rattle.limits.specs.declared.Tally.{Tally}
 use Rattle.limits.specs.Limits.{no-tally, factor, count-fits, total-fits, coarse-fits}
 use Rattle.series_lines.specs.declared.Outcome.{Outcome}
 use Rattle.series_lines.specs.declared.Outcome.the-variants.{More, Accepted, Refused}
 use Rattle.series_lines.specs.Grammar.{feed, size, value, count, any-packed, TermInLimits}
 use Rattle.series_lines.specs.Lexer.{spot-bad}
-use Rattle.series_lines.specs.Reader.{last-offset, fits, put-bytes, refusal}
+use Rattle.series_lines.specs.Reader.{last-offset, fits, put-bytes}
 use Rattle.series_lines.specs.Reader as lines
 use Rattle.series_lines.specs.Calls.{Run}
 use Rattle.published_records.specs.declared.Row.{Row}
@@ -57,7 +58,7 @@ module _ (at w k m : ℕ) (s : Tally) (o : List ℕ) where
 
   full : length o < w + length (missing-packed k)
       → (told (ended (st at w k 0 m s) o) ≡ Refused (NoRoom at)) × (ended-out (st at w k 0 m s) o ≡ o)
-  unfolding ended ended-out lines.told fits put-bytes inside refusal
+  unfolding ended ended-out lines.told fits put-bytes inside of-number
   full h =
       let e = zeros-packed (block-count - k) in
       let f : leb (w + length (zeros (block-count - k))) (length o) ≡ false = lt-leb _ _ (rw e at h) in

@@ -10,12 +10,14 @@ use lib.ListN.{length, length-append}
 use Rattle.units.specs.Units.{block-count}
 use Rattle.units.specs.declared.Refusal.{Refusal}
 use Rattle.units.specs.declared.Refusal.the-variants.{BadByte, NoRoom, EndedEarly, ByteAfterEnd}
+use Rattle.units.specs.Refusals.{over-limit, total-over-limit, no-room, byte-after-end, bad-heading, bad-number, of-number}
+use Rattle.units.specs.Refusals as numbers
 use Rattle.limits.specs.declared.Tally.{Tally}
 use Rattle.series_lines.specs.declared.Reader.{Reader}
 use Rattle.series_lines.specs.declared.Outcome.the-variants.{More, Refused}
 use Rattle.series_lines.specs.Grammar.{feed, any-packed}
 use Rattle.series_lines.specs.Lexer.{spot-bad}
-use Rattle.series_lines.specs.Reader.{last-offset, next-spot, stopped, fits, put-bytes, wrote, wrote-out, uncounted, refusal}
+use Rattle.series_lines.specs.Reader.{last-offset, next-spot, stopped, fits, put-bytes, wrote, wrote-out, uncounted}
 use Rattle.series_lines.specs.Reader as lines
 use Rattle.series_lines.specs.Calls.{Run}
 use Rattle.published_records.specs.declared.Row.{Row}
@@ -29,9 +31,10 @@ use Rattle.published_promises.specs.Decided.{out-of-order, count-over, w
 use Rattle.integers.proofs.Tests.{by-cases}
 use Rattle.published_promises.proofs.Records.{no-feed-append}
 use Rattle.published_promises.proofs.Lines.{in-record, st, kind, run-none, run-one, stays, step-bad, step-feed, one-more, begun-past, row-run}
-use Rattle.published_promises.proofs.Judged.{verdict-early, Says, begins, live, no-feed, whole-in, heading-can, record-can, heading-says, record-says}
-use Rattle.published_promises.proofs.Judged.{heading-judged, heading-thirteen, heading-four, heading-zero}
-use Rattle.published_promises.proofs.Judged.{record-judged, record-fourteen, record-four, record-five, record-six, record-zero}
+use Rattle.published_promises.proofs.Judged.{verdict-early, Says, begins, live, no-feed}
+use Rattle.published_promises.proofs.Judged.{whole-in, heading-can, record-can, heading-says, record-says}
+use Rattle.published_promises.proofs.Judged.{heading-judged, order-refused, heading-count-refused, heading-zero}
+use Rattle.published_promises.proofs.Judged.{record-judged, record-number-refused, record-limit-refused, record-total-refused, record-coarse-refused, record-zero}
 
 -- The reader p refuses the bytes xs, before the end and at it, and nothing is written.
 pub record Halts (p : Published) (o xs : List ℕ) (f : Refusal) : Type 0 where
@@ -46,7 +49,7 @@ stopped-at r c row last = record { reader = stopped r c; row = row; last = last 
 
 halts : (p : Published) (o xs : List ℕ) (f : Refusal) (r : Reader) (c : ℕ) (row : Row) (m : ℕ)
     → run p o xs ≡ record { reader = stopped-at r c row m; out = o }
-    → eqb c 0 ≡ false → eqb c 1 ≡ false → refusal c (r .at) ≡ f → Halts p o xs f
+    → eqb c 0 ≡ false → eqb c 1 ≡ false → of-number c (r .at) ≡ f → Halts p o xs f
 halts p o xs f r c row m e y z i =
     let t = plain r c y z ∙ ap (λ (x : Refusal). Refused x) i in
     record {
@@ -56,7 +59,7 @@ halts p o xs f r c row m e y z i =
       last-same = ap (λ (x : Run Published). ended-out (x .reader) (x .out)) e ∙ same-out r c y;
     }
   where
-    plain : (r : Reader) (c : ℕ) → eqb c 0 ≡ false → eqb c 1 ≡ false → lines.told (stopped r c) ≡ Refused (refusal c (r .at))
+    plain : (r : Reader) (c : ℕ) → eqb c 0 ≡ false → eqb c 1 ≡ false → lines.told (stopped r c) ≡ Refused (of-number c (r .at))
     plain r c y z = unfold lines.told in rw (y, z)
 
     same-end : (r : Reader) (c : ℕ) → eqb c 0 ≡ false → ended (stopped-at r c row m) o ≡ stopped-at r c row m
@@ -91,30 +94,30 @@ module _ (at w k n m : ℕ) (s : Tally) (o xs : List ℕ) where
 
       pub bad-halts : (b : ℕ) (more : List ℕ) → (b ≡ feed → ⊥) → lex-row (kind n) (lex-rows (kind n) fresh-row xs) b .line .spot ≡ spot-bad
           → Halts (st at w k n m s) o (xs ++ (b ∷ more)) (BadByte (at + length xs))
-      unfolding refusal
+      unfolding of-number
       bad-halts b more h e =
           let t = step-bad (at + length xs) w k n m s (lex-rows (kind n) fresh-row xs) o awaits (λ q. omega (arith, q)) b h e in
-          halts (st at w k n m s) o (xs ++ (b ∷ more)) (BadByte (at + length xs)) (here .reader) 3 (here .row) m
-          (stop-run b more 3 (here .row) m (λ q. omega (arith, q)) (t .0) (t .1)) refl refl refl
+          halts (st at w k n m s) o (xs ++ (b ∷ more)) (BadByte (at + length xs)) (here .reader) numbers.bad-byte (here .row) m
+          (stop-run b more numbers.bad-byte (here .row) m (λ q. omega (arith, q)) (t .0) (t .1)) refl refl refl
 
       -- A line feed after a record that is refused with the number c.
       pub feed-halts : (c : ℕ) (more : List ℕ) → verdict here .refusal ≡ c → eqb c 0 ≡ false → eqb c 1 ≡ false
-          → Halts (st at w k n m s) o (xs ++ (feed ∷ more)) (refusal c (at + length xs))
+          → Halts (st at w k n m s) o (xs ++ (feed ∷ more)) (of-number c (at + length xs))
       unfolding wrote wrote-out
       feed-halts c more e y z =
           let t = step-feed (at + length xs) w k n m s (lex-rows (kind n) fresh-row xs) o awaits (λ q. omega (arith, q)) in
-          halts (st at w k n m s) o (xs ++ (feed ∷ more)) (refusal c (at + length xs)) (here .reader) c fresh-row (next-last here)
+          halts (st at w k n m s) o (xs ++ (feed ∷ more)) (of-number c (at + length xs)) (here .reader) c fresh-row (next-last here)
           (stop-run feed more c fresh-row (next-last here) (eqb-false c 0 y) (t .0 ∙ (rw (e, y))) (t .1 ∙ (rw (e, y)))) y z refl
 
       -- A line feed after a record whose bytes have no room.
       pub full-halts : (more : List ℕ) → verdict here .refusal ≡ 0 → length o < w + length (verdict here .bytes)
           → Halts (st at w k n m s) o (xs ++ (feed ∷ more)) (NoRoom (at + length xs))
-      unfolding wrote wrote-out put-bytes fits refusal
+      unfolding wrote wrote-out put-bytes fits of-number
       full-halts more e h =
           let t = step-feed (at + length xs) w k n m s (lex-rows (kind n) fresh-row xs) o awaits (λ q. omega (arith, q)) in
           let g = lt-leb (w + length (verdict here .bytes)) (length o) h in
-          halts (st at w k n m s) o (xs ++ (feed ∷ more)) (NoRoom (at + length xs)) (here .reader) 7 fresh-row (next-last here)
-          (stop-run feed more 7 fresh-row (next-last here) (λ q. omega (arith, q)) (t .0 ∙ (rw (e, g))) (t .1 ∙ (rw (e, g)))) refl refl refl
+          halts (st at w k n m s) o (xs ++ (feed ∷ more)) (NoRoom (at + length xs)) (here .reader) no-room fresh-row (next-last here)
+          (stop-run feed more no-room fresh-row (next-last here) (λ q. omega (arith, q)) (t .0 ∙ (rw (e, g))) (t .1 ∙ (rw (e, g)))) refl refl refl
 
 -- ---- Every refusal.
 
@@ -127,17 +130,17 @@ no-feed-more xs b f h = no-feed-append xs (b ∷ []) f (unfold NoFeed in (h, tt)
 -- A byte after block 18.
 after-halts : (at w m : ℕ) (s : Tally) (o : List ℕ) (b : ℕ) (more : List ℕ) → at < last-offset
     → Halts (st at w block-count 0 m s) o (b ∷ more) (ByteAfterEnd at)
-unfolding refusal
+unfolding of-number
 after-halts at w m s o b more h =
     let p = st at w block-count 0 m s in
     let t = by-nine (λ e. omega (arith, e)) in
-    halts p o (b ∷ more) (ByteAfterEnd at) (p .reader) 9 fresh-row m
+    halts p o (b ∷ more) (ByteAfterEnd at) (p .reader) byte-after-end fresh-row m
     (run-one p o b more ∙ ap (λ (y : List ℕ). run (step p o b) y more) (t .1) ∙ ap (λ (q : Published). run q o more) (t .0)
-    ∙ stays (halted p 9) (λ q. omega (arith, q)) o more)
+    ∙ stays (halted p byte-after-end) (λ q. omega (arith, q)) o more)
     refl refl refl
   where
     by-nine : (at ≡ last-offset → ⊥)
-        → (step (st at w block-count 0 m s) o b ≡ halted (st at w block-count 0 m s) 9) × (step-out (st at w block-count 0 m s) o b ≡ o)
+        → (step (st at w block-count 0 m s) o b ≡ halted (st at w block-count 0 m s) byte-after-end) × (step-out (st at w block-count 0 m s) o b ≡ o)
     by-nine n = let t = ne-eqb at last-offset n in unfold step step-out uncounted complete next-spot in (rw t, rw t)
 
 module _ (at w k n m : ℕ) (s : Tally) (o : List ℕ) where
@@ -152,9 +155,9 @@ module _ (at w k n m : ℕ) (s : Tally) (o : List ℕ) where
 
   early-feed-halts : (xs more : List ℕ) → Awaits k n → CanBegin n xs → (IsWhole n xs → ⊥)
       → at + length (xs ++ (feed ∷ more)) ≤ last-offset → Halts (st at w k n m s) o (xs ++ (feed ∷ more)) (BadByte (at + length xs))
-  unfolding refusal
+  unfolding of-number
   early-feed-halts xs more a c x l =
-      feed-halts at w k n m s o xs a (no-feed n xs c) (live n xs c) (inside-record at xs feed more l) 3 more
+      feed-halts at w k n m s o xs a (no-feed n xs c) (live n xs c) (inside-record at xs feed more l) numbers.bad-byte more
       (verdict-early (at + length xs) w k m s (lex-rows (kind n) fresh-row xs) n not-whole) refl refl
     where
       not-whole : whole-row (kind n) (lex-rows (kind n) fresh-row xs) ≡ false
@@ -167,7 +170,8 @@ module _ (at w k n m : ℕ) (s : Tally) (o : List ℕ) where
   module _ (xs more : List ℕ) (r : AnyRecord) (j blocks left last : ℕ) (after : Tally) (a : Awaits k n) (c : CanBegin n xs)
       (y : Says (at + length xs) w k n m s (lex-rows (kind n) fresh-row xs) r j blocks left last after)
       (l : at + length (xs ++ (feed ∷ more)) ≤ last-offset) where
-    judged-halts : (d : ℕ) → j ≡ d → eqb d 0 ≡ false → eqb d 1 ≡ false → Halts (st at w k n m s) o (xs ++ (feed ∷ more)) (refusal d (at + length xs))
+    judged-halts : (d : ℕ) → j ≡ d → eqb d 0 ≡ false → eqb d 1 ≡ false
+        → Halts (st at w k n m s) o (xs ++ (feed ∷ more)) (of-number d (at + length xs))
     judged-halts d e =
         feed-halts at w k n m s o xs a (no-feed n xs c) (live n xs c) (inside-record at xs feed more l) d more (y .refusal ∙ e)
 
@@ -179,7 +183,7 @@ module _ (at w k n m : ℕ) (s : Tally) (o : List ℕ) where
 module _ (at w k m : ℕ) (s : Tally) (o more : List ℕ) where
   module _ (h : Heading) (a : k < block-count) (g : GoodHeading h) (l : at + length (heading-bytes h ++ (feed ∷ more)) ≤ last-offset) where
     heading-halts : (d : ℕ) → heading-judged k s h ≡ d → eqb d 0 ≡ false → eqb d 1 ≡ false
-        → Halts (st at w k 0 m s) o (heading-bytes h ++ (feed ∷ more)) (refusal d (at + length (heading-bytes h)))
+        → Halts (st at w k 0 m s) o (heading-bytes h ++ (feed ∷ more)) (of-number d (at + length (heading-bytes h)))
     heading-halts =
         judged-halts at w k 0 m s o (heading-bytes h) more (a-heading h) _ _ _ _ _ (λ i. a) (heading-can h g)
         (heading-says (at + length (heading-bytes h)) w k m s h g) l
@@ -192,7 +196,7 @@ module _ (at w k m : ℕ) (s : Tally) (o more : List ℕ) where
 
   module _ (n : ℕ) (t : TermRecord) (g : GoodRecord t) (l : at + length (record-bytes t ++ (feed ∷ more)) ≤ last-offset) where
     record-halts : (d : ℕ) → record-judged k m s t ≡ d → eqb d 0 ≡ false → eqb d 1 ≡ false
-        → Halts (st at w k (suc n) m s) o (record-bytes t ++ (feed ∷ more)) (refusal d (at + length (record-bytes t)))
+        → Halts (st at w k (suc n) m s) o (record-bytes t ++ (feed ∷ more)) (of-number d (at + length (record-bytes t)))
     record-halts =
         judged-halts at w k (suc n) m s o (record-bytes t) more (a-record t) _ _ _ _ _ (λ i. absurd (omega (arith, i))) (record-can n t g)
         (record-says (at + length (record-bytes t)) w k m s n t g) l
@@ -205,22 +209,22 @@ module _ (at w k m : ℕ) (s : Tally) (o more : List ℕ) where
 
 pub refusals : {at : ℕ} {s : Tally} {room k n m : ℕ} {rest : List ℕ} {f : Refusal} → Refuses at s room k n m rest f → (w : ℕ) (o : List ℕ)
     → at + length rest ≤ last-offset → w + room ≡ length o → Halts (st at w k n m s) o rest f
-unfolding refusal
+unfolding of-number
 refusals {at} {s} {room} (after-end {m} b more) w o l e = after-halts at w m s o b more (omega arith)
 refusals {at} {s} {room} (bad-byte {k} {n} {m} xs b more a c h x) w o l e = bad-byte-halts at w k n m s o xs b more a c h x l
 refusals {at} {s} {room} (early-feed {k} {n} {m} xs more a c x) w o l e = early-feed-halts at w k n m s o xs more a c x l
 refusals {at} {s} {room} (out-of-order {k} {m} h more a g i) w o l e =
-    heading-halts at w k m s o more h a g l 13 (heading-thirteen k s h i) refl refl
+    heading-halts at w k m s o more h a g l bad-heading (order-refused k s h i) refl refl
 refusals {at} {s} {room} (count-over {k} {m} h more a g i x) w o l e =
-    heading-halts at w k m s o more h a g l 4 (heading-four k s h i x) refl refl
+    heading-halts at w k m s o more h a g l over-limit (heading-count-refused k s h i x) refl refl
 refusals {at} {s} {room} (wrong-number {k} {n} {m} t more g i) w o l e =
-    record-halts at w k m s o more n t g l 14 (record-fourteen k m s t i) refl refl
+    record-halts at w k m s o more n t g l bad-number (record-number-refused k m s t i) refl refl
 refusals {at} {s} {room} (number-over {k} {n} {m} t more g i x) w o l e =
-    record-halts at w k m s o more n t g l 4 (record-four k m s t i x) refl refl
+    record-halts at w k m s o more n t g l over-limit (record-limit-refused k m s t i x) refl refl
 refusals {at} {s} {room} (total-over {k} {n} {m} t more g i x u) w o l e =
-    record-halts at w k m s o more n t g l 5 (record-five k m s t i x u) refl refl
+    record-halts at w k m s o more n t g l total-over-limit (record-total-refused k m s t i x u) refl refl
 refusals {at} {s} {room} (too-coarse {k} {n} {m} t more g i x u v) w o l e =
-    record-halts at w k m s o more n t g l 6 (record-six k m s t i x u v) refl refl
+    record-halts at w k m s o more n t g l numbers.too-coarse (record-coarse-refused k m s t i x u v) refl refl
 refusals {at} {s} {room} (no-room-heading {k} {m} h more a g i x u) w o l e =
     heading-full at w k m s o more h a g l (heading-zero k s h i x) (omega arith)
 refusals {at} {s} {room} (no-room-record {k} {n} {m} t more g i x u) w o l e =
@@ -266,7 +270,7 @@ module _ (at w k n m : ℕ) (s : Tally) (o xs : List ℕ) (a : Awaits k n) (c : 
       }
     where
       early : inside there ≡ true → told (ended there o) ≡ Refused (EndedEarly (at + length xs))
-      early i = unfold lines.told ended refusal in rw i
+      early i = unfold lines.told ended of-number in rw i
 
       early-out : inside there ≡ true → ended-out there o ≡ o
       early-out i = unfold ended-out in rw i

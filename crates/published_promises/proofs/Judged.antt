@@ -8,6 +8,7 @@ use borrow.Author.Tests.{eqb-true, eq-eqb, ne-eqb, le-leb}
 use lib.Dec.{eqb}
 use lib.ListN.{length}
 use lib.Seq.{sets}
+use Rattle.units.specs.Refusals.{bad-byte, over-limit, total-over-limit, too-coarse, bad-heading, bad-number}
 use Rattle.packed_numbers.specs.Numbers.{encode, groups}
 use Rattle.limits.specs.declared.Term.{Term}
 use Rattle.limits.specs.declared.Tally.{Tally}
@@ -30,7 +31,7 @@ use Rattle.integers.proofs.Tests.{by-cases}
 use Rattle.text_promises.proofs.GoodLines.{flag}
 use Rattle.text_promises.specs.Decided.{NumbersInLimits}
 use Rattle.text_promises.proofs.Verdicts.{term-is, term-zero}
-use Rattle.text_promises.proofs.Halts.{number-four, total-five, coarse-six}
+use Rattle.text_promises.proofs.Halts.{number-refused, total-refused, coarse-refused}
 use Rattle.published_promises.proofs.Lines.{in-record, st, kind, run-one, step-feed, row-run}
 use Rattle.published_promises.proofs.Records.{heading-row, record-row, heading-run, record-run, heading-whole, record-whole}
 use Rattle.published_promises.proofs.Records.{heading-live, record-live, heading-no-feed, record-no-feed}
@@ -53,14 +54,14 @@ record-judged k m s t =
     record-refusal m (count (t .number)) (factor (k - 1)) s (cond (t .b .minus) 1 0) (term-of-line (cut-term t))
 
 module _ (k : ℕ) (s : Tally) (h : Heading) where
-  pub heading-thirteen : in-order k (h .version) (h .coordinate) (h .power) ≡ false → heading-judged k s h ≡ 13
+  pub order-refused : in-order k (h .version) (h .coordinate) (h .power) ≡ false → heading-judged k s h ≡ bad-heading
   unfolding heading-refusal
-  heading-thirteen i = rw i
+  order-refused i = rw i
 
   module _ (i : in-order k (h .version) (h .coordinate) (h .power) ≡ true) where
-    pub heading-four : count-fits s (count (h .count)) ≡ false → heading-judged k s h ≡ 4
+    pub heading-count-refused : count-fits s (count (h .count)) ≡ false → heading-judged k s h ≡ over-limit
     unfolding heading-refusal
-    heading-four f = rw (i, f)
+    heading-count-refused f = rw (i, f)
 
     pub heading-zero : count-fits s (count (h .count)) ≡ true → heading-judged k s h ≡ 0
     unfolding heading-refusal
@@ -73,9 +74,9 @@ minus-is true = refl
 minus-is false = refl
 
 module _ (k m : ℕ) (s : Tally) (t : TermRecord) where
-  pub record-fourteen : (count (t .number) ≡ m + 1 → ⊥) → record-judged k m s t ≡ 14
+  pub record-number-refused : (count (t .number) ≡ m + 1 → ⊥) → record-judged k m s t ≡ bad-number
   unfolding record-refusal
-  record-fourteen x = rw (ne-eqb (count (t .number)) (m + 1) x)
+  record-number-refused x = rw (ne-eqb (count (t .number)) (m + 1) x)
 
   -- With the next running number it is judged as the line of a text that is cut out of it.
   module _ (i : count (t .number) ≡ m + 1) where
@@ -83,15 +84,15 @@ module _ (k m : ℕ) (s : Tally) (t : TermRecord) where
     unfolding record-refusal
     as-line = rw (eq-eqb (count (t .number)) (m + 1) i, minus-is (t .b .minus))
 
-    pub record-four : (NumbersInLimits (cut-term t) → ⊥) → record-judged k m s t ≡ 4
-    record-four x = as-line ∙ number-four (factor (k - 1)) s (cut-term t) x
+    pub record-limit-refused : (NumbersInLimits (cut-term t) → ⊥) → record-judged k m s t ≡ over-limit
+    record-limit-refused x = as-line ∙ number-refused (factor (k - 1)) s (cut-term t) x
 
-    pub record-five : NumbersInLimits (cut-term t) → total-fits s (value (t .a)) ≡ false → record-judged k m s t ≡ 5
-    record-five x u = as-line ∙ total-five (factor (k - 1)) s (cut-term t) x u
+    pub record-total-refused : NumbersInLimits (cut-term t) → total-fits s (value (t .a)) ≡ false → record-judged k m s t ≡ total-over-limit
+    record-total-refused x u = as-line ∙ total-refused (factor (k - 1)) s (cut-term t) x u
 
-    pub record-six : NumbersInLimits (cut-term t) → total-fits s (value (t .a)) ≡ true
-        → coarse-fits (factor (k - 1)) s (value (t .a)) (size (t .b)) (value (t .c)) ≡ false → record-judged k m s t ≡ 6
-    record-six x u v = as-line ∙ coarse-six (factor (k - 1)) s (cut-term t) x u v
+    pub record-coarse-refused : NumbersInLimits (cut-term t) → total-fits s (value (t .a)) ≡ true
+        → coarse-fits (factor (k - 1)) s (value (t .a)) (size (t .b)) (value (t .c)) ≡ false → record-judged k m s t ≡ too-coarse
+    record-coarse-refused x u v = as-line ∙ coarse-refused (factor (k - 1)) s (cut-term t) x u v
 
     pub record-zero : TermInLimits (factor (k - 1)) s (cut-term t) → record-judged k m s t ≡ 0
     record-zero x = as-line ∙ term-zero (factor (k - 1)) s (cut-term t) x
@@ -143,7 +144,7 @@ module _ (at w k m : ℕ) (s : Tally) (row : Row) where
   unfolding verdict at-heading
   verdict-record n e = rw (kind-suc n, e)
 
-  pub verdict-early : (n : ℕ) → whole-row (kind n) row ≡ false → verdict (in-record at w k n m s row) .refusal ≡ 3
+  pub verdict-early : (n : ℕ) → whole-row (kind n) row ≡ false → verdict (in-record at w k n m s row) .refusal ≡ bad-byte
   unfolding verdict at-heading
   verdict-early n e = rw e
 

@@ -9,6 +9,7 @@ use borrow.Author.Tests.{eq-eqb, ne-eqb}
 use lib.Dec.{ltb, eqb}
 use lib.ListN.{length}
 use Rattle.units.specs.Units.{block-count}
+use Rattle.units.specs.Refusals.{bad-byte}
 use Rattle.limits.specs.declared.Tally.{Tally}
 use Rattle.series_lines.specs.Grammar.{feed}
 use Rattle.series_lines.specs.Lexer.{spot-bad, fresh}
@@ -95,7 +96,7 @@ module _ (at w k n m : ℕ) (s : Tally) (row : Row) (out : List ℕ) (awaits : A
       (rw (u, v, y, ne-eqb (lex-row (kind n) row byte .line .spot) spot-bad g), rw (u, v, y))
 
   pub step-bad : (byte : ℕ) → (byte ≡ feed → ⊥) → lex-row (kind n) row byte .line .spot ≡ spot-bad
-      → (step (in-record at w k n m s row) out byte ≡ halted (in-record at w k n m s row) 3)
+      → (step (in-record at w k n m s row) out byte ≡ halted (in-record at w k n m s row) bad-byte)
       × (step-out (in-record at w k n m s row) out byte ≡ out)
   unfolding step step-out uncounted complete other at-heading
   step-bad byte h g =

@@ -7,10 +7,11 @@ use Prim.Native.Nat.{ℕ, suc, _+_, _-_, _≤_, _<_}
 use lib.ListN.{length}
 use Rattle.units.specs.Units.{block-count}
 use Rattle.units.specs.declared.Refusal.the-variants.{OverLimit, NoRoom}
+use Rattle.units.specs.Refusals.{over-limit, total-over-limit, too-coarse, no-room, of-number}
 use Rattle.series_lines.specs.declared.Outcome.{Outcome}
 use Rattle.series_lines.specs.declared.Outcome.the-variants.{Accepted, Refused}
 use Rattle.series_lines.specs.Grammar.{count, any-bytes, any-packed}
-use Rattle.series_lines.specs.Reader.{refusal, told}
+use Rattle.series_lines.specs.Reader.{told}
 use Rattle.published_records.specs.Layout.{Heading, heading-bytes, GoodHeading, TermRecord, GoodRecord}
 use Rattle.published_headings.specs.Judge.{in-order}
 use Rattle.published.specs.Reader as published
@@ -31,10 +32,10 @@ pub data Ordered : List AnyRecord → ℕ → ℕ → ℕ → Type 0 where
 
 -- The refusals that are left: a number, a total or the coarseness passes its limit, or there is no room.
 pub data OfLimits : ℕ → Type 0 where
-  over : OfLimits 4
-  total : OfLimits 5
-  coarse : OfLimits 6
-  room : OfLimits 7
+  over : OfLimits over-limit
+  total : OfLimits total-over-limit
+  coarse : OfLimits too-coarse
+  room : OfLimits no-room
 
 -- An offset of the text lies after the lines that are cut out of some records, and in those that are cut out of the next one.
 pub record InCutOf (before : List AnyRecord) (r : AnyRecord) (place : ℕ) : Type 0 where
@@ -55,7 +56,7 @@ pub data Agree (rs : List AnyRecord) (out : List ℕ) : Outcome → List ℕ →
   -- Both refuse alike: the one at the line feed of a record, the other in a line that is cut out of it.
   both-refuse : (before after : List AnyRecord) (r : AnyRecord) → rs ≡ before ++ (r ∷ after)
       → (c place : ℕ) → OfLimits c → InCutOf before r place → (left text-left : List ℕ)
-      → Agree rs out (Refused (refusal c (length (file-bytes before) + length (any-record-bytes r)))) left (Refused (refusal c place)) text-left
+      → Agree rs out (Refused (of-number c (length (file-bytes before) + length (any-record-bytes r)))) left (Refused (of-number c place)) text-left
   -- A heading with a count over its limit, after blocks without one, where there is no room for their counts: they come first in the text,
   -- while the reader of the file judges the heading before it writes them.
   over-and-full : (before after : List AnyRecord) (h : Heading) → rs ≡ before ++ (a-heading h ∷ after)

@@ -6,6 +6,7 @@ use Prim.Native.Nat.{ℕ, _+_}
 use native.Mathlib.Omega.{arith}
 use borrow.Author.Tests.{eq-eqb, ne-eqb}
 use lib.ListN.{length}
+use Rattle.units.specs.Refusals.{no-room}
 use Rattle.packed_numbers.specs.declared.Put.{Put}
 use Rattle.packed_numbers.specs.declared.Put.the-variants.{Next, NoRoom}
 use Rattle.packed_numbers.specs.Numbers.{encode}
@@ -41,7 +42,7 @@ module _ (r s : Reader) (out : List ℕ) (v : Verdict) where
   module _ (good : v .refusal ≡ 0) (p : Put) (after : List ℕ) (n m : ℕ)
       (pa : p ≡ cond (fits (v .bytes) (r .written) out) (Next (r .written + length (v .bytes))) (NoRoom m))
       (po : after ≡ put-bytes (v .bytes) (r .written) out) where
-    pub wrote-full : p ≡ NoRoom n → s ≡ stopped r 7 → (s ≡ wrote r out v) × (after ≡ wrote-out r out v)
+    pub wrote-full : p ≡ NoRoom n → s ≡ stopped r no-room → (s ≡ wrote r out v) × (after ≡ wrote-out r out v)
     unfolding wrote wrote-out
     wrote-full f e =
         let t = no-fit (fits (v .bytes) (r .written) out) _ _ n p pa f in (

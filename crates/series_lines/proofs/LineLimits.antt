@@ -9,6 +9,7 @@ use lib.IntN.{natAbs}
 use Rattle.integers.proofs.Tests.{by-cases}
 use Rattle.integers.proofs.Order.{natAbs-sgn}
 use Rattle.units.specs.Units.{block-count, a-limit, c-limit}
+use Rattle.units.specs.Refusals.{over-limit, byte-after-end}
 use Rattle.limits.specs.declared.Tally.{Tally}
 use Rattle.limits.specs.Limits.{added, count-fits, term-may-come, term-refusal}
 use Rattle.limits.specs.machine.Magnitudes.{unsigned}
@@ -36,17 +37,17 @@ module _ (f : ℕ) (s : Tally) (l : Line) where
   unfolding term-line-refusal
   line-plain e = refusal-size f s (term-on-line l) a-is c-is ∙ rw (eq-eqb (l .minusb) 0 e)
 
-  pub line-minus : (l .minusb ≡ 0 → ⊥) → 4 ≡ term-line-refusal f s (l .minusb) (term-on-line l)
+  pub line-minus : (l .minusb ≡ 0 → ⊥) → over-limit ≡ term-line-refusal f s (l .minusb) (term-on-line l)
   unfolding term-line-refusal
   line-minus h = rw (ne-eqb (l .minusb) 0 h)
 
   -- A line that is not refused.
   line-passes : term-line-refusal f s (l .minusb) (term-on-line l) ≡ 0 → Passes f s (term-on-line l)
   unfolding term-line-refusal
-  line-passes e = by-cases (eqb (l .minusb) 0) (λ p. not-refused f s (term-on-line l) (rw p at e)) (λ p. absurd (four (rw p at e)))
+  line-passes e = by-cases (eqb (l .minusb) 0) (λ p. not-refused f s (term-on-line l) (rw p at e)) (λ p. absurd (over (rw p at e)))
     where
-      four : _≡_ {A = ℕ} 4 0 → ⊥
-      four h = omega arith
+      over : over-limit ≡ 0 → ⊥
+      over h = omega arith
 
   pub line-may-come : term-line-refusal f s (l .minusb) (term-on-line l) ≡ 0 → term-may-come f s (unsigned (l .a) (l .b) (l .value)) ≡ true
   line-may-come e = may-come-size f s (term-on-line l) a-is c-is ∙ all-pass f s (term-on-line l) (line-passes e)
@@ -61,8 +62,8 @@ pub count-limits : (k : ℕ) (s : Tally) (n : ℕ) → count-refusal k s n ≡ 0
 unfolding count-refusal
 count-limits k s n e =
     by-cases (ltb k block-count)
-    (λ p. by-cases (count-fits s n) (λ q. (ltb-true _ _ p, q)) (λ q. absurd (apart 4 (λ x. omega (arith, x)) (rw (p, q) at e))))
-    (λ p. absurd (apart 9 (λ x. omega (arith, x)) (rw p at e)))
+    (λ p. by-cases (count-fits s n) (λ q. (ltb-true _ _ p, q)) (λ q. absurd (apart over-limit (λ x. omega (arith, x)) (rw (p, q) at e))))
+    (λ p. absurd (apart byte-after-end (λ x. omega (arith, x)) (rw p at e)))
   where
     apart : (x : ℕ) → (x ≡ 0 → ⊥) → x ≡ 0 → ⊥
     apart x h = h

@@ -8,6 +8,7 @@ use lib.IntN.{ℤ}
 use Rattle.integers.specs.Signs.{sgn}
 use Rattle.packed_numbers.specs.Numbers.{encode}
 use Rattle.units.specs.Units.{block-count}
+use Rattle.units.specs.Refusals.{over-limit, byte-after-end}
 use Rattle.limits.specs.declared.Term.{Term}
 use Rattle.limits.specs.declared.Tally.{Tally}
 use Rattle.limits.specs.Limits.{opened, added, factor, count-fits, term-refusal}
@@ -27,8 +28,8 @@ signed minus value = sgn (ltb 0 minus) value
 abbrev pub term-on-line : Line → Term
 term-on-line l = record { a = signed (l .minusa) (l .a); b = l .b; c = signed (l .minus) (l .value) }
 
--- What a whole line says: the refusal of its numbers, or 0; its packed bytes; and with it the counts so far, the terms left of the block
--- and the tally.
+-- What a whole line says: the number of the refusal of its numbers, or 0; its packed bytes; and with it the counts so far, the terms left of
+-- the block and the tally.
 pub record Verdict : Type 0 where
   pub refusal : ℕ
   pub bytes : List ℕ
@@ -38,7 +39,7 @@ pub record Verdict : Type 0 where
 
 -- A count. (A state in which one comes after 18 of them was given by no call.)
 unfoldable pub count-refusal : ℕ → Tally → ℕ → ℕ
-count-refusal blocks s n = cond (ltb blocks block-count) (cond (count-fits s n) 0 4) 9
+count-refusal blocks s n = cond (ltb blocks block-count) (cond (count-fits s n) 0 over-limit) byte-after-end
 
 abbrev pub count-end : Reader → Verdict
 count-end r =
@@ -52,7 +53,7 @@ count-end r =
 
 -- A term, in a block with factor f after the tally s: the limits of every series, and b without a minus.
 unfoldable pub term-line-refusal : ℕ → Tally → ℕ → Term → ℕ
-term-line-refusal f s minusb t = cond (eqb minusb 0) (term-refusal f s t) 4
+term-line-refusal f s minusb t = cond (eqb minusb 0) (term-refusal f s t) over-limit
 
 abbrev pub term-end : Reader → Verdict
 term-end r =

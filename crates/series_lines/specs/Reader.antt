@@ -6,10 +6,9 @@ use Prim.Native.Nat.{ℕ, _+_}
 use lib.Dec.{leb, eqb}
 use lib.ListN.{length}
 use lib.Seq.{sets}
-use Rattle.units.specs.declared.Refusal.{Refusal}
-use Rattle.units.specs.declared.Refusal.the-variants.{BadByte, OverLimit, TotalOverLimit, TooCoarse, NoRoom, EndedEarly, ByteAfterEnd, BadHeading, BadNumber}
 use Rattle.limits.specs.declared.Tally.{Tally}
 use Rattle.units.specs.Units.{block-count, coarse-base}
+use Rattle.units.specs.Refusals.{no-room, of-number}
 use Rattle.series_lines.specs.declared.Line.{Line}
 use Rattle.series_lines.specs.declared.Reader.{Reader}
 use Rattle.series_lines.specs.declared.Outcome.{Outcome}
@@ -105,11 +104,11 @@ after-line r v = advanced r (r .written + length (v .bytes)) (v .blocks) (v .lef
 unfoldable pub fits : List ℕ → ℕ → List ℕ → Bool
 fits bytes written out = leb (written + length bytes) (length out)
 
--- The reader after the judgement of a line: 7 where its bytes do not fit.
+-- The reader after the judgement of a line, whose bytes may not fit.
 unfoldable pub wrote : Reader → List ℕ → Verdict → Reader
 wrote r out v =
     cond (eqb (v .refusal) 0)
-    (cond (fits (v .bytes) (r .written) out) (after-line r v) (stopped r 7))
+    (cond (fits (v .bytes) (r .written) out) (after-line r v) (stopped r no-room))
     (stopped r (v .refusal))
 
 -- The output with the bytes, where there is room for them.
@@ -128,21 +127,8 @@ last-offset = 18446744073709551615
 unfoldable pub uncounted : Reader → Bool
 uncounted r = eqb (r .at) last-offset
 
--- The refusal of a status, with its place.
-unfoldable pub refusal : ℕ → ℕ → Refusal
-refusal status place =
-    cond (eqb status 4) (OverLimit place)
-    (cond (eqb status 5) (TotalOverLimit place)
-    (cond (eqb status 6) (TooCoarse place)
-    (cond (eqb status 7) (NoRoom place)
-    (cond (eqb status 8) (EndedEarly place)
-    (cond (eqb status 9) (ByteAfterEnd place)
-    (cond (eqb status 13) (BadHeading place)
-    (cond (eqb status 14) (BadNumber place)
-    (BadByte place))))))))
-
 -- What stands: more may come, with the packed length so far; or the answer, which later calls repeat.
 unfoldable pub told : Reader → Outcome
 told r =
     cond (eqb (r .status) reading) (More (r .written))
-    (cond (eqb (r .status) accepted) (Accepted (r .written)) (Refused (refusal (r .status) (r .place))))
+    (cond (eqb (r .status) accepted) (Accepted (r .written)) (Refused (of-number (r .status) (r .place))))

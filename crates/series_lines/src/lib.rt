@@ -6,7 +6,6 @@ pub mod parts;
 pub mod steps;
 pub mod writer;
 
-use crate::steps::refusal_of;
 use units::COARSE_BASE;
 use units::Refusal;
 ghost use mathlib.Core.Path.{_≡_};
@@ -84,6 +83,6 @@ pub fn answer(r: Reader) -> Outcome
     if r.status == ACCEPTED {
         return Outcome::Accepted(r.written);
     }
-    let refusal = refusal_of(r.status, r.place);
+    let refusal = Refusal::of_number(r.status, r.place);
     Outcome::Refused(refusal)
 }

@@ -1,4 +1,4 @@
-// The steps that the readers share: in a line, at the line feed of a count or of a term, and the answer. For the readers, which call the ends of
+// The steps that the readers share: in a line, and at the line feed of a count or of a term. For the readers, which call the ends of
 // lines only where one more byte can be counted.
 use crate::Line;
 use crate::READING;
@@ -17,11 +17,11 @@ use limits::open_block;
 use packed_numbers::Put;
 use packed_numbers::put_number;
 use units::BLOCK_COUNT;
-use units::Refusal;
+use units::NO_ROOM;
 ghost use mathlib.Core.Path.{_≡_};
 ghost use Prim.Native.Nat.{_+_, _-_, _<_};
 ghost use Rattle.series_lines.specs.Judge.{count-end, term-end};
-ghost use Rattle.series_lines.specs.Reader.{last-offset, stopped, next-spot, advanced, in-line, wrote, wrote-out, refusal};
+ghost use Rattle.series_lines.specs.Reader.{last-offset, stopped, next-spot, advanced, in-line, wrote, wrote-out};
 
 // The greatest offset; specs/Reader.antt has the same name.
 pub const LAST_OFFSET: usize = 18446744073709551615;
@@ -97,7 +97,7 @@ pub fn end_count(r: Reader, out: &mut [u8]) -> Reader
     }
     let put = put_number(n, out, r.written);
     match put {
-        Put::NoRoom(_) => stop(r, 7),
+        Put::NoRoom(_) => stop(r, NO_ROOM),
         Put::Next(next) => advance(r, next, blocks + 1, n, open_block(blocks, n, s)),
     }
 }
@@ -130,7 +130,7 @@ pub fn end_term(r: Reader, out: &mut [u8]) -> Reader
     }
     let put = put_term(l, out, r.written);
     match put {
-        Put::NoRoom(_) => stop(r, 7),
+        Put::NoRoom(_) => stop(r, NO_ROOM),
         Put::Next(next) => {
             let more = add_term(f, s, l.a, l.b, l.value);
             advance(r, next, r.blocks, less_one(r.left), more)
@@ -154,35 +154,4 @@ pub fn in_line(r: Reader, line: Line, at: usize) -> Reader
         status: READING,
         place: 0,
     }
-}
-
-// The refusal of a status.
-pub fn refusal_of(status: u64, place: usize) -> Refusal
-    ensures { λ s. ⌜ s ≡ refusal status place ⌝ }
-{
-    if status == 4 {
-        return Refusal::OverLimit(place);
-    }
-    if status == 5 {
-        return Refusal::TotalOverLimit(place);
-    }
-    if status == 6 {
-        return Refusal::TooCoarse(place);
-    }
-    if status == 7 {
-        return Refusal::NoRoom(place);
-    }
-    if status == 8 {
-        return Refusal::EndedEarly(place);
-    }
-    if status == 9 {
-        return Refusal::ByteAfterEnd(place);
-    }
-    if status == 13 {
-        return Refusal::BadHeading(place);
-    }
-    if status == 14 {
-        return Refusal::BadNumber(place);
-    }
-    Refusal::BadByte(place)
 }

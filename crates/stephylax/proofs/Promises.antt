@@ -6,8 +6,7 @@ use native.Mathlib.Omega.{arith}
 use lib.IntN.{ℤ}
 use Rattle.units.specs.Refusals.{number}
 use Rattle.units.specs.declared.Refusal.{Refusal}
-use Rattle.units.specs.declared.Refusal.the-variants.{NoSuchDate, PastLimit, BadByte, OverLimit, TotalOverLimit, TooCoarse}
-use Rattle.units.specs.declared.Refusal.the-variants.{NoRoom, EndedEarly, ByteAfterEnd, NotShortest, NotUsable, BadWindow, BadHeading, BadNumber}
+use Rattle.units.proofs.Refusals.{number-positive}
 use Rattle.series.specs.declared.CoordinatesAnswer.{CoordinatesAnswer}
 use Rattle.series.specs.declared.CoordinatesAnswer.the-variants.{At, NoCoordinates}
 use Rattle.series.specs.Call.{Coordinates-promised}
@@ -20,22 +19,8 @@ use Rattle.answers.specs.Answers.{clip, one-refused, one-counted, three-refused
 use Rattle.answers.proofs.Held.{clip-small}
 use Rattle.stephylax.specs.Promises.{instant, coordinates-of, C-coordinates-promised, C-sun-list-promised}
 
--- Every refusal has a number from 1 on.
 not-zero : {A : Type 0} (x : Refusal) → number x ≡ 0 → A
-not-zero (NoSuchDate field) e = absurd (omega arith)
-not-zero (PastLimit t) e = absurd (omega arith)
-not-zero (BadByte at) e = absurd (omega arith)
-not-zero (OverLimit at) e = absurd (omega arith)
-not-zero (TotalOverLimit at) e = absurd (omega arith)
-not-zero (TooCoarse at) e = absurd (omega arith)
-not-zero (NoRoom n) e = absurd (omega arith)
-not-zero (EndedEarly n) e = absurd (omega arith)
-not-zero (ByteAfterEnd at) e = absurd (omega arith)
-not-zero (NotShortest at) e = absurd (omega arith)
-not-zero (NotUsable minute) e = absurd (omega arith)
-not-zero BadWindow e = absurd (omega arith)
-not-zero (BadHeading at) e = absurd (omega arith)
-not-zero (BadNumber at) e = absurd (omega arith)
+not-zero x e = absurd (omega (arith, number-positive x))
 
 -- What is shown with refusal 0 was answered.
 list-answered : (a : ListAnswer) (r : One) → r ≡ list-shown a → r .refusal ≡ 0 → (n : ℕ) × (a ≡ Runs n) × (r .value ≡ clip n)

@@ -13,12 +13,12 @@ use Rattle.integers.proofs.Pairs.{nonneg}
 use Rattle.integers.proofs.Tests.{both, false-true}
 use Rattle.integers.proofs.Auto.{polys, cert!, gap, _⊞_}
 use Rattle.integers.proofs.Order.{natAbs-low, natAbs-high, natAbs-le}
-use Rattle.units.specs.Units.{t-limit, in-limit}
+use Rattle.units.specs.Units.{minute-ms, t-limit, in-limit}
 use Rattle.units.proofs.Limit.{size-within}
 use Rattle.units.specs.declared.Instant.{Instant}
 use Rattle.separation.specs.Arcminutes.{least-keep-out, greatest-keep-out}
 use Rattle.runs.specs.Runs.{most-minutes}
-use Rattle.sunlist.specs.SunList.{minute-ms, minute, window-fits}
+use Rattle.sunlist.specs.SunList.{minute, window-fits}
 
 -- A whole number from a to b.
 pub record From (a b : ℕ) (z : ℤ) : Type 0 where

@@ -12,13 +12,13 @@ use lib.Seq.{sets}
 use mir.Syntax.{w64}
 use mir.Val.{SFits}
 use Rattle.integers.proofs.Order.{natAbs-+, fits}
-use Rattle.units.specs.Units.{t-limit}
+use Rattle.units.specs.Units.{minute-ms, t-limit}
 use Rattle.units.specs.declared.Refusal.the-variants.{NoRoom}
 use Rattle.arith.proofs.Cells.{Cell, cell}
 use Rattle.separation.specs.Arcminutes.{least-keep-out, greatest-keep-out}
 use Rattle.sunlist.specs.declared.ListAnswer.the-variants.{Runs, NoList}
 use Rattle.runs.specs.Runs.{most-minutes}
-use Rattle.sunlist.specs.SunList.{minute-ms, window-fits, numbers, answered, written}
+use Rattle.sunlist.specs.SunList.{window-fits, numbers, answered, written}
 
 -- ---- fits
 

@@ -7,7 +7,7 @@ use lib.IntN.{ℤ, pos, natAbs, _+ℤ_}
 use lib.ListN.{length}
 use lib.Seq.{sets}
 use lib.Signed.{leZ}
-use Rattle.units.specs.Units.{in-limit}
+use Rattle.units.specs.Units.{minute-ms, in-limit}
 use Rattle.units.specs.declared.Instant.{Instant}
 use Rattle.units.specs.declared.Refusal.{Refusal}
 use Rattle.units.specs.declared.Refusal.the-variants.{PastLimit, NoRoom, NotUsable, BadWindow}
@@ -22,10 +22,7 @@ use Rattle.sunlist.specs.declared.ListAnswer.{ListAnswer}
 use Rattle.sunlist.specs.declared.ListAnswer.the-variants.{Runs, NoList}
 use Rattle.sunlist.specs.Minute.{decide}
 
--- Minute j of a window that begins at t0; a minute in milliseconds.
-abbrev pub minute-ms : ℕ
-minute-ms = 60000
-
+-- Minute j of a window that begins at t0.
 abbrev pub minute : Instant → ℕ → Instant
 minute t0 j = record { ms = t0 .ms +ℤ pos (minute-ms * j) }
 

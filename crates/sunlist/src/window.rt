@@ -12,6 +12,7 @@ use arith::signed::add;
 use arith::signed::wide;
 use runs::MOST_MINUTES;
 use units::Instant;
+use units::MINUTE_MS;
 use units::Refusal;
 
 // separation/specs/Arcminutes.antt and specs/SunList.antt have the same constants under the same names.
@@ -23,9 +24,6 @@ const GREATEST_KEEP_OUT: u64 = 2700;
 
 // The flags of a window, a byte each.
 pub const FLAGS_ROOM: usize = MOST_MINUTES as usize;
-
-// The milliseconds of a minute.
-const MINUTE_MS: u64 = 60000;
 
 // Whether a window of n minutes and a keep-out of k arcminutes are within their ranges.
 pub fn fits(n: u64, k: u64) -> bool

@@ -5,6 +5,7 @@ use mathlib.Core.List.{List}
 use Prim.Native.Nat.{ℕ, _+_, _≤_, _<_}
 use borrow.Author.Tests.{eq-eqb, ne-eqb}
 use lib.ListN.{length, getD, drop}
+use Rattle.units.specs.Refusals.{bad-byte, byte-after-end}
 use Rattle.series_lines.specs.declared.Line.{Line}
 use Rattle.series_lines.specs.declared.Reader.{Reader}
 use Rattle.series_lines.specs.Lexer.{lex, whole-count, whole-term}
@@ -22,12 +23,12 @@ pub verdict-term : (r : Reader) → whole-count (r .line) ≡ false → whole-te
 unfolding verdict
 verdict-term r p q = rw (p, q)
 
-pub verdict-early : (r : Reader) → whole-count (r .line) ≡ false → whole-term (r .line) ≡ false → verdict r .refusal ≡ 3
+pub verdict-early : (r : Reader) → whole-count (r .line) ≡ false → whole-term (r .line) ≡ false → verdict r .refusal ≡ bad-byte
 unfolding verdict
 verdict-early r p q = rw (p, q)
 
 -- A byte that is no line feed.
-pub other-bad : (r s : Reader) (l : Line) (byte : ℕ) → l ≡ lex (r .line) byte → l .spot ≡ 31 → s ≡ stopped r 3 → s ≡ other r byte
+pub other-bad : (r s : Reader) (l : Line) (byte : ℕ) → l ≡ lex (r .line) byte → l .spot ≡ 31 → s ≡ stopped r bad-byte → s ≡ other r byte
 unfolding other
 other-bad r s l byte e h p = rw (← e, eq-eqb (l .spot) 31 h, p)
 
@@ -42,14 +43,14 @@ module _ (r s : Reader) (out after : List ℕ) (byte : ℕ) where
   step-stopped h = let t = ne-eqb (r .status) 0 h in (rw t, rw t)
 
   module _ (going : r .status ≡ 0) where
-    pub step-uncounted : r .at ≡ last-offset → s ≡ stopped r 3 → (s ≡ step r out byte) × (out ≡ step-out r out byte)
+    pub step-uncounted : r .at ≡ last-offset → s ≡ stopped r bad-byte → (s ≡ step r out byte) × (out ≡ step-out r out byte)
     unfolding step step-out uncounted
     step-uncounted h e =
         let g = eq-eqb (r .status) 0 going in
         let t = eq-eqb (r .at) last-offset h in (rw (g, t, e), rw (g, t))
 
     module _ (counts : r .at ≡ last-offset → ⊥) where
-      pub step-after : r .line .spot ≡ 30 → s ≡ stopped r 9 → (s ≡ step r out byte) × (out ≡ step-out r out byte)
+      pub step-after : r .line .spot ≡ 30 → s ≡ stopped r byte-after-end → (s ≡ step r out byte) × (out ≡ step-out r out byte)
       unfolding step step-out uncounted
       step-after h e =
           let g = eq-eqb (r .status) 0 going in

@@ -7,6 +7,7 @@ use Prim.Native.Nat.{ℕ, _≤_}
 use lib.Dec.{eqb}
 use lib.ListN.{length}
 use lib.Seq.{sets}
+use Rattle.units.specs.Refusals.{bad-byte, ended-early, byte-after-end}
 use Rattle.packed.specs.Series.{pack}
 use Rattle.series_lines.specs.declared.Reader.{Reader}
 use Rattle.series_lines.specs.Grammar.{feed, Block, blocks-bytes, blocks-of-lines, GoodText, InLimits}
@@ -18,22 +19,22 @@ use Rattle.series_lines.specs.Reader.{reading, accepted, stopped, further-in-li
 
 -- A line feed that comes too early.
 abbrev pub early-end : Reader → Verdict
-early-end r = record { refusal = 3; bytes = []; blocks = r .blocks; left = r .left; tally = tally r }
+early-end r = record { refusal = bad-byte; bytes = []; blocks = r .blocks; left = r .left; tally = tally r }
 
 -- A line feed, by what the line is.
 unfoldable pub verdict : Reader → Verdict
 verdict r = cond (whole-count (r .line)) (count-end r) (cond (whole-term (r .line)) (term-end r) (early-end r))
 
--- A byte that is no line feed: 3 where it cannot continue the line.
+-- A byte that is no line feed, and may not continue the line.
 unfoldable pub other : Reader → ℕ → Reader
-other r byte = cond (eqb (lex (r .line) byte .spot) spot-bad) (stopped r 3) (further-in-line r (lex (r .line) byte))
+other r byte = cond (eqb (lex (r .line) byte .spot) spot-bad) (stopped r bad-byte) (further-in-line r (lex (r .line) byte))
 
--- The reader after one byte. One that has stopped stays as it is; after block 18 every byte is refused 9.
+-- The reader after one byte. One that has stopped stays as it is; after block 18 every byte is refused.
 unfoldable pub step : Reader → List ℕ → ℕ → Reader
 step r out byte =
     cond (eqb (r .status) reading)
-    (cond (uncounted r) (stopped r 3)
-    (cond (eqb (r .line .spot) spot-after) (stopped r 9)
+    (cond (uncounted r) (stopped r bad-byte)
+    (cond (eqb (r .line .spot) spot-after) (stopped r byte-after-end)
     (cond (eqb byte feed) (wrote r out (verdict r)) (other r byte))))
     r
 
@@ -55,9 +56,9 @@ unfoldable pub run : Reader → List ℕ → List ℕ → Run
 unfolding fold.run
 run = fold.run step step-out
 
--- The last call: accepted after block 18, else 8 with the number of bytes.
+-- The last call: accepted after block 18, else refused with the number of bytes.
 unfoldable pub ended : Reader → Reader
-ended r = cond (eqb (r .status) reading) (stopped r (cond (eqb (r .line .spot) spot-after) accepted 8)) r
+ended r = cond (eqb (r .status) reading) (stopped r (cond (eqb (r .line .spot) spot-after) accepted ended-early)) r
 
 -- The whole text in one call, then its end.
 abbrev pub whole : List ℕ → List ℕ → Run

@@ -12,6 +12,9 @@ use series_lines::steps::end_count;
 use series_lines::steps::end_term;
 use series_lines::steps::in_line;
 use series_lines::steps::stop;
+use units::BAD_BYTE;
+use units::BYTE_AFTER_END;
+use units::ENDED_EARLY;
 ghost use mathlib.Core.Path.{_≡_};
 ghost use Prim.Native.Nat.{_+_, _<_};
 ghost use Rattle.series_lines.specs.Reader.{last-offset, wrote, wrote-out};
@@ -29,7 +32,7 @@ fn end_line(r: Reader, out: &mut [u8]) -> Reader
     if whole_term(l) {
         return end_term(r, out);
     }
-    stop(r, 3)
+    stop(r, BAD_BYTE)
 }
 
 // A byte that is no line feed.
@@ -40,7 +43,7 @@ fn take_other(r: Reader, byte: u8) -> Reader
     let l = r.line;
     let next = lex(l, byte);
     if next.spot == SPOT_BAD {
-        return stop(r, 3);
+        return stop(r, BAD_BYTE);
     }
     in_line(r, next, r.at + 1)
 }
@@ -53,11 +56,11 @@ pub fn take_byte(r: Reader, byte: u8, out: &mut [u8]) -> Reader
         return r;
     }
     if r.at == LAST_OFFSET {
-        return stop(r, 3);
+        return stop(r, BAD_BYTE);
     }
     let l = r.line;
     if l.spot == SPOT_AFTER {
-        return stop(r, 9);
+        return stop(r, BYTE_AFTER_END);
     }
     if byte == b'\n' {
         return end_line(r, out);
@@ -76,5 +79,5 @@ pub fn close(r: Reader) -> Reader
     if l.spot == SPOT_AFTER {
         return stop(r, ACCEPTED);
     }
-    stop(r, 8)
+    stop(r, ENDED_EARLY)
 }

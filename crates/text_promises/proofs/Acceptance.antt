@@ -7,10 +7,11 @@ use native.Mathlib.Omega.{arith}
 use borrow.Author.Tests.{eqb-true}
 use lib.Dec.{eqb}
 use lib.ListN.{length}
+use Rattle.units.specs.Refusals.{of-number}
 use Rattle.series_lines.specs.declared.Reader.{Reader}
 use Rattle.series_lines.specs.declared.Outcome.the-variants.{Accepted, Refused}
 use Rattle.series_lines.specs.Lexer.{lex, whole-count, whole-term}
-use Rattle.series_lines.specs.Reader.{uncounted, refusal, told}
+use Rattle.series_lines.specs.Reader.{uncounted, told}
 use Rattle.text.specs.Reader.{verdict, begun, other, step, step-out, run, ended, whole}
 use Rattle.series_lines.specs.Grammar.{TermLine}
 use Rattle.integers.proofs.Tests.{by-cases}
@@ -56,7 +57,7 @@ run-not-one [] r out h = h
 run-not-one (x ∷ xs) r out h = run-not-one xs (step r out x) (step-out r out x) (step-not-one r out x h)
 
 -- What an acceptance says.
-told-refused : (r : Reader) → eqb (r .status) 0 ≡ false → eqb (r .status) 1 ≡ false → told r ≡ Refused (refusal (r .status) (r .place))
+told-refused : (r : Reader) → eqb (r .status) 0 ≡ false → eqb (r .status) 1 ≡ false → told r ≡ Refused (of-number (r .status) (r .place))
 unfolding told
 told-refused r p q = rw (p, q)
 

@@ -8,6 +8,7 @@ use borrow.Author.Tests.{eqb-true, eqb-false, eq-eqb}
 use lib.Dec.{eqb}
 use lib.ListN.{length, take, drop, length-drop, take-append-drop}
 use lib.Seq.{length-take-le}
+use Rattle.units.specs.Refusals.{bad-byte}
 use Rattle.series_lines.specs.declared.Reader.{Reader}
 use Rattle.series_lines.specs.Lexer.{lex}
 use Rattle.series_lines.specs.Judge.{Verdict}
@@ -61,7 +62,7 @@ past (x ∷ xs) r out h =
     let t = step-last r out x s (h s) in
     ap (λ (y : Run). y .out)
     (first r out x xs ∙ ap (λ (o : List ℕ). run (step r out x) o xs) (last-out r out x s (h s)) ∙ ap (λ (q : Reader). run q out xs) t
-    ∙ stays xs (stopped r 3) out (λ e. omega (arith, e))))
+    ∙ stays xs (stopped r bad-byte) out (λ e. omega (arith, e))))
     (λ z. ap (λ (y : Run). y .out) (stays (x ∷ xs) r out (eqb-false (r .status) 0 z)))
   where
     first : (r : Reader) (out : List ℕ) (x : ℕ) (xs : List ℕ) → run r out (x ∷ xs) ≡ run (step r out x) (step-out r out x) xs

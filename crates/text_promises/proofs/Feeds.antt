@@ -1,10 +1,11 @@
--- A line feed is refused 3 exactly when the bytes before it are no whole line of the grammar. Assumes nothing.
+-- A line feed is refused as a bad byte exactly when the bytes before it are no whole line of the grammar. Assumes nothing.
 use mathlib.Core.Path.{_≡_, refl, sym, ap, _∙_}
 use mathlib.Core.Bool.{false}
 use mathlib.Core.List.{List}
 use Prim.Native.Nat.{ℕ}
 use native.Mathlib.Omega.{arith}
 use borrow.Author.Tests.{ne-eqb}
+use Rattle.units.specs.Refusals.{bad-byte}
 use Rattle.series_lines.specs.declared.Line.{Line}
 use Rattle.series_lines.specs.declared.Reader.{Reader}
 use Rattle.series_lines.specs.Lexer.{fresh, lexes, whole-count, whole-term}
@@ -21,32 +22,32 @@ use Rattle.text_promises.proofs.Lines.{Going, step-feed}
 use Rattle.text_promises.proofs.Verdicts.{not-count, not-term, is-whole, count-among, term-among, wrote-status}
 
 Not : ℕ → Type 0
-Not n = n ≡ 3 → ⊥
+Not n = n ≡ bad-byte → ⊥
 
-three : (r : Reader) (out : List ℕ) (v : Verdict) → v .refusal ≡ 3 → wrote r out v ≡ stopped r 3
+refused : (r : Reader) (out : List ℕ) (v : Verdict) → v .refusal ≡ bad-byte → wrote r out v ≡ stopped r bad-byte
 unfolding wrote
-three r out v e = let z = ne-eqb (v .refusal) 0 (λ q. omega (arith, q, e)) in rw (z, e)
+refused r out v e = let z = ne-eqb (v .refusal) 0 (λ q. omega (arith, q, e)) in rw (z, e)
 
-none-term : (r : Reader) → term-end r .refusal ≡ 3 → ⊥
+none-term : (r : Reader) → term-end r .refusal ≡ bad-byte → ⊥
 unfolding Not
 none-term r = term-among Not (λ e. omega (arith, e)) (λ e. omega (arith, e)) (λ e. omega (arith, e)) (λ e. omega (arith, e)) _ _ _ _
 
-none-count : (r : Reader) → count-end r .refusal ≡ 3 → ⊥
+none-count : (r : Reader) → count-end r .refusal ≡ bad-byte → ⊥
 unfolding Not
 none-count r = count-among Not (λ e. omega (arith, e)) (λ e. omega (arith, e)) (λ e. omega (arith, e)) _ _ _
 
 -- By whether the line is whole.
 module _ (r : Reader) (out : List ℕ) (g : Going r) where
-  early-feed : whole-count (r .line) ≡ false → whole-term (r .line) ≡ false → step r out 10 ≡ stopped r 3
-  early-feed p q = step-feed r out g .0 ∙ three r out (verdict r) (verdict-early r p q)
+  early-feed : whole-count (r .line) ≡ false → whole-term (r .line) ≡ false → step r out 10 ≡ stopped r bad-byte
+  early-feed p q = step-feed r out g .0 ∙ refused r out (verdict r) (verdict-early r p q)
 
-  whole-feed : (verdict r .refusal ≡ 3 → ⊥) → step r out 10 ≡ stopped r 3 → ⊥
+  whole-feed : (verdict r .refusal ≡ bad-byte → ⊥) → step r out 10 ≡ stopped r bad-byte → ⊥
   whole-feed h e =
-      wrote-status 3 (λ q. omega (arith, q)) (λ q. omega (arith, q)) r out (verdict r) h
+      wrote-status bad-byte (λ q. omega (arith, q)) (λ q. omega (arith, q)) r out (verdict r) h
       (ap (λ (q : Reader). q .status) (sym (step-feed r out g .0) ∙ e))
 
   pub feed-term : (xs : List ℕ) → r .line ≡ lexes (fresh 0) xs
-      → (step r out 10 ≡ stopped r 3 → IsTerm xs → ⊥) × ((IsTerm xs → ⊥) → step r out 10 ≡ stopped r 3)
+      → (step r out 10 ≡ stopped r bad-byte → IsTerm xs → ⊥) × ((IsTerm xs → ⊥) → step r out 10 ≡ stopped r bad-byte)
   unfolding whole-term
   feed-term xs e =
       let n : whole-count (r .line) ≡ false = ap (λ (l : Line). whole-count l) e ∙ not-count xs in (
@@ -59,7 +60,7 @@ module _ (r : Reader) (out : List ℕ) (g : Going r) where
       )
 
   pub feed-count : (xs : List ℕ) → r .line ≡ lexes (fresh 20) xs
-      → (step r out 10 ≡ stopped r 3 → IsCount xs → ⊥) × ((IsCount xs → ⊥) → step r out 10 ≡ stopped r 3)
+      → (step r out 10 ≡ stopped r bad-byte → IsCount xs → ⊥) × ((IsCount xs → ⊥) → step r out 10 ≡ stopped r bad-byte)
   feed-count xs e = (
     (λ s t. let l = e ∙ ap (λ (ys : List ℕ). lexes (fresh 20) ys) (t .is) ∙ count-run (t .c) (t .good) in
         let v = verdict-count r (ap (λ (x : Line). whole-count x) l ∙ is-whole (t .c) (t .good)) in

@@ -12,6 +12,8 @@ use Rattle.packed.specs.Series.{pack-term}
 use Rattle.units.specs.Units.{block-count}
 use Rattle.units.specs.declared.Refusal.{Refusal}
 use Rattle.units.specs.declared.Refusal.the-variants.{BadByte, OverLimit, NoRoom, EndedEarly, ByteAfterEnd}
+use Rattle.units.specs.Refusals.{over-limit, total-over-limit, no-room, byte-after-end, of-number}
+use Rattle.units.specs.Refusals as numbers
 use Rattle.limits.specs.declared.Tally.{Tally}
 use Rattle.limits.specs.Limits.{factor, count-fits, a-fits, b-fits, c-fits, total-fits, coarse-fits, numbers-fit, term-refusal}
 use Rattle.series_lines.specs.declared.Line.{Line}
@@ -19,7 +21,7 @@ use Rattle.series_lines.specs.declared.Reader.{Reader}
 use Rattle.series_lines.specs.declared.Outcome.the-variants.{More, Refused}
 use Rattle.series_lines.specs.Lexer.{fresh, lex, lexes, whole-count, whole-term}
 use Rattle.series_lines.specs.Judge.{count-refusal, term-line-refusal}
-use Rattle.series_lines.specs.Reader.{last-offset, stopped, fits, put-bytes, wrote, wrote-out, uncounted, refusal, told}
+use Rattle.series_lines.specs.Reader.{last-offset, stopped, fits, put-bytes, wrote, wrote-out, uncounted, told}
 use Rattle.text.specs.Reader.{verdict, step, step-out, Run, run, ended}
 use Rattle.series_lines.specs.Grammar.{size, value, CountLine, count, count-bytes, GoodCount, TermLine, term-bytes, GoodTerm, term-of-line, TermInLimits}
 use Rattle.series_lines.specs.Grammar.{line-packed}
@@ -42,7 +44,7 @@ pub record Halts (r : Reader) (o xs : List ℕ) (f : Refusal) : Type 0 where
   pub same : run r o xs .out ≡ o
 
 halts : (r : Reader) (o xs : List ℕ) (f : Refusal) (q : Reader) (c : ℕ) → run r o xs ≡ record { reader = stopped q c; out = o }
-    → eqb c 0 ≡ false → eqb c 1 ≡ false → refusal c (q .at) ≡ f → Halts r o xs f
+    → eqb c 0 ≡ false → eqb c 1 ≡ false → of-number c (q .at) ≡ f → Halts r o xs f
 halts r o xs f q c e y z i =
     record {
       answer = ap (λ (x : Run). told (x .reader)) e ∙ plain q c y z ∙ ap (λ (x : Refusal). Refused x) i;
@@ -50,7 +52,7 @@ halts r o xs f q c e y z i =
       same = ap (λ (x : Run). x .out) e;
     }
   where
-    plain : (q : Reader) (c : ℕ) → eqb c 0 ≡ false → eqb c 1 ≡ false → told (stopped q c) ≡ Refused (refusal c (q .at))
+    plain : (q : Reader) (c : ℕ) → eqb c 0 ≡ false → eqb c 1 ≡ false → told (stopped q c) ≡ Refused (of-number c (q .at))
     plain q c y z = unfold told in rw (y, z)
 
     same-end : (q : Reader) (c : ℕ) → eqb c 0 ≡ false → ended (stopped q c) ≡ stopped q c
@@ -92,14 +94,14 @@ module _ (spot at w k n : ℕ) (s : Tally) (o xs : List ℕ) where
 
       bad-halts : (b : ℕ) (more : List ℕ) → (b ≡ 10 → ⊥) → lex (lexes (fresh spot) xs) b .spot ≡ 31
           → Halts (sp spot at w k n s) o (xs ++ (b ∷ more)) (BadByte (at + length xs))
-      unfolding refusal
+      unfolding of-number
       bad-halts b more h e =
-          halts (sp spot at w k n s) o (xs ++ (b ∷ more)) (BadByte (at + length xs)) here 3
-          (stop-run b more 3 (λ q. omega (arith, q)) (step-bad here o b going h e) (other-out b h)) refl refl refl
+          halts (sp spot at w k n s) o (xs ++ (b ∷ more)) (BadByte (at + length xs)) here numbers.bad-byte
+          (stop-run b more numbers.bad-byte (λ q. omega (arith, q)) (step-bad here o b going h e) (other-out b h)) refl refl refl
 
       -- A line feed after a line that is refused with the number c.
       feed-halts : (c : ℕ) (more : List ℕ) (f : Refusal) → verdict here .refusal ≡ c → eqb c 0 ≡ false → eqb c 1 ≡ false
-          → refusal c (at + length xs) ≡ f → Halts (sp spot at w k n s) o (xs ++ (10 ∷ more)) f
+          → of-number c (at + length xs) ≡ f → Halts (sp spot at w k n s) o (xs ++ (10 ∷ more)) f
       unfolding wrote wrote-out
       feed-halts c more f e y z i =
           let t = step-feed here o going in
@@ -109,12 +111,12 @@ module _ (spot at w k n : ℕ) (s : Tally) (o xs : List ℕ) where
       -- A line feed after a line whose bytes have no room.
       full-halts : (more : List ℕ) → verdict here .refusal ≡ 0 → length o < w + length (verdict here .bytes)
           → Halts (sp spot at w k n s) o (xs ++ (10 ∷ more)) (NoRoom (at + length xs))
-      unfolding wrote wrote-out put-bytes fits refusal
+      unfolding wrote wrote-out put-bytes fits of-number
       full-halts more e h =
           let t = step-feed here o going in
           let g = lt-leb (w + length (verdict here .bytes)) (length o) h in
-          halts (sp spot at w k n s) o (xs ++ (10 ∷ more)) (NoRoom (at + length xs)) here 7
-          (stop-run 10 more 7 (λ q. omega (arith, q)) (t .0 ∙ (rw (e, g))) (t .1 ∙ (rw (e, g)))) refl refl refl
+          halts (sp spot at w k n s) o (xs ++ (10 ∷ more)) (NoRoom (at + length xs)) here no-room
+          (stop-run 10 more no-room (λ q. omega (arith, q)) (t .0 ∙ (rw (e, g))) (t .1 ∙ (rw (e, g)))) refl refl refl
 
 -- ---- By the kind of the line.
 
@@ -169,19 +171,20 @@ module _ (at w k : ℕ) (s : Tally) where
       )
 
 -- The numbers of the refusals.
-count-four : (k : ℕ) (s : Tally) (n : ℕ) → k < block-count → count-fits s n ≡ false → count-refusal k s n ≡ 4
+count-refused : (k : ℕ) (s : Tally) (n : ℕ) → k < block-count → count-fits s n ≡ false → count-refusal k s n ≡ over-limit
 unfolding count-refusal
-count-four k s n h e = rw (lt-ltb k block-count h, e)
+count-refused k s n h e = rw (lt-ltb k block-count h, e)
 
 module _ (f : ℕ) (s : Tally) (l : TermLine) where
-  pub number-four : (NumbersInLimits l → ⊥) → term-line-refusal f s (flag (l .b .minus)) (term-of-line l) ≡ 4
+  pub number-refused : (NumbersInLimits l → ⊥) → term-line-refusal f s (flag (l .b .minus)) (term-of-line l) ≡ over-limit
   unfolding term-line-refusal term-refusal numbers-fit flag
-  number-four h = go (l .b .minus) refl (a-fits (value (l .a))) refl (b-fits (size (l .b))) refl (c-fits (value (l .c))) refl
+  number-refused h = go (l .b .minus) refl (a-fits (value (l .a))) refl (b-fits (size (l .b))) refl (c-fits (value (l .c))) refl
     where
       go : (m : Bool) → l .b .minus ≡ m → (a : Bool) → a-fits (value (l .a)) ≡ a → (b : Bool) → b-fits (size (l .b)) ≡ b
           → (c : Bool) → c-fits (value (l .c)) ≡ c
           → _≡_ {A = ℕ} (cond (eqb (flag m) 0) (cond (a && (b && c)) (cond (total-fits s (value (l .a)))
-          (cond (coarse-fits f s (value (l .a)) (size (l .b)) (value (l .c))) 0 6) 5) 4) 4) 4
+          (cond (coarse-fits f s (value (l .a)) (size (l .b)) (value (l .c))) 0 numbers.too-coarse)
+          total-over-limit) over-limit) over-limit) over-limit
       go true pm a pa b pb c pc = refl
       go false pm true pa true pb true pc = absurd (h (record { from-zero = pm; a = pa; b = pb; c = pc }))
       go false pm true pa true pb false pc = refl
@@ -190,21 +193,22 @@ module _ (f : ℕ) (s : Tally) (l : TermLine) where
 
   from-zero : l .b .minus ≡ false → term-line-refusal f s (flag (l .b .minus)) (term-of-line l) ≡ term-refusal f s (term-of-line l)
   unfolding term-line-refusal flag
-  from-zero e = ap (λ (m : Bool). cond (eqb (flag m) 0) (term-refusal f s (term-of-line l)) 4) e
+  from-zero e = ap (λ (m : Bool). cond (eqb (flag m) 0) (term-refusal f s (term-of-line l)) over-limit) e
 
-  pub total-five : NumbersInLimits l → total-fits s (value (l .a)) ≡ false → term-line-refusal f s (flag (l .b .minus)) (term-of-line l) ≡ 5
-  total-five p e = from-zero (p .from-zero) ∙ go (p .a) (p .b) (p .c) e
+  pub total-refused : NumbersInLimits l → total-fits s (value (l .a)) ≡ false
+      → term-line-refusal f s (flag (l .b .minus)) (term-of-line l) ≡ total-over-limit
+  total-refused p e = from-zero (p .from-zero) ∙ go (p .a) (p .b) (p .c) e
     where
       go : a-fits (value (l .a)) ≡ true → b-fits (size (l .b)) ≡ true → c-fits (value (l .c)) ≡ true → total-fits s (value (l .a)) ≡ false
-          → term-refusal f s (term-of-line l) ≡ 5
+          → term-refusal f s (term-of-line l) ≡ total-over-limit
       go a b c e = unfold term-refusal numbers-fit in rw (a, b, c, e)
 
-  pub coarse-six : NumbersInLimits l → total-fits s (value (l .a)) ≡ true → coarse-fits f s (value (l .a)) (size (l .b)) (value (l .c)) ≡ false
-      → term-line-refusal f s (flag (l .b .minus)) (term-of-line l) ≡ 6
-  coarse-six p u e = from-zero (p .from-zero) ∙ go (p .a) (p .b) (p .c) u e
+  pub coarse-refused : NumbersInLimits l → total-fits s (value (l .a)) ≡ true → coarse-fits f s (value (l .a)) (size (l .b)) (value (l .c)) ≡ false
+      → term-line-refusal f s (flag (l .b .minus)) (term-of-line l) ≡ numbers.too-coarse
+  coarse-refused p u e = from-zero (p .from-zero) ∙ go (p .a) (p .b) (p .c) u e
     where
       go : a-fits (value (l .a)) ≡ true → b-fits (size (l .b)) ≡ true → c-fits (value (l .c)) ≡ true → total-fits s (value (l .a)) ≡ true
-          → coarse-fits f s (value (l .a)) (size (l .b)) (value (l .c)) ≡ false → term-refusal f s (term-of-line l) ≡ 6
+          → coarse-fits f s (value (l .a)) (size (l .b)) (value (l .c)) ≡ false → term-refusal f s (term-of-line l) ≡ numbers.too-coarse
       go a b c u e = unfold term-refusal numbers-fit in rw (a, b, c, u, e)
 
 -- ---- Every refusal.
@@ -243,20 +247,20 @@ module _ (at w k : ℕ) (s : Tally) (o : List ℕ) where
 
   early-feed-halts : (n : ℕ) (xs more : List ℕ) → Awaits k n → CanBegin n xs → (IsLine n xs → ⊥)
       → at + length (xs ++ (10 ∷ more)) ≤ last-offset → Halts (st at w k n s) o (xs ++ (10 ∷ more)) (BadByte (at + length xs))
-  unfolding CanBegin IsLine refusal
+  unfolding CanBegin IsLine of-number
   early-feed-halts zero xs more a c x m =
-      to-count _ _ (a refl) (feed-halts 20 at w k 0 s o xs (count-goes-on xs c) at-twenty (inside-line at xs 10 more m) 3 more _
+      to-count _ _ (a refl) (feed-halts 20 at w k 0 s o xs (count-goes-on xs c) at-twenty (inside-line at xs 10 more m) numbers.bad-byte more _
       (verdict-early (moved (sp 20 at w k 0 s) (lexes (fresh 20) xs) (length xs)) (no-count xs x) (not-term xs)) refl refl refl)
   early-feed-halts (suc n) xs more a c x m =
-      to-term n _ _ (feed-halts 0 at w k (suc n) s o xs (term-goes-on xs c) at-zero (inside-line at xs 10 more m) 3 more _
+      to-term n _ _ (feed-halts 0 at w k (suc n) s o xs (term-goes-on xs c) at-zero (inside-line at xs 10 more m) numbers.bad-byte more _
       (verdict-early (moved (sp 0 at w k (suc n) s) (lexes (fresh 0) xs) (length xs)) (not-count xs) (no-term xs x)) refl refl refl)
 
   module _ (l : CountLine) (more : List ℕ) (h : k < block-count) (g : GoodCount l) (m : at + length (count-bytes l ++ (10 ∷ more)) ≤ last-offset) where
     count-over-halts : count-fits s (count l) ≡ false → Halts (st at w k 0 s) o (count-bytes l ++ (10 ∷ more)) (OverLimit (at + length (count-bytes l)))
-    unfolding refusal
+    unfolding of-number
     count-over-halts e =
         to-count _ _ h (feed-halts 20 at w k 0 s o (count-bytes l) (count-goes-on (count-bytes l) (good-count l g)) at-twenty
-        (inside-line at (count-bytes l) 10 more m) 4 more _ (count-says at w k s l g .0 ∙ count-four k s (count l) h e) refl refl refl)
+        (inside-line at (count-bytes l) 10 more m) over-limit more _ (count-says at w k s l g .0 ∙ count-refused k s (count l) h e) refl refl refl)
 
     count-full-halts : count-fits s (count l) ≡ true → length o < w + length (encode (count l))
         → Halts (st at w k 0 s) o (count-bytes l ++ (10 ∷ more)) (NoRoom (at + length (count-bytes l)))
@@ -267,7 +271,7 @@ module _ (at w k : ℕ) (s : Tally) (o : List ℕ) where
 
   module _ (n : ℕ) (l : TermLine) (more : List ℕ) (g : GoodTerm l) (m : at + length (term-bytes l ++ (10 ∷ more)) ≤ last-offset) where
     term-halts : (c : ℕ) (f : Refusal) → term-line-refusal (factor (k - 1)) s (flag (l .b .minus)) (term-of-line l) ≡ c → eqb c 0 ≡ false → eqb c 1 ≡ false
-        → refusal c (at + length (term-bytes l)) ≡ f → Halts (st at w k (suc n) s) o (term-bytes l ++ (10 ∷ more)) f
+        → of-number c (at + length (term-bytes l)) ≡ f → Halts (st at w k (suc n) s) o (term-bytes l ++ (10 ∷ more)) f
     term-halts c f e y z i =
         to-term n _ _ (feed-halts 0 at w k (suc n) s o (term-bytes l) (term-goes-on (term-bytes l) (good-term l g)) at-zero
         (inside-line at (term-bytes l) 10 more m) c more f (term-says at w k s (suc n) l g .0 ∙ e) y z i)
@@ -281,32 +285,33 @@ module _ (at w k : ℕ) (s : Tally) (o : List ℕ) where
 
 -- A byte after block 18.
 after-halts : (at w : ℕ) (s : Tally) (o : List ℕ) (b : ℕ) (more : List ℕ) → at < last-offset → Halts (st at w 18 0 s) o (b ∷ more) (ByteAfterEnd at)
-unfolding run refusal
+unfolding run of-number
 after-halts at w s o b more h =
     let r = sp 30 at w 18 0 s in
-    let t = by-nine (λ e. omega (arith, e)) in
+    let t = by-after (λ e. omega (arith, e)) in
     subst (λ (i : ℕ). Halts (sp i at w 18 0 s) o (b ∷ more) (ByteAfterEnd at)) (sym spot-after)
-    (halts r o (b ∷ more) (ByteAfterEnd at) r 9
-    (ap (λ (y : List ℕ). run (step r o b) y more) (t .1) ∙ ap (λ (q : Reader). run q o more) (t .0) ∙ stays more (stopped r 9) o (λ q. omega (arith, q)))
+    (halts r o (b ∷ more) (ByteAfterEnd at) r byte-after-end
+    (ap (λ (y : List ℕ). run (step r o b) y more) (t .1) ∙ ap (λ (q : Reader). run q o more) (t .0)
+    ∙ stays more (stopped r byte-after-end) o (λ q. omega (arith, q)))
     refl refl refl)
   where
-    by-nine : (at ≡ last-offset → ⊥)
-        → (step (sp 30 at w 18 0 s) o b ≡ stopped (sp 30 at w 18 0 s) 9) × (step-out (sp 30 at w 18 0 s) o b ≡ o)
-    by-nine n = let t = ne-eqb at last-offset n in unfold step step-out uncounted in (rw t, rw t)
+    by-after : (at ≡ last-offset → ⊥)
+        → (step (sp 30 at w 18 0 s) o b ≡ stopped (sp 30 at w 18 0 s) byte-after-end) × (step-out (sp 30 at w 18 0 s) o b ≡ o)
+    by-after n = let t = ne-eqb at last-offset n in unfold step step-out uncounted in (rw t, rw t)
 
 pub refusals : {at : ℕ} {s : Tally} {room k n : ℕ} {rest : List ℕ} {f : Refusal} → Refuses at s room k n rest f → (w : ℕ) (o : List ℕ)
     → at + length rest ≤ last-offset → w + room ≡ length o → Halts (st at w k n s) o rest f
-unfolding refusal line-packed
+unfolding of-number line-packed
 refusals {at} {s} {room} (after-end b more) w o m e = after-halts at w s o b more (omega arith)
 refusals {at} {s} {room} (bad-byte {k} {n} xs b more a c h x) w o m e = bad-byte-halts at w k s o n xs b more a c h x m
 refusals {at} {s} {room} (early-feed {k} {n} xs more a c x) w o m e = early-feed-halts at w k s o n xs more a c x m
 refusals {at} {s} {room} (count-over {k} l more h g x) w o m e = count-over-halts at w k s o l more h g m x
 refusals {at} {s} {room} (number-over {k} {n} l more g x) w o m e =
-    term-halts at w k s o n l more g m 4 _ (number-four (factor (k - 1)) s l x) refl refl refl
+    term-halts at w k s o n l more g m over-limit _ (number-refused (factor (k - 1)) s l x) refl refl refl
 refusals {at} {s} {room} (total-over {k} {n} l more g p x) w o m e =
-    term-halts at w k s o n l more g m 5 _ (total-five (factor (k - 1)) s l p x) refl refl refl
+    term-halts at w k s o n l more g m total-over-limit _ (total-refused (factor (k - 1)) s l p x) refl refl refl
 refusals {at} {s} {room} (too-coarse {k} {n} l more g p u x) w o m e =
-    term-halts at w k s o n l more g m 6 _ (coarse-six (factor (k - 1)) s l p u x) refl refl refl
+    term-halts at w k s o n l more g m numbers.too-coarse _ (coarse-refused (factor (k - 1)) s l p u x) refl refl refl
 refusals {at} {s} {room} (no-room-count {k} l more h g x u) w o m e = count-full-halts at w k s o l more h g m x (omega arith)
 refusals {at} {s} {room} (no-room-term {k} {n} l more g x u) w o m e = term-full-halts at w k s o n l more g m x (omega arith)
 
@@ -331,7 +336,7 @@ opens r o xs q e s n =
     reads q s = unfold told in rw (eq-eqb (q .status) 0 s)
 
     early : (q : Reader) → q .status ≡ 0 → (q .line .spot ≡ 30 → ⊥) → told (ended q) ≡ Refused (EndedEarly (q .at))
-    early q s n = unfold told ended refusal in rw (eq-eqb (q .status) 0 s, ne-eqb (q .line .spot) 30 n)
+    early q s n = unfold told ended of-number in rw (eq-eqb (q .status) 0 s, ne-eqb (q .line .spot) 30 n)
 
 pub goes : (at w k n : ℕ) (s : Tally) (o xs : List ℕ) → Awaits k n → CanBegin n xs → at + length xs ≤ last-offset
     → Open (st at w k n s) o xs w (at + length xs)

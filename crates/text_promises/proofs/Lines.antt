@@ -8,6 +8,7 @@ use borrow.Author.Tests.{leb-true, eqb-true, eqb-false, eq-eqb, ne-eqb, le-leb}
 use lib.Dec.{leb, eqb}
 use lib.ListN.{length, length-append}
 use lib.Seq.{sets}
+use Rattle.units.specs.Refusals.{bad-byte, no-room}
 use Rattle.series_lines.specs.declared.Line.{Line}
 use Rattle.series_lines.specs.declared.Reader.{Reader}
 use Rattle.series_lines.specs.Lexer.{bad, lex, lexes}
@@ -50,7 +51,8 @@ step-in r out byte g h k =
     let w = ne-eqb byte 10 h in
     (rw (t, u, v, w, ne-eqb (lex (r .line) byte .spot) 31 k), rw (t, u, v, w))
 
-pub step-bad : (r : Reader) (out : List ℕ) (byte : ℕ) → Going r → (byte ≡ 10 → ⊥) → lex (r .line) byte .spot ≡ 31 → step r out byte ≡ stopped r 3
+pub step-bad : (r : Reader) (out : List ℕ) (byte : ℕ) → Going r → (byte ≡ 10 → ⊥)
+    → lex (r .line) byte .spot ≡ 31 → step r out byte ≡ stopped r bad-byte
 unfolding step uncounted other
 step-bad r out byte g h k =
     rw (
@@ -204,8 +206,8 @@ feed-good r out xs g t =
     by-cases (eqb (verdict r .refusal) 0)
     (λ z. by-cases (leb (r .written + length (verdict r .bytes)) (length out))
     (λ y. (eqb-true _ _ z, leb-true _ _ y))
-    (λ y. let q : wrote r out (verdict r) ≡ stopped r 7 = rw (z, y) in
-    not-stopped (stopped r 7) (step-out r out 10) xs (λ e. omega (arith, e)) (rw (f ∙ q) at t)))
+    (λ y. let q : wrote r out (verdict r) ≡ stopped r no-room = rw (z, y) in
+    not-stopped (stopped r no-room) (step-out r out 10) xs (λ e. omega (arith, e)) (rw (f ∙ q) at t)))
     (λ z. let q : wrote r out (verdict r) ≡ stopped r (verdict r .refusal) = rw z in
     not-stopped (stopped r (verdict r .refusal)) (step-out r out 10) xs (eqb-false _ _ z) (rw (f ∙ q) at t))
 
@@ -225,7 +227,7 @@ feed-line r out xs p g t =
     }
 
 -- The byte at the end of what a usize counts stops the reader.
-pub step-last : (r : Reader) (out : List ℕ) (x : ℕ) → r .status ≡ 0 → r .at ≡ last-offset → step r out x ≡ stopped r 3
+pub step-last : (r : Reader) (out : List ℕ) (x : ℕ) → r .status ≡ 0 → r .at ≡ last-offset → step r out x ≡ stopped r bad-byte
 unfolding step uncounted
 step-last r out x s e = rw (eq-eqb (r .status) 0 s, eq-eqb (r .at) last-offset e)
 
@@ -252,12 +254,12 @@ unfolding run
 next-line [] r out s p i t = absurd (i (t .spot))
 next-line (x ∷ xs) r out s p i t =
     by-cases (eqb (r .at) last-offset)
-    (λ z. not-stopped (stopped r 3) (step-out r out x) xs (λ e. omega (arith, e)) (rw (step-last r out x s (eqb-true _ _ z)) at t))
+    (λ z. not-stopped (stopped r bad-byte) (step-out r out x) xs (λ e. omega (arith, e)) (rw (step-last r out x s (eqb-true _ _ z)) at t))
     (λ z. let g : Going r = record { status = s; counts = eqb-false _ _ z; inside = i } in
     by-cases (eqb x 10)
     (λ y. rw (eqb-true x 10 y) (feed-line r out xs p g (rw (eqb-true x 10 y) at t)))
     (λ y. by-cases (eqb (lex (r .line) x .spot) 31)
-    (λ w. not-stopped (stopped r 3) (step-out r out x) xs (λ e. omega (arith, e))
+    (λ w. not-stopped (stopped r bad-byte) (step-out r out x) xs (λ e. omega (arith, e))
     (rw (step-bad r out x g (eqb-false _ _ y) (eqb-true _ _ w)) at t))
     (λ w. let q = step-in r out x g (eqb-false _ _ y) (eqb-false _ _ w) in
     byte-line r out x xs g (eqb-false _ _ y) (eqb-false _ _ w)

@@ -9,6 +9,7 @@ use native.Mathlib.Omega.{arith}
 use borrow.Author.Tests.{eq-eqb, eqb-true, eqb-false, lt-ltb, leb-true, leb-false}
 use lib.Dec.{eqb, leb, lit<}
 use lib.ListN.{length}
+use Rattle.units.specs.Refusals.{bad-byte}
 use Rattle.series_lines.specs.declared.Line.{Line}
 use Rattle.series_lines.specs.Lexer.{fresh, lex, lexes, whole-count, whole-term}
 use Rattle.series_lines.specs.Grammar.{digits, AllDigits, numeral, Natural, Decimal, size, decimal, GoodDecimal}
@@ -217,10 +218,10 @@ count-goes-on xs b e =
     let q = sym (lexes-append (fresh 20) xs (b .rest)) ∙ ap (λ (ys : List ℕ). lexes (fresh 20) ys) (b .is) ∙ count-run (b .c) (b .good) in
     omega (arith, s, ap (λ (l : Line). l .spot) q, b .good .few)
 
--- A byte is refused 3 exactly where it makes the line bad.
+-- A byte is refused as a bad one exactly where it makes the line bad.
 pub refused-by : (r : Reader) (out : List ℕ) (byte : ℕ) → Going r → (byte ≡ 10 → ⊥) → (P : Type 0)
     → ((lex (r .line) byte .spot ≡ 31 → ⊥) → P) → (P → lex (r .line) byte .spot ≡ 31 → ⊥)
-    → (step r out byte ≡ stopped r 3 → P → ⊥) × ((P → ⊥) → step r out byte ≡ stopped r 3)
+    → (step r out byte ≡ stopped r bad-byte → P → ⊥) × ((P → ⊥) → step r out byte ≡ stopped r bad-byte)
 refused-by r out byte g h P f k = (
   (λ e p. let s = ap (λ (q : Reader). q .status) (sym (step-in r out byte g h (k p) .0) ∙ e) in omega (arith, s)),
   (λ n. by-cases (eqb (lex (r .line) byte .spot) 31)

@@ -8,6 +8,7 @@ use borrow.Author.Tests.{eqb-true, eqb-false, ne-eqb}
 use lib.Dec.{eqb}
 use lib.ListN.{length, length-append}
 use lib.Seq.{sets, length-sets}
+use Rattle.units.specs.Refusals.{bad-byte, byte-after-end}
 use Rattle.packed_numbers.specs.Numbers.{encode}
 use Rattle.limits.specs.declared.Tally.{Tally}
 use Rattle.limits.specs.Limits.{opened, added, summed, after-block, factor}
@@ -116,8 +117,8 @@ after-step : (x : ℕ) (xs : List ℕ) (at w k n : ℕ) (s : Tally) (out : List 
 unfolding run step uncounted
 after-step x xs at w k n s out t =
     by-cases (eqb at last-offset)
-    (λ z. not-stopped (stopped (sp 30 at w k n s) 3) (step-out (sp 30 at w k n s) out x) xs (λ e. omega (arith, e)) (rw z at t))
-    (λ z. not-stopped (stopped (sp 30 at w k n s) 9) (step-out (sp 30 at w k n s) out x) xs (λ e. omega (arith, e)) (rw z at t))
+    (λ z. not-stopped (stopped (sp 30 at w k n s) bad-byte) (step-out (sp 30 at w k n s) out x) xs (λ e. omega (arith, e)) (rw z at t))
+    (λ z. not-stopped (stopped (sp 30 at w k n s) byte-after-end) (step-out (sp 30 at w k n s) out x) xs (λ e. omega (arith, e)) (rw z at t))
 
 -- What is left of a text that is taken: the terms left of the block, then blocks.
 abbrev pub packs : List TermLine → List Block → List ℕ

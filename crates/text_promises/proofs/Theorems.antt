@@ -7,6 +7,7 @@ use borrow.Author.Tests.{eqb-false, ne-eqb}
 use lib.Dec.{eqb}
 use lib.ListN.{length, take, length-take}
 use lib.Seq.{sets}
+use Rattle.units.specs.Refusals.{bad-byte}
 use Rattle.limits.specs.Limits.{no-tally, summed}
 use Rattle.packed.specs.Series.{pack-terms, pack}
 use Rattle.series_lines.specs.declared.Reader.{Reader}
@@ -145,20 +146,20 @@ module _ (r : Reader) (out xs : List ℕ) (going : Going r) where
     unfolding lexes
     one-more l e = ap (λ (x : Line). lex x byte .spot) e ∙ ap (λ (x : Line). x .spot) (sym (lexes-append l xs (byte ∷ [])))
 
-    pub bad-term : r .line ≡ lexes (fresh spot-decimal) xs → Exactly (step r out byte ≡ stopped r 3) (BeginsTerm (xs ++ (byte ∷ [])))
+    pub bad-term : r .line ≡ lexes (fresh spot-decimal) xs → Exactly (step r out byte ≡ stopped r bad-byte) (BeginsTerm (xs ++ (byte ∷ [])))
     bad-term e =
         let s = one-more (fresh spot-decimal) e in
         refused-by r out byte going no-feed (BeginsTerm (xs ++ (byte ∷ [])))
         (λ k. term-begins (xs ++ (byte ∷ [])) (λ q. k (s ∙ q))) (λ b q. term-goes-on (xs ++ (byte ∷ [])) b (sym s ∙ q))
 
-    pub bad-count : r .line ≡ lexes (fresh spot-count) xs → Exactly (step r out byte ≡ stopped r 3) (BeginsCount (xs ++ (byte ∷ [])))
+    pub bad-count : r .line ≡ lexes (fresh spot-count) xs → Exactly (step r out byte ≡ stopped r bad-byte) (BeginsCount (xs ++ (byte ∷ [])))
     bad-count e =
         let s = one-more (fresh spot-count) e in
         refused-by r out byte going no-feed (BeginsCount (xs ++ (byte ∷ [])))
         (λ k. count-begins (xs ++ (byte ∷ [])) (λ q. k (s ∙ q))) (λ b q. count-goes-on (xs ++ (byte ∷ [])) b (sym s ∙ q))
 
-  pub bad-term-feed : r .line ≡ lexes (fresh spot-decimal) xs → Exactly (step r out feed ≡ stopped r 3) (IsTerm xs)
+  pub bad-term-feed : r .line ≡ lexes (fresh spot-decimal) xs → Exactly (step r out feed ≡ stopped r bad-byte) (IsTerm xs)
   bad-term-feed e = feed-term r out going xs e
 
-  pub bad-count-feed : r .line ≡ lexes (fresh spot-count) xs → Exactly (step r out feed ≡ stopped r 3) (IsCount xs)
+  pub bad-count-feed : r .line ≡ lexes (fresh spot-count) xs → Exactly (step r out feed ≡ stopped r bad-byte) (IsCount xs)
   bad-count-feed e = feed-count r out going xs e

@@ -11,6 +11,7 @@ use lib.ListN.{length}
 use Rattle.integers.specs.Signs.{sgn}
 use Rattle.packed_numbers.specs.Numbers.{encode}
 use Rattle.units.specs.Units.{block-count}
+use Rattle.units.specs.Refusals.{over-limit, total-over-limit, too-coarse, no-room, byte-after-end}
 use Rattle.limits.specs.declared.Tally.{Tally}
 use Rattle.limits.specs.declared.Term.{Term}
 use Rattle.limits.specs.Limits.{opened, added, factor, count-fits, term-refusal}
@@ -94,14 +95,14 @@ passes-within f s t e p = record { from-zero = e; a = p .a; b = p .b; c = p .c; 
 pub term-zero : (f : ℕ) (s : Tally) (t : TermLine) → TermInLimits f s t → term-line-refusal f s (flag (t .b .minus)) (term-of-line t) ≡ 0
 unfolding term-line-refusal flag
 term-zero f s t l =
-    ap (λ (m : Bool). cond (eqb (flag m) 0) (term-refusal f s (term-of-line t)) 4) (l .from-zero)
+    ap (λ (m : Bool). cond (eqb (flag m) 0) (term-refusal f s (term-of-line t)) over-limit) (l .from-zero)
     ∙ refused-not f s (term-of-line t) (within-passes f s t l)
 
 pub term-limits : (f : ℕ) (s : Tally) (t : TermLine) → term-line-refusal f s (flag (t .b .minus)) (term-of-line t) ≡ 0 → TermInLimits f s t
 unfolding term-line-refusal flag
 term-limits f s t = go (t .b .minus) refl
   where
-    go : (m : Bool) → t .b .minus ≡ m → _≡_ {A = ℕ} (cond (eqb (flag m) 0) (term-refusal f s (term-of-line t)) 4) 0 → TermInLimits f s t
+    go : (m : Bool) → t .b .minus ≡ m → _≡_ {A = ℕ} (cond (eqb (flag m) 0) (term-refusal f s (term-of-line t)) over-limit) 0 → TermInLimits f s t
     go true e h = absurd (omega arith)
     go false e h = passes-within f s t e (not-refused f s (term-of-line t) h)
 
@@ -165,24 +166,26 @@ unfolding whole-count
 is-whole c g = rw (lt-ltb 20 (21 + length (c .more)) (omega arith), lt-ltb (21 + length (c .more)) 25 (omega (arith, g .few)))
 
 -- The refusals that a count and a term can have, and the status after them.
-pub count-among : (P : ℕ → Type 0) → P 0 → P 4 → P 9 → (k : ℕ) (s : Tally) (n : ℕ) → P (count-refusal k s n)
+pub count-among : (P : ℕ → Type 0) → P 0 → P over-limit → P byte-after-end → (k : ℕ) (s : Tally) (n : ℕ) → P (count-refusal k s n)
 unfolding count-refusal
-count-among P zero four nine k s n = go (ltb k block-count) (count-fits s n)
+count-among P passes over after k s n = go (ltb k block-count) (count-fits s n)
   where
-    go : (t u : Bool) → P (cond t (cond u 0 4) 9)
-    go true true = zero
-    go true false = four
-    go false u = nine
+    go : (t u : Bool) → P (cond t (cond u 0 over-limit) byte-after-end)
+    go true true = passes
+    go true false = over
+    go false u = after
 
-pub term-among : (P : ℕ → Type 0) → P 0 → P 4 → P 5 → P 6 → (f : ℕ) (s : Tally) (m : ℕ) (t : Term) → P (term-line-refusal f s m t)
+pub term-among : (P : ℕ → Type 0) → P 0 → P over-limit → P total-over-limit → P too-coarse
+    → (f : ℕ) (s : Tally) (m : ℕ) (t : Term) → P (term-line-refusal f s m t)
 unfolding term-line-refusal
-term-among P zero four five six f s m t = go (eqb m 0)
+term-among P passes over total coarse f s m t = go (eqb m 0)
   where
-    go : (b : Bool) → P (cond b (term-refusal f s t) 4)
-    go true = refusal-among P zero four five six f s t
-    go false = four
+    go : (b : Bool) → P (cond b (term-refusal f s t) over-limit)
+    go true = refusal-among P passes over total coarse f s t
+    go false = over
 
-pub wrote-status : (n : ℕ) → (0 ≡ n → ⊥) → (7 ≡ n → ⊥) → (r : Reader) (out : List ℕ) (v : Verdict) → (v .refusal ≡ n → ⊥) → wrote r out v .status ≡ n → ⊥
+pub wrote-status : (n : ℕ) → (0 ≡ n → ⊥) → (no-room ≡ n → ⊥)
+    → (r : Reader) (out : List ℕ) (v : Verdict) → (v .refusal ≡ n → ⊥) → wrote r out v .status ≡ n → ⊥
 unfolding wrote
 wrote-status n a b r out v h =
     by-cases (eqb (v .refusal) 0)

@@ -1,2 +1,3 @@
--- Laws of the constants and units.
+-- Laws of the constants, units and refusals.
 pub mod Limit
+pub mod Refusals

@@ -12,6 +12,10 @@ U = 1000000000
 abbrev pub parts : ℕ
 parts = 100000000000
 
+-- A minute in milliseconds.
+abbrev pub minute-ms : ℕ
+minute-ms = 60000
+
 -- T, a millennium in milliseconds; tau = t/T.
 abbrev pub millennium : ℕ
 millennium = 31557600000000

@@ -1,7 +1,7 @@
 // What every crate above shares: the constants of the rules, the instant, the coordinates of a body, and the refusals.
 ghost use mathlib.Core.Path.{_≡_};
 ghost use Rattle.units.specs.Units.{in-limit};
-ghost use Rattle.units.specs.Refusals.{number, figure, whole};
+ghost use Rattle.units.specs.Refusals.{number, figure, of-number, whole};
 
 // specs/Units.antt has the same constants under the same names.
 
@@ -10,6 +10,9 @@ pub const U: u64 = 1000000000;
 
 // Parts (10^-11 radian or AU) in a radian or an AU.
 pub const PARTS: u64 = 100000000000;
+
+// A minute in milliseconds.
+pub const MINUTE_MS: u64 = 60000;
 
 // T, a millennium in milliseconds.
 pub const MILLENNIUM: u64 = 31557600000000;
@@ -54,11 +57,13 @@ pub const POWERS: u64 = 6;
 // The blocks of a series.
 pub const BLOCK_COUNT: u64 = 3 * POWERS;
 
+// The promised distance of a working cosine from the reference, in 1/U.
+pub const COSINE_DISTANCE: u64 = 7;
+
 // The coarseness rule: the factor of a power, the share of a part of |a|, what a coordinate begins with, and the limit.
 pub const COARSE_TAU: u64 = 2;
 
-// Twice the promised distance of a working cosine from the reference, which is 7.
-pub const COARSE_SHARE: u64 = 2 * 7;
+pub const COARSE_SHARE: u64 = 2 * COSINE_DISTANCE;
 
 pub const COARSE_BASE: u64 = 32 * U;
 
@@ -92,12 +97,12 @@ pub struct Coordinates {
     pub radius: i64,
 }
 
-// Why a call gives no answer, in the order of its numbers. One more refusal wants (CONTRIBUTING.md names the documents too):
-// - its case here, and an arm in `number` and in `figure` below (whose proof has a `cc` for each arm that has a figure);
-// - a line in both definitions of specs/Refusals.antt;
+// Why a call gives no answer, in the order of its numbers. One more refusal wants (CONTRIBUTING.md has the whole list, with the documents):
+// - its case here, the constant of its number, and an arm in `number` and in `figure` below; in `of_number` too where a reader of series gives it;
+// - the same in specs/Refusals.antt, and a line in proofs/Refusals.antt and proofs/Refusal/figure;
 // - its words, in `words` and `put_words` of the crate refusal_words;
 // - a line in the table of include/stephylax.h, and its name in the enum there;
-// - its case in the host's enum, host/src/refusal.rs, its line in the help, and its name and words in python/stephylax.py.
+// - its line in the host's table, host/src/refusal.rs, its line in the help, and its name and words in python/stephylax.py.
 pub enum Refusal {
     // 1: the first field of a date that does not exist, 1 year, 2 month, 3 day, 4 ms; 5 a day number.
     NoSuchDate(u64),
@@ -129,6 +134,35 @@ pub enum Refusal {
     BadNumber(usize),
 }
 
+// The number of each refusal, which users see and a reader that has stopped holds; specs/Refusals.antt has the same names.
+pub const NO_SUCH_DATE: u64 = 1;
+
+pub const PAST_LIMIT: u64 = 2;
+
+pub const BAD_BYTE: u64 = 3;
+
+pub const OVER_LIMIT: u64 = 4;
+
+pub const TOTAL_OVER_LIMIT: u64 = 5;
+
+pub const TOO_COARSE: u64 = 6;
+
+pub const NO_ROOM: u64 = 7;
+
+pub const ENDED_EARLY: u64 = 8;
+
+pub const BYTE_AFTER_END: u64 = 9;
+
+pub const NOT_SHORTEST: u64 = 10;
+
+pub const NOT_USABLE: u64 = 11;
+
+pub const BAD_WINDOW: u64 = 12;
+
+pub const BAD_HEADING: u64 = 13;
+
+pub const BAD_NUMBER: u64 = 14;
+
 // What comes with a refusal: a count (of bytes, of fields, of minutes), or an instant.
 pub enum Figure {
     Count(u64),
@@ -140,20 +174,20 @@ impl Refusal {
         ensures { λ n. ⌜ n ≡ number self ⌝ }
     {
         match self {
-            Refusal::NoSuchDate(_) => 1,
-            Refusal::PastLimit(_) => 2,
-            Refusal::BadByte(_) => 3,
-            Refusal::OverLimit(_) => 4,
-            Refusal::TotalOverLimit(_) => 5,
-            Refusal::TooCoarse(_) => 6,
-            Refusal::NoRoom(_) => 7,
-            Refusal::EndedEarly(_) => 8,
-            Refusal::ByteAfterEnd(_) => 9,
-            Refusal::NotShortest(_) => 10,
-            Refusal::NotUsable(_) => 11,
-            Refusal::BadWindow => 12,
-            Refusal::BadHeading(_) => 13,
-            Refusal::BadNumber(_) => 14,
+            Refusal::NoSuchDate(_) => NO_SUCH_DATE,
+            Refusal::PastLimit(_) => PAST_LIMIT,
+            Refusal::BadByte(_) => BAD_BYTE,
+            Refusal::OverLimit(_) => OVER_LIMIT,
+            Refusal::TotalOverLimit(_) => TOTAL_OVER_LIMIT,
+            Refusal::TooCoarse(_) => TOO_COARSE,
+            Refusal::NoRoom(_) => NO_ROOM,
+            Refusal::EndedEarly(_) => ENDED_EARLY,
+            Refusal::ByteAfterEnd(_) => BYTE_AFTER_END,
+            Refusal::NotShortest(_) => NOT_SHORTEST,
+            Refusal::NotUsable(_) => NOT_USABLE,
+            Refusal::BadWindow => BAD_WINDOW,
+            Refusal::BadHeading(_) => BAD_HEADING,
+            Refusal::BadNumber(_) => BAD_NUMBER,
         }
     }
 
@@ -176,5 +210,37 @@ impl Refusal {
             Refusal::BadHeading(at) => Figure::Count(at as u64),
             Refusal::BadNumber(at) => Figure::Count(at as u64),
         }
+    }
+
+    // The inverse of `number` for the refusals that readers of series give, at an offset. Any other number is read as BAD_BYTE: no reader that
+    // the library made holds one, only a state that a caller made up.
+    pub fn of_number(number: u64, at: usize) -> Refusal
+        ensures { λ r. ⌜ r ≡ of-number number at ⌝ }
+    {
+        if number == OVER_LIMIT {
+            return Refusal::OverLimit(at);
+        }
+        if number == TOTAL_OVER_LIMIT {
+            return Refusal::TotalOverLimit(at);
+        }
+        if number == TOO_COARSE {
+            return Refusal::TooCoarse(at);
+        }
+        if number == NO_ROOM {
+            return Refusal::NoRoom(at);
+        }
+        if number == ENDED_EARLY {
+            return Refusal::EndedEarly(at);
+        }
+        if number == BYTE_AFTER_END {
+            return Refusal::ByteAfterEnd(at);
+        }
+        if number == BAD_HEADING {
+            return Refusal::BadHeading(at);
+        }
+        if number == BAD_NUMBER {
+            return Refusal::BadNumber(at);
+        }
+        Refusal::BadByte(at)
     }
 }

@@ -8,18 +8,17 @@ use lib.ListN.{length, take}
 use lib.Seq.{take-length}
 use Rattle.units.specs.declared.Refusal.the-variants.{NoRoom}
 use Rattle.packed.specs.Series.{Parsed, accepted, refused, parse}
-use Rattle.packed_promises.specs.Bounds.{early-limit, Where}
-use Rattle.packed_promises.proofs.Theorems.{refused-where, decided}
+use Rattle.packed_promises.specs.Bounds.{early-limit}
+use Rattle.packed_promises.proofs.Theorems.{refused-where, room-where, decided}
 use Rattle.printer.specs.Printer.{plain-text, text-fits, printed, printed-out}
 use Rattle.printer.specs.declared.Printed.{Printed}
 use Rattle.printer.specs.declared.Printed.the-variants.{Length, NoText}
 use Rattle.printer_promises.proofs.Theorems.{longest}
 use Rattle.unpacking.specs.Input.{text-limit, Input, all, begins, Roomy, Answered}
 
--- No packed bytes are refused 7.
-never-seven : (x : List ℕ) (k : ℕ) → parse x ≡ refused (NoRoom k) → ⊥
-unfolding Where
-never-seven x k e = refused-where x (NoRoom k) e
+-- No packed bytes are refused for want of room.
+never-full : (x : List ℕ) (k : ℕ) → parse x ≡ refused (NoRoom k) → ⊥
+never-full x k e = room-where (refused-where x (NoRoom k) e) refl
 
 roomy : (x out : List ℕ) (k : ℕ) → text-limit ≤ length out → printed (parse x) out ≡ NoText (NoRoom k) → ⊥
 unfolding printed text-fits
@@ -32,7 +31,7 @@ roomy x out k h e = go (parse x) refl e
         let t : Length (length (plain-text blocks)) ≡ NoText (NoRoom k) = rw (le-leb (length (plain-text blocks)) (length out) f) at e in
         let z : _≡_ {A = ℕ} 0 1 = cc in
         omega arith
-    go (refused r) q e = let p : r ≡ NoRoom k = cc in never-seven x k (q ∙ ap refused p)
+    go (refused r) q e = let p : r ≡ NoRoom k = cc in never-full x k (q ∙ ap refused p)
 
 -- Either way the bytes that are held decide.
 same-answer : (n : ℕ) (buffer input : List ℕ) → early-limit < length buffer → Input n buffer input → parse (take n buffer) ≡ parse input

@@ -15,14 +15,14 @@ unfolding told
 returns-2 c =
     let a = c .before .before .before .before .args in rw (ne-eqb (a .r .status) 0 (λ e. omega (arith, e)), eq-eqb (a .r .status) 1 (omega arith))
 
-refusal-of-requires : tie.Need-refusal-of-requires
-refusal-of-requires c κs = search needs
+of-number-requires : tie.Need-of-number-requires
+of-number-requires c κs = search needs
 
 returns-3 : tie.Need-returns-3
 unfolding told
 returns-3 c =
     let a = c .before .before .before .before .before .args in
-    rw (ne-eqb (a .r .status) 0 (λ e. omega (arith, e)), ne-eqb (a .r .status) 1 (λ e. omega (arith, e)), c .refusal-of .ensures)
+    rw (ne-eqb (a .r .status) 0 (λ e. omega (arith, e)), ne-eqb (a .r .status) 1 (λ e. omega (arith, e)), c .of-number .ensures)
 
 pub answer-spec : {M : Type 1} → statement M
-answer-spec = tie.close (tie.spec returns returns-2 refusal-of-requires returns-3)
+answer-spec = tie.close (tie.spec returns returns-2 of-number-requires returns-3)

@@ -2,6 +2,7 @@
 use mathlib.Core.Path.{ap}
 use Prim.Native.Nat.{ℕ, _/_}
 use borrow.Author.Needs.{needs}
+use Rattle.units.specs.Units.{minute-ms}
 use Rattle.arith.proofs.Signs.{back, ok}
 use Rattle.command_line.proofs.arguments.minute_of_day.Statement.{statement}
 use Rattle.command_line.proofs.arguments.minute_of_day.Tie as tie
@@ -17,7 +18,7 @@ returns c =
     let s = c .before .before in
     let m = rw (back _ (s .fits .hour), back _ (s .fits .minute)) at (c .before .ms-of-day .ensures) in
     let n = rw (back _ (ok (c .before .ms-of-day .ok)), m) at (c .natural-or .ensures) in
-    ap (λ (k : ℕ). k / 60000) n
+    ap (λ (k : ℕ). k / minute-ms) n
 
 pub minute-of-day-spec : {M : Type 1} → statement M
 minute-of-day-spec = tie.close (tie.spec ms-of-day-requires natural-or-requires returns)

@@ -3,18 +3,19 @@ use mathlib.Core.Path.{_≡_}
 use borrow.Author.Needs.{needs}
 use Rattle.arith.specs.machine.Signed.{natural-or}
 use Rattle.arith.proofs.Signs.{back, ok}
+use Rattle.command_line.specs.Clock.{hours, minutes, seconds}
 use Rattle.command_line.proofs.Clocks.{no-hour, no-minute, no-second, at-clock}
 use Rattle.command_line.proofs.arguments.ms_of_day.Statement.{statement}
 use Rattle.command_line.proofs.arguments.ms_of_day.Tie as tie
 
 -- what the calls gave, of the arguments themselves
-h-is : (c : tie.After-natural-or) → c .natural-or .result ≡ natural-or (c .before .args .hour) 24
+h-is : (c : tie.After-natural-or) → c .natural-or .result ≡ natural-or (c .before .args .hour) hours
 h-is c = rw (back _ (c .before .fits .hour)) at (c .natural-or .ensures)
 
-m-is : (c : tie.After-natural-or2) → c .natural-or2 .result ≡ natural-or (c .before .before .args .minute) 60
+m-is : (c : tie.After-natural-or2) → c .natural-or2 .result ≡ natural-or (c .before .before .args .minute) minutes
 m-is c = rw (back _ (c .before .before .fits .minute)) at (c .natural-or2 .ensures)
 
-s-is : (c : tie.After-natural-or3) → c .natural-or3 .result ≡ natural-or (c .before .before .before .args .second) 60
+s-is : (c : tie.After-natural-or3) → c .natural-or3 .result ≡ natural-or (c .before .before .before .args .second) seconds
 s-is c = rw (back _ (c .before .before .before .fits .second)) at (c .natural-or3 .ensures)
 
 natural-or-requires : tie.Need-natural-or-requires
@@ -51,11 +52,11 @@ mul-wide-2 c = search needs
 add-wide : tie.Need-add-wide
 add-wide c = search needs
 
-add-wide-2 : tie.Need-add-wide-2
-add-wide-2 c = search needs
-
 mul-wide-3 : tie.Need-mul-wide-3
 mul-wide-3 c = search needs
+
+add-wide-2 : tie.Need-add-wide-2
+add-wide-2 c = search needs
 
 wide-requires : tie.Need-wide-requires
 wide-requires c κs = search needs
@@ -82,7 +83,7 @@ ms-of-day-spec =
     mul-wide
     mul-wide-2
     add-wide
-    add-wide-2
     mul-wide-3
+    add-wide-2
     wide-requires
     returns-4)

@@ -4,6 +4,7 @@ use Prim.Native.Nat.{ℕ, _-_}
 use native.Mathlib.Omega.{arith}
 use borrow.Author.Needs.{needs}
 use borrow.Author.Tests.{not-true, not-false}
+use Rattle.units.specs.Refusals.{bad-number}
 use Rattle.limits.specs.Limits.{factor, added}
 use Rattle.series_lines.specs.Judge.{tally, term-on-line, term-line-refusal}
 use Rattle.series_lines.proofs.LineLimits.{line-added, line-may-come, line-small}
@@ -23,7 +24,7 @@ returns : tie.Need-returns
 returns c =
     let f = c .before .before in
     let p = f .before .before .before .before .args .p in
-    wrote-refused (p .reader) _ _ (record-end p) 14
+    wrote-refused (p .reader) _ _ (record-end p) bad-number
     (sym (record-wrong p (sym (f .follows .ensures) ∙ not-true _ (c .before .if1 .taken)))) (λ e. omega (arith, e)) (c .stop .ensures)
 
 less-one-requires : tie.Need-less-one-requires
