@@ -14,7 +14,7 @@ use Rattle.integers.proofs.Division.{floor-is, modulo-is}
 use Rattle.units.specs.Units.{t-limit, in-limit}
 use Rattle.units.specs.declared.Instant.{Instant}
 use Rattle.units.specs.declared.Refusal.the-variants.{NoSuchDate, PastLimit}
-use Rattle.arith.specs.machine.Signed.{natural-or}
+use Rattle.arith.specs.Naturals.{natural-or}
 use Rattle.calendar.specs.Calendar.{between, first-bad, first-bad-of-four, noon-number, day-of-date, instant, instant-of-date, day-of-instant}
 use Rattle.calendar.specs.Calendar.{ms-of-instant, date-of-instant}
 use Rattle.calendar.specs.machine.Shifted.{date-at, plain}

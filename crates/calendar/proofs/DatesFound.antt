@@ -11,7 +11,7 @@ use lib.IntN.{ℤ, pos, negsuc, natAbs, _-ℤ_}
 use Rattle.integers.proofs.Pairs.{Is, nat, same, _-ᵢ_}
 use Rattle.units.specs.declared.Refusal.{Refusal}
 use Rattle.units.specs.declared.Refusal.the-variants.{NoSuchDate}
-use Rattle.arith.specs.machine.Signed.{natural-or}
+use Rattle.arith.specs.Naturals.{natural-or}
 use Rattle.arith.proofs.Naturals.{natural-back as field-back}
 use Rattle.calendar.specs.Calendar.{first-bad, noon-number, day-of-date, is-day, has-number, written-as, date-below, date-numbered, date-of-day}
 use Rattle.calendar.specs.machine.Shifted.{first-index, year-index, bad-field, Sound, noon, date-at, plain}

@@ -12,7 +12,7 @@ use Rattle.units.proofs.Limit.{size-within}
 use Rattle.units.specs.declared.Instant.{Instant}
 use Rattle.units.specs.declared.Refusal.{Refusal}
 use Rattle.units.specs.declared.Refusal.the-variants.{NoSuchDate, PastLimit}
-use Rattle.arith.specs.machine.Signed.{natural-or}
+use Rattle.arith.specs.Naturals.{natural-or}
 use Rattle.calendar.specs.Calendar.{between, first-bad-of-four, noon-number, date-of-day, instant, limited, instant-of-date}
 use Rattle.calendar.specs.Calendar.{day-of-instant, ms-of-instant, date-numbered, date-of-instant}
 use Rattle.calendar.specs.machine.Shifted.{year-index, Sound, noon, date-at, plain}

@@ -12,7 +12,7 @@ use mir.Val.{SFits, toZ, ofZ}
 use Rattle.integers.specs.Signs.{negative}
 use Rattle.integers.proofs.Pairs.{Is}
 use Rattle.integers.proofs.Order.{fits, nat-difference-fits}
-use Rattle.arith.specs.machine.Signed.{natural-or}
+use Rattle.arith.specs.Naturals.{natural-or}
 use Rattle.arith.proofs.Signs.{back}
 use Rattle.calendar.specs.Calendar.{between, first-bad, noon-number}
 use Rattle.calendar.specs.machine.Shifted.{year-index, Sound, noon, date-at, plain}
