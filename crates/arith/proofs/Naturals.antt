@@ -5,7 +5,7 @@ use Prim.Native.Nat.{ℕ}
 use lib.IntN.{ℤ, pos, negsuc}
 use Rattle.integers.specs.Signs.{negative}
 use Rattle.integers.proofs.Tests.{false-true}
-use Rattle.arith.specs.machine.Signed.{natural-or}
+use Rattle.arith.specs.Naturals.{natural-or}
 
 pub natural-of-negative : (x : ℤ) (other : ℕ) → negative x ≡ true → natural-or x other ≡ other
 unfolding natural-or negative

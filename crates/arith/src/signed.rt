@@ -8,7 +8,7 @@ ghost use lib.Signed.{_≤ℤ_};
 ghost use mir.Syntax.{w64};
 ghost use mir.Val.{SFits};
 ghost use Rattle.integers.specs.Signs.{negative, sgn, differ};
-ghost use Rattle.arith.specs.machine.Signed.{natural-or};
+ghost use Rattle.arith.specs.Naturals.{natural-or};
 
 pub fn add(a: i64, b: i64) -> i64
     requires { ⌜ SFits w64 (a +ℤ b) ⌝ }

@@ -14,7 +14,7 @@ use Rattle.integers.proofs.Division.{floor-is, modulo-is}
 use Rattle.units.specs.Units.{t-limit, in-limit}
 use Rattle.units.specs.declared.Instant.{Instant}
 use Rattle.units.specs.declared.Refusal.the-variants.{NoSuchDate, PastLimit}
-use Rattle.arith.specs.machine.Signed.{natural-or}
+use Rattle.arith.specs.Naturals.{natural-or}
 use Rattle.calendar.specs.Calendar.{between, first-bad, first-bad-of-four, noon-number, day-of-date, instant, instant-of-date, day-of-instant}
 use Rattle.calendar.specs.Calendar.{ms-of-instant, date-of-instant}
 use Rattle.calendar.specs.machine.Shifted.{date-at, plain}
@@ -25,6 +25,7 @@ use Rattle.calendar.specs.declared.MomentAnswer.the-variants.{Moment, No
 use Rattle.calendar.specs.Constants.{last-day, day-ms, last-ms, half-day-ms, epoch-day}
 use Rattle.calendar.specs.machine.Shifted.{epoch-ms}
 use Rattle.calendar.proofs.FirstBad.{is-same}
+use Rattle.calendar.proofs.DatesFound.{looked-for}
 use Rattle.calendar.proofs.WholeDates.{natural-back, Upto, inside, outside, upto}
 
 -- ---- date to day number
@@ -124,12 +125,12 @@ pub moment-past : (t : Instant) → in-limit (t .ms) ≡ false → NoMoment (Pas
 unfolding date-of-instant
 moment-past t l = rw l
 
-pub moment-given : (t : Instant) (u : ℕ) (d : Date) (r : ℤ) → in-limit (t .ms) ≡ true → pos u ≡ t .ms +ℤ pos epoch-ms
+pub moment-given : (t : Instant) (u : ℕ) (d : Date) (r : ℤ) → in-limit (t .ms) ≡ true → pos u ≡ t .ms +ℤ pos epoch-ms → u ≤ epoch-ms + t-limit
     → d ≡ plain (date-at (u / day-ms)) → r ≡ pos (u % day-ms) → Moment d (toZ w64 (ofZ w64 r)) ≡ date-of-instant t
 unfolding date-of-instant
-moment-given t u d r l f g h =
+moment-given t u d r l f b g h =
     rw (l, day-is (t .ms) u f)
-    (λ i. Moment (g i) ((natural-back r (u % day-ms) h (omega arith) ∙ sym (ms-is (t .ms) u f)) i))
+    (λ i. Moment ((g ∙ sym (looked-for (u / day-ms) (omega arith))) i) ((natural-back r (u % day-ms) h (omega arith) ∙ sym (ms-is (t .ms) u f)) i))
 
 -- the milliseconds from 0h of day number 0, by sign and magnitude
 pub since-below : (t : ℤ) (n : ℕ) → negative t ≡ true → n ≡ natAbs t → n ≤ t-limit → pos (epoch-ms - n) ≡ t +ℤ pos epoch-ms

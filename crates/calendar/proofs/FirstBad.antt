@@ -12,7 +12,7 @@ use lib.ListN.{getD}
 use lib.Signed.{leZ}
 use Rattle.integers.specs.Division.{modulo}
 use Rattle.integers.proofs.Pairs.{Is, up, dn, same, same⁻¹, sub-cong, nat, int, sub-pos, sub-neg, _+ᵢ_, _*ᵢ_}
-use Rattle.arith.specs.machine.Signed.{natural-or}
+use Rattle.arith.specs.Naturals.{natural-or}
 use Rattle.calendar.specs.Calendar.{between, in-years, written, skipped, leap, month-length, first-bad}
 use Rattle.calendar.specs.machine.Shifted.{year-index, key, leap-day, month-days, in-gap, bad-field}
 use Rattle.calendar.specs.Constants.{years-before-zero, last-year, reform-year, first-skipped, last-skipped, year-shift}

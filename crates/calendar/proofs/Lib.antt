@@ -15,6 +15,8 @@ pub mod DayToDate
 pub mod Formula
 -- Dates of whole numbers brought to naturals and back, as the code does.
 pub mod WholeDates
+-- The date that the specs look for is the one that the code works out.
+pub mod DatesFound
 -- Each way through a public call ends in the answer that the specs define.
 pub mod CallAnswers
 -- Over whole numbers: date and day number, instant and date, each found from the other.

@@ -3,44 +3,32 @@ use mathlib.Core.Path.{_≡_, refl, sym, ap, _∙_}
 use mathlib.Core.Bool.{Bool, true, false, cond, false≢true}
 use Prim.Native.Nat.{ℕ, suc, _+_, _*_, _/_, _%_, _-_, _≤_, _<_}
 use native.Mathlib.Omega.{arith}
-use borrow.Author.Tests.{le-leb, leb-true, eqb-true}
+use borrow.Author.Tests.{le-leb, eqb-true}
 use lib.Dec.{eqb}
-use lib.IntN.{ℤ, pos, negsuc, natAbs, _+ℤ_, _-ℤ_}
-use Rattle.integers.proofs.Pairs.{Is, nat, int, same, same⁻¹, _+ᵢ_, _-ᵢ_}
+use lib.IntN.{ℤ, pos, negsuc, _+ℤ_}
+use Rattle.integers.proofs.Pairs.{nat, int, same, same⁻¹, _+ᵢ_, _-ᵢ_}
 use Rattle.units.specs.Units.{t-limit, in-limit}
 use Rattle.units.proofs.Limit.{size-within}
 use Rattle.units.specs.declared.Instant.{Instant}
 use Rattle.units.specs.declared.Refusal.{Refusal}
 use Rattle.units.specs.declared.Refusal.the-variants.{NoSuchDate, PastLimit}
-use Rattle.arith.specs.machine.Signed.{natural-or}
-use Rattle.arith.proofs.Naturals.{natural-back as field-back}
-use Rattle.calendar.specs.Calendar.{between, first-bad, first-bad-of-four, noon-number, day-of-date, date-of-day, instant, limited, instant-of-date}
-use Rattle.calendar.specs.Calendar.{day-of-instant, ms-of-instant, date-of-instant}
-use Rattle.calendar.specs.machine.Shifted.{year-index, bad-field, Sound, noon, date-at, plain}
+use Rattle.arith.specs.Naturals.{natural-or}
+use Rattle.calendar.specs.Calendar.{between, first-bad-of-four, noon-number, date-of-day, instant, limited, instant-of-date}
+use Rattle.calendar.specs.Calendar.{day-of-instant, ms-of-instant, date-numbered, date-of-instant}
+use Rattle.calendar.specs.machine.Shifted.{year-index, Sound, noon, date-at, plain}
 use Rattle.calendar.specs.declared.Date.{Date}
 use Rattle.calendar.specs.declared.Shifted.{Shifted}
-use Rattle.calendar.specs.declared.DayAnswer.the-variants.{Day, NoDay}
 use Rattle.calendar.specs.declared.DateAnswer.the-variants.{On, NoDate}
 use Rattle.calendar.specs.declared.InstantAnswer.the-variants.{At, NoInstant}
 use Rattle.calendar.specs.declared.MomentAnswer.the-variants.{Moment, NoMoment}
-use Rattle.calendar.specs.Constants.{year-shift, last-day, day-ms, last-ms}
+use Rattle.calendar.specs.Constants.{last-day, day-ms, last-ms}
 use Rattle.calendar.specs.machine.Shifted.{epoch-ms}
 use Rattle.calendar.proofs.CallAnswers.{Fields, fields, instant-is, day-is, ms-is}
+use Rattle.calendar.proofs.DatesFound.{date, plain-back, plain-exists, plain-noon, looked-for}
 use Rattle.calendar.proofs.DayToDate.{found}
-use Rattle.calendar.proofs.WholeDates.{Upto, inside, outside, upto, sound-of, noon-law, noon-small}
-use Rattle.calendar.proofs.Existing.{Ok, ok}
-use Rattle.calendar.proofs.FirstBad.{Year, year, missing, year-of-index, index-of, is-same, bad-law}
-use Rattle.calendar.proofs.Formula.{literal}
-use Rattle.calendar.proofs.DateToDay.{numbered}
-
-abbrev date : ℤ → ℤ → ℤ → Date
-date y m d = record { year = y; month = m; day = d }
+use Rattle.calendar.proofs.WholeDates.{Upto, inside, outside, upto, noon-law, noon-small}
 
 -- ---- answers taken apart
-pick-day : (b : Bool) (z n : ℤ) (r : Refusal) → cond b (Day z) (NoDay r) ≡ Day n → (b ≡ true) × (z ≡ n)
-pick-day true z n r e = (refl, cc)
-pick-day false z n r e = let x : _≡_ {A = ℕ} 0 1 = cc in absurd (omega arith)
-
 pick-date : (b : Bool) (z w : Date) (r : Refusal) → cond b (On z) (NoDate r) ≡ On w → (b ≡ true) × (z ≡ w)
 pick-date true z w r e = (refl, cc)
 pick-date false z w r e = let x : _≡_ {A = ℕ} 0 1 = cc in absurd (omega arith)
@@ -53,47 +41,6 @@ pick-instant false l z t q r e = let x : _≡_ {A = ℕ} 0 1 = cc in absurd (ome
 pick-moment : (b : Bool) (z w : Date) (j k : ℤ) (r : Refusal) → cond b (Moment z j) (NoMoment r) ≡ Moment w k → (b ≡ true) × (z ≡ w) × (j ≡ k)
 pick-moment true z w j k r e = (refl, cc, cc)
 pick-moment false z w j k r e = let x : _≡_ {A = ℕ} 0 1 = cc in absurd (omega arith)
-
--- ---- a date that exists is the date of its day number
-module _ (y m d : ℤ) (e : first-bad y m d ≡ 0) where
-  year-back : pos (year-index y) -ℤ pos year-shift ≡ y
-  year-back = go (year-of-index y)
-    where
-      o : Ok (year-index y) (natural-or m 0) (natural-or d 0)
-      o = ok _ _ _ (sound-of y m d e)
-
-      go : Year y → pos (year-index y) -ℤ pos year-shift ≡ y
-      go (year c f p q i k) = rw f (same (nat c -ᵢ nat year-shift) i (omega arith))
-      go (missing f k) = absurd (omega (arith, o .least))
-
-  plain-back : plain (date-at (noon (year-index y) (natural-or m 0) (natural-or d 0))) ≡ date y m d
-  plain-back =
-      let s = sound-of y m d e in
-      let o = ok _ _ _ s in
-      let q = year-back in
-      let r = field-back m 0 (λ x. omega (arith, o .month-least)) in
-      let t = field-back d 0 (λ x. omega (arith, o .day-least)) in
-      ap plain (numbered _ _ _ s .back) ∙ (λ i. date (q i) (r i) (t i))
-
--- ---- a day number's date exists and has that number
-module _ (s : Shifted) (p : Sound (s .index) (s .month) (s .day)) where
-  year-is : Is (pos (s .index) -ℤ pos year-shift) (s .index) year-shift
-  year-is = is-same (nat (s .index) -ᵢ nat year-shift) (omega arith)
-
-  plain-exists : first-bad (plain s .year) (plain s .month) (plain s .day) ≡ 0
-  unfolding natural-or
-  plain-exists =
-      sym (bad-law (plain s .year) (pos (s .month)) (pos (s .day)))
-      ∙ ap (λ (c : ℕ). bad-field c (s .month) (s .day)) (index-of (plain s .year) (s .index) (p .least) (p .small) year-is)
-      ∙ p .exists
-
-  plain-noon : noon-number (plain s .year) (plain s .month) (plain s .day) ≡ pos (noon (s .index) (s .month) (s .day))
-  plain-noon = literal _ _ _ _ year-is p
-
-pub day-of-plain : (n : ℕ) (s : Shifted) → Sound (s .index) (s .month) (s .day) → noon (s .index) (s .month) (s .day) ≡ n
-    → day-of-date (plain s .year) (plain s .month) (plain s .day) ≡ Day (pos n)
-unfolding day-of-date
-day-of-plain n s p e = rw (plain-exists s p) (ap Day (plain-noon s p ∙ ap pos e))
 
 -- ---- instants
 -- the milliseconds from 0h of day number 0
@@ -139,25 +86,7 @@ instant-of-plain n k s p e h =
 -- ---- what an answer that is no refusal says
 pub on-day : (k : ℕ) → k ≤ last-day → date-of-day (pos k) ≡ On (plain (date-at k))
 unfolding date-of-day
-on-day k h = rw (le-leb 0 k (omega arith), le-leb k last-day h)
-
-pub record Numbered-as (y m d n : ℤ) : Type 0 where
-  pub k : ℕ
-  pub is : n ≡ pos k
-  pub small : k ≤ last-day
-  pub back : plain (date-at k) ≡ date y m d
-
-pub numbered-as : (y m d n : ℤ) → day-of-date y m d ≡ Day n → Numbered-as y m d n
-unfolding day-of-date
-numbered-as y m d n e =
-    let p = pick-day (eqb (first-bad y m d) 0) (noon-number y m d) n (NoSuchDate (first-bad y m d)) e in
-    let b : first-bad y m d ≡ 0 = eqb-true _ _ (p .0) in
-    record {
-      k = noon (year-index y) (natural-or m 0) (natural-or d 0);
-      is = sym (p .1) ∙ sym (noon-law y m d b);
-      small = noon-small y m d b;
-      back = plain-back y m d b;
-    }
+on-day k h = rw (le-leb 0 k (omega arith), le-leb k last-day h) (ap On (looked-for k h))
 
 pub same-date : {z w : Date} → On z ≡ On w → z ≡ w
 same-date e = cc
@@ -172,11 +101,11 @@ pub dated : (n : ℤ) (w : Date) → date-of-day n ≡ On w → Dated n w
 unfolding date-of-day
 dated n w e = go (upto n last-day)
   where
-    p : (between (pos 0) n (pos last-day) ≡ true) × (plain (date-at (natAbs n)) ≡ w)
-    p = pick-date (between (pos 0) n (pos last-day)) (plain (date-at (natAbs n))) w (NoSuchDate 5) e
+    p : (between (pos 0) n (pos last-day) ≡ true) × (date-numbered n ≡ w)
+    p = pick-date (between (pos 0) n (pos last-day)) (date-numbered n) w (NoSuchDate 5) e
 
     go : Upto n last-day → Dated n w
-    go (inside k i l r b) = record { k = k; is = i; small = l; found = ap (λ (z : ℤ). plain (date-at (natAbs z))) (sym i) ∙ p .1 }
+    go (inside k i l r b) = record { k = k; is = i; small = l; found = sym (looked-for k l) ∙ ap date-numbered (sym i) ∙ p .1 }
     go (outside g b) = absurd (false≢true (sym b ∙ p .0))
 
 limited-is : (t : Instant) → in-limit (t .ms) ≡ true → limited (t .ms) ≡ At t
@@ -197,10 +126,13 @@ timed y m d ms t e =
     record { all = fields y m d ms (eqb-true _ _ (p .0)); limit = ap in-limit (sym q) ∙ p .1; is = q }
 
 -- the date of an instant
-pub moment-of : (t : Instant) (u : ℕ) → in-limit (t .ms) ≡ true → pos u ≡ t .ms +ℤ pos epoch-ms
+pub moment-of : (t : Instant) (u : ℕ) → in-limit (t .ms) ≡ true → pos u ≡ t .ms +ℤ pos epoch-ms → u ≤ epoch-ms + t-limit
     → date-of-instant t ≡ Moment (plain (date-at (u / day-ms))) (pos (u % day-ms))
 unfolding date-of-instant
-moment-of t u h e = rw h (λ i. Moment (plain (date-at (natAbs (day-is (t .ms) u e i)))) (ms-is (t .ms) u e i))
+moment-of t u h e l =
+    let d : date-numbered (day-of-instant (t .ms)) ≡ plain (date-at (u / day-ms)) =
+    ap date-numbered (day-is (t .ms) u e) ∙ looked-for (u / day-ms) (omega arith) in
+    rw h (λ i. Moment (d i) (ms-is (t .ms) u e i))
 
 pub limit-of : (t : Instant) (w : Date) (k : ℤ) → date-of-instant t ≡ Moment w k → in-limit (t .ms) ≡ true
 unfolding date-of-instant
@@ -212,7 +144,7 @@ same-moment e = (cc, cc)
 pub instant-back : (t : Instant) (w : Date) (k : ℤ) (u : ℕ) → in-limit (t .ms) ≡ true → pos u ≡ t .ms +ℤ pos epoch-ms → u ≤ epoch-ms + t-limit
     → date-of-instant t ≡ Moment w k → instant-of-date (w .year) (w .month) (w .day) k ≡ At t
 instant-back t w k u h e l p =
-    let q = same-moment (sym (moment-of t u h e) ∙ p) in
+    let q = same-moment (sym (moment-of t u h e l) ∙ p) in
     let f = found (u / day-ms) (omega arith) in
     rw (← q .0, ← q .1) (instant-of-plain (u / day-ms) (u % day-ms) (date-at (u / day-ms)) (f .sound) (f .number) (omega arith)
     ∙ ap limited (instant-again (t .ms) u e) ∙ limited-is t h)
@@ -226,6 +158,7 @@ moment-back y m d ms t i =
     let v = sym r in
     let q = sym ((λ x. instant (noon-law y m d (a .date) x) (v x)) ∙ i .is) in
     rw (i .limit)
-    ((λ x. Moment (plain (date-at (natAbs (day-of-instant (q x))))) (ms-of-instant (q x)))
-    ∙ (λ x. Moment (plain (date-at (natAbs (day-again n (a .k) (a .small) x)))) (ms-again n (a .k) (a .small) x))
+    ((λ x. Moment (date-numbered (day-of-instant (q x))) (ms-of-instant (q x)))
+    ∙ (λ x. Moment (date-numbered (day-again n (a .k) (a .small) x)) (ms-again n (a .k) (a .small) x))
+    ∙ (λ x. Moment (looked-for n (noon-small y m d (a .date)) x) (pos (a .k)))
     ∙ (λ x. Moment (plain-back y m d (a .date) x) (v x)))

@@ -18,7 +18,8 @@ use Rattle.calendar.specs.declared.InstantAnswer.the-variants.{At}
 use Rattle.calendar.specs.declared.MomentAnswer.the-variants.{Moment}
 use Rattle.calendar.specs.Constants.{last-day, day-ms}
 use Rattle.calendar.proofs.DayToDate.{found}
-use Rattle.calendar.proofs.RoundTrips.{numbered-as, on-day, dated, same-date, day-of-plain, since, timed, limit-of, instant-back, moment-back}
+use Rattle.calendar.proofs.DatesFound.{numbered-as, day-of-plain}
+use Rattle.calendar.proofs.RoundTrips.{on-day, dated, same-date, since, timed, limit-of, instant-back, moment-back}
 use Rattle.calendar.proofs.RoundTrips.{moment-of, same-moment}
 
 -- A date, its day number, and back.
@@ -55,7 +56,7 @@ instant-moment-instant t w ms e =
 pub one-moment : (t : Instant) → in-limit (t .ms) ≡ true → OneMoment t
 one-moment t h =
     let s = since (t .ms) h in
-    let e = moment-of t (s .u) h (s .is) in
+    let e = moment-of t (s .u) h (s .is) (s .small) in
     record {
       the = plain (date-at (s .u / day-ms));
       ms = pos (s .u % day-ms);

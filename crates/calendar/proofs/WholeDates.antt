@@ -12,14 +12,12 @@ use mir.Val.{SFits, toZ, ofZ}
 use Rattle.integers.specs.Signs.{negative}
 use Rattle.integers.proofs.Pairs.{Is}
 use Rattle.integers.proofs.Order.{fits, nat-difference-fits}
-use Rattle.units.specs.declared.Refusal.the-variants.{NoSuchDate}
-use Rattle.arith.specs.machine.Signed.{natural-or}
+use Rattle.arith.specs.Naturals.{natural-or}
 use Rattle.arith.proofs.Signs.{back}
-use Rattle.calendar.specs.Calendar.{between, first-bad, noon-number, date-of-day}
+use Rattle.calendar.specs.Calendar.{between, first-bad, noon-number}
 use Rattle.calendar.specs.machine.Shifted.{year-index, Sound, noon, date-at, plain}
 use Rattle.calendar.specs.declared.Date.{Date}
 use Rattle.calendar.specs.declared.Shifted.{Shifted}
-use Rattle.calendar.specs.declared.DateAnswer.the-variants.{On, NoDate}
 use Rattle.calendar.specs.Constants.{years-before-zero, last-year, year-shift, last-day}
 use Rattle.calendar.specs.machine.Shifted.{last-index}
 use Rattle.calendar.proofs.DayToDate.{found}
@@ -99,22 +97,6 @@ upto (pos n) l = go (decLe n l)
     go : Dec (n ≤ l) → Upto (pos n) l
     go (yes h) = inside n refl h (λ o. refl) (rw (le-leb 0 n (omega arith), le-leb n l h))
     go (no h) = outside (λ o p. omega arith) (rw (le-leb 0 n (omega arith), lt-leb n l (omega arith)))
-
-pub no-date : (x : ℤ) (k : ℕ) → k ≡ natural-or x 5373485 → last-day < k → NoDate (NoSuchDate 5) ≡ date-of-day x
-unfolding date-of-day
-no-date x k e h = go (upto x last-day)
-  where
-    go : Upto x last-day → NoDate (NoSuchDate 5) ≡ date-of-day x
-    go (outside f b) = rw b
-    go (inside n p q r b) = absurd (omega (arith, r 5373485))
-
-pub on-date : (x : ℤ) (k : ℕ) (d : Date) → k ≡ natural-or x 5373485 → k ≤ last-day → d ≡ plain (date-at k) → On d ≡ date-of-day x
-unfolding date-of-day
-on-date x k d e h f = go (upto x last-day)
-  where
-    go : Upto x last-day → On d ≡ date-of-day x
-    go (outside g b) = absurd (omega (arith, g 5373485 (lit< tt)))
-    go (inside n p q r b) = let z : k ≡ n = omega (arith, r 5373485) in rw (b, p) (ap On (f ∙ ap (λ (j : ℕ). plain (date-at j)) z))
 
 -- ---- a date that exists, as naturals
 module _ (y m d : ℤ) (e : first-bad y m d ≡ 0) where

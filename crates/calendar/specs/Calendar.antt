@@ -1,7 +1,7 @@
 -- RULES, "Calendar", with the refusals 1 and 2: what each public call answers, for every value of its arguments.
 use mathlib.Core.Bool.{Bool, true, false, _&&_, _||_, not, cond}
 use mathlib.Core.List.{[], _∷_}
-use Prim.Native.Nat.{ℕ, _-_}
+use Prim.Native.Nat.{ℕ, zero, suc, _+_, _*_, _-_, _/_, _%_}
 use lib.Dec.{eqb}
 use lib.IntN.{ℤ, pos, natAbs, negℤ, _+ℤ_, _-ℤ_, _*ℤ_}
 use lib.ListN.{getD}
@@ -13,7 +13,7 @@ use Rattle.units.specs.declared.Refusal.the-variants.{NoSuchDate, PastLimit}
 use Rattle.calendar.specs.Constants.{years-before-zero, last-year, reform-year, first-skipped, last-skipped, first-gregorian}
 use Rattle.calendar.specs.Constants.{year-field, month-field, day-field, ms-field, number-field}
 use Rattle.calendar.specs.Constants.{four-years, year-shift, month-rate, rate-scale, day-shift, last-day, day-ms, last-ms, half-day-ms, epoch-day}
-use Rattle.calendar.specs.machine.Shifted.{plain, date-at}
+use Rattle.calendar.specs.declared.Date.{Date}
 use Rattle.calendar.specs.declared.DayAnswer.{DayAnswer}
 use Rattle.calendar.specs.declared.DayAnswer.the-variants.{Day, NoDay}
 use Rattle.calendar.specs.declared.DateAnswer.{DateAnswer}
@@ -103,9 +103,33 @@ noon-number y m d = formula (counted-year y m) (counted-month m) d (beta (gregor
 unfoldable pub day-of-date : ℤ → ℤ → ℤ → DayAnswer
 day-of-date y m d = cond (eqb (first-bad y m d) 0) (Day (noon-number y m d)) (NoDay (NoSuchDate (first-bad y m d)))
 
--- N to its date. How the date is worked out need not be believed: proofs/Theorems shows that it is the only one with this N.
+-- ---- day numbers back to dates
+
+-- The answer is the day number n.
+unfoldable pub is-day : ℤ → DayAnswer → Bool
+is-day n (Day k) = between n k n
+is-day n (NoDay r) = false
+
+-- The date exists, and n is its day number.
+abbrev pub has-number : ℤ → Date → Bool
+has-number n w = is-day n (day-of-date (w .year) (w .month) (w .day))
+
+-- The date that is written as the number k, yyyymmdd, its year counted from the first year.
+abbrev pub written-as : ℕ → Date
+written-as k = record { year = pos (k / 10000) -ℤ pos years-before-zero; month = pos (k / 100 % 100); day = pos (k % 100) }
+
+-- The date with the day number n, looked for downward among those that are written as a number below k.
+unfoldable pub date-below : ℕ → ℤ → Date
+date-below zero n = written-as 0
+date-below (suc k) n = cond (has-number n (written-as k)) (written-as k) (date-below k n)
+
+-- The date with the day number n, looked for among all; each n from 0 to last-day has one, and no other (`OneDate` in specs/Promises).
+unfoldable pub date-numbered : ℤ → Date
+date-numbered n = date-below (10000 * (years-before-zero + last-year + 1)) n
+
+-- N to its date.
 unfoldable pub date-of-day : ℤ → DateAnswer
-date-of-day n = cond (between (pos 0) n (pos last-day)) (On (plain (date-at (natAbs n)))) (NoDate (NoSuchDate number-field))
+date-of-day n = cond (between (pos 0) n (pos last-day)) (On (date-numbered n)) (NoDate (NoSuchDate number-field))
 
 -- ---- instants
 
@@ -135,5 +159,5 @@ ms-of-instant t = pos (modulo (t +ℤ pos half-day-ms) day-ms)
 unfoldable pub date-of-instant : Instant → MomentAnswer
 date-of-instant t =
     cond (in-limit (t .ms))
-    (Moment (plain (date-at (natAbs (day-of-instant (t .ms))))) (ms-of-instant (t .ms)))
+    (Moment (date-numbered (day-of-instant (t .ms))) (ms-of-instant (t .ms)))
     (NoMoment (PastLimit t))

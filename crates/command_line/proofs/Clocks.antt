@@ -5,7 +5,7 @@ use Prim.Native.Nat.{ℕ, _+_, _*_, _≤_, _<_}
 use native.Mathlib.Omega.{arith}
 use lib.IntN.{ℤ, pos, negsuc, _+ℤ_, _*ℤ_}
 use borrow.Author.Tests.{le-ltb, lt-ltb}
-use Rattle.arith.specs.machine.Signed.{natural-or}
+use Rattle.arith.specs.Naturals.{natural-or}
 use Rattle.units.specs.Units.{minute-ms}
 use Rattle.units.specs.declared.Refusal.the-variants.{NoSuchDate}
 use Rattle.calendar.specs.Calendar.{first-bad, first-bad-of-four, instant-of-date}

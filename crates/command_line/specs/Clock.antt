@@ -4,7 +4,7 @@ use Prim.Native.Nat.{ℕ, _*_, _/_}
 use lib.Dec.{ltb}
 use lib.IntN.{ℤ, pos, negsuc, _+ℤ_, _*ℤ_}
 use Rattle.units.specs.Units.{minute-ms}
-use Rattle.arith.specs.machine.Signed.{natural-or}
+use Rattle.arith.specs.Naturals.{natural-or}
 use Rattle.calendar.specs.Calendar.{instant-of-date}
 use Rattle.calendar.specs.declared.InstantAnswer.{InstantAnswer}
 

@@ -12,7 +12,7 @@ use Rattle.buffers.proofs.Sets.{sets-append}
 use Rattle.calendar.specs.Calendar.{day-of-date}
 use Rattle.calendar.specs.declared.DayAnswer.{DayAnswer}
 use Rattle.calendar.specs.declared.DayAnswer.the-variants.{Day, NoDay}
-use Rattle.arith.specs.machine.Signed.{natural-or}
+use Rattle.arith.specs.Naturals.{natural-or}
 use Rattle.decimals.specs.Texts.{line-feed}
 use Rattle.decimals.specs.Decimals.{most-digits, decimal}
 use Rattle.decimals.proofs.Puts.{decimal-length}

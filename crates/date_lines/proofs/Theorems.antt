@@ -9,12 +9,12 @@ use borrow.Author.Tests.{ne-eqb, le-ltb}
 use lib.IntN.{ℤ, pos}
 use Rattle.integers.specs.Division.{floor, modulo}
 use Rattle.integers.specs.Signs.{sgn}
-use Rattle.arith.specs.machine.Signed.{natural-or}
+use Rattle.arith.specs.Naturals.{natural-or}
 use Rattle.calendar.specs.Calendar.{leap, month-length, first-bad, noon-number, day-of-date}
 use Rattle.decimals.specs.Texts.{line-feed}
 use Rattle.decimals.specs.Decimals.{zero-digit, decimal, written}
 use Rattle.decimals.specs.Numerals.{Digits, value, Decimal}
-use Rattle.decimals.proofs.Theorems.{grows}
+use Rattle.decimals.proofs.Numbers.{grows}
 use Rattle.date_lines.specs.Lines.{space, fresh, greatest, at-space, at-digit}
 use Rattle.date_lines.specs.Lines.{take, reading, read}
 use Rattle.date_lines.specs.Replies.{refused, day-text, reply, after, said, line-after, replies}

@@ -3,5 +3,7 @@
 pub mod Puts
 -- The loop that reads digits, and the sign.
 pub mod Taken
+-- How the code reads a number is how a text is decided.
+pub mod Numbers
 -- The published theorems.
 pub mod Theorems

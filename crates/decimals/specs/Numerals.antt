@@ -37,7 +37,13 @@ pub record Numeral (limit : Bool → ℕ) (bytes : List ℕ) (n : ℤ) : Type 0 
 abbrev pub nine-digits : Bool → ℕ
 nine-digits minus = 999999999
 
--- Each text is decided: it is a number and is read as this, or it is none and is read as another.
+-- What a text is read as: the number that it is, or, where it is none, another text.
 pub data Decided (bytes : List ℕ) (r : Read) : Type 0 where
   number : (n : ℤ) → Numeral nine-digits bytes n → r ≡ Number n → Decided bytes r
   other : ((n : ℤ) → Numeral nine-digits bytes n → ⊥) → r ≡ Other → Decided bytes r
+
+-- The text is read in one way.
+pub record One-reading (bytes : List ℕ) : Type 0 where
+  pub the : Read
+  pub decided : Decided bytes the
+  pub only : (r : Read) → Decided bytes r → r ≡ the

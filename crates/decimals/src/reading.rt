@@ -2,7 +2,8 @@
 ghost use mathlib.Core.Path.{_≡_};
 ghost use Prim.Native.Nat.{_≤_};
 ghost use lib.ListN.{drop};
-ghost use Rattle.decimals.specs.machine.Reading.{too-great, all-digits, signed-read, number-of};
+ghost use Rattle.decimals.specs.Numerals.{Decided};
+ghost use Rattle.decimals.specs.machine.Reading.{too-great, all-digits, signed-read};
 use crate::MINUS_SIGN;
 use crate::NINE_DIGIT;
 use crate::ZERO_DIGIT;
@@ -55,7 +56,7 @@ fn signed(below: bool, value: u64) -> Read
 
 // A text as a number: digits, and a minus in front or none.
 pub fn number_of(text: &[u8]) -> Read
-    ensures { λ r. ⌜ r ≡ number-of (now (text .entry)) ⌝ }
+    ensures { λ r. ⌜ Decided (now (text .entry)) r ⌝ }
 {
     if text.len() == 0 {
         return Read::Other;

@@ -21,7 +21,8 @@ use Rattle.direction.specs.Angles.{units-angle}
 use Rattle.direction.specs.Direction.{quarter-steps, turn-steps, steps-angle, not-past, greatest, in-quarter}
 use Rattle.integers.proofs.Rounding.{rounded-mono, rounded-zero}
 use Rattle.integers.proofs.Order.{≼-nat}
-use Rattle.direction.proofs.Quarter.{Opens, quarter-opens}
+use Rattle.direction.specs.Promises.{Opens}
+use Rattle.direction.proofs.Quarter.{quarter-opens}
 
 -- ---- the angles of the steps rise from 0 to a quarter
 steps-rise : (j k : ℕ) → j ≤ k → steps-angle (pos j) ≼ steps-angle (pos k)

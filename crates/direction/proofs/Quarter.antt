@@ -15,6 +15,7 @@ use Rattle.integers.proofs.Division.{floor-is, rounded-low, rounded-high}
 use Rattle.integers.proofs.Rounding.{rounded-mono}
 use Rattle.units.specs.Units.{quarter, angle-step}
 use Rattle.cosine.specs.Cosine.{horner, evens, y-of, even-part, odd-part, q-of, r-of, w-of, cosine-by, sine-by, working-cosine, working-sine, cosine, sine}
+use Rattle.direction.specs.Promises.{Opens}
 use Rattle.direction.proofs.Rising.{y-neg, even-falls, odd-rises, odd-rises⁻, w-most}
 
 -- ---- in the lower half of the quarter q is 0, in the upper half 1
@@ -128,11 +129,7 @@ meet-cosine : negℤ (odd-part (negℤ (pos w-most))) ≼ even-part (pos w-most)
 unfolding odd-part even-part horner y-of rounded floor
 meet-cosine = record { le = tt }
 
--- ---- from x on to x′ the sine does not fall and the cosine does not rise
-pub record Opens (x x′ : ℤ) : Type 0 where
-  pub sine-rises : sine x ≼ sine x′
-  pub cosine-falls : cosine x′ ≼ cosine x
-
+-- ---- from x on to x′
 neg-le : (a b : ℤ) → a ≼ b → negℤ b ≼ negℤ a
 neg-le a b l = cert! (a ∷ b ∷ []) 0 (gap l) (search polys depth 60 fits 100000) tt
 

@@ -31,8 +31,8 @@ use Rattle.place.specs.declared.PlaceAnswer.{PlaceAnswer}
 use Rattle.place.specs.declared.PlaceAnswer.the-variants.{Place, NoPlace}
 use Rattle.place.specs.Apparent.{earlier, apparent, equatorial}
 use Rattle.place.specs.Place.{sight-at, taken-again, taken, of-series, sighting, of-sighting, place-answer}
-use Rattle.place.specs.Mount.{mount-place, mount, mount-answer}
-use Rattle.place.specs.machine.Reach.{reach, equator-reach, Clear, Small}
+use Rattle.place.specs.Mount.{mount-place, mount, mount-answer, Small}
+use Rattle.place.specs.machine.Reach.{reach, equator-reach, Clear}
 use Rattle.place.proofs.Sights.{sight-clear}
 use Rattle.place.proofs.Directions.{direction-le, latitude-le}
 use Rattle.place.proofs.Rebuilt.{at-equator}

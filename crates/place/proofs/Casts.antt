@@ -6,10 +6,9 @@ use lib.Dec.{T, le→leb, lt→ltb}
 use lib.IntN.{ℤ, pos, negsuc, natAbs}
 use lib.Ieee.{Float, binary64, ofInt, div, inFloat}
 use Rattle.arith.proofs.Cells.{Cell, cell}
-use Rattle.place.specs.Mount.{degrees, astronomical-units, mount-place}
+use Rattle.place.specs.Mount.{degrees, astronomical-units, mount-place, Small}
 use Rattle.place.specs.declared.Equatorial.{Equatorial}
 use Rattle.place.specs.declared.MountPlace.{MountPlace}
-use Rattle.place.specs.machine.Reach.{Small}
 
 exact : (k : ℤ) → natAbs k ≤ 2 ^ 52 → T (inFloat binary64 k)
 unfolding inFloat

@@ -1,7 +1,7 @@
 -- The mount's answer (RULES, "Places"): three doubles, or the number of a refusal.
 use mathlib.Core.List.{List}
-use Prim.Native.Nat.{ℕ}
-use lib.IntN.{ℤ, pos}
+use Prim.Native.Nat.{ℕ, _^_, _≤_}
+use lib.IntN.{ℤ, pos, natAbs}
 use lib.Ieee.{Float, binary64, ofInt, div}
 use Rattle.units.specs.Units.{parts}
 use Rattle.units.specs.declared.Instant.{Instant}
@@ -37,3 +37,9 @@ mount (NoPlace r) = Refused (number r)
 
 unfoldable pub mount-answer : (planet earth : List ℕ) → Instant → Mount
 mount-answer planet earth t = mount (place-answer planet earth t)
+
+-- The numbers of a place are small enough that each is exact as a double.
+pub record Small (p : Equatorial) : Type 0 where
+  pub ascension-in : natAbs (p .«right_ascension») ≤ 2 ^ 52
+  pub declination-in : natAbs (p .declination) ≤ 2 ^ 52
+  pub distance-in : natAbs (p .distance) ≤ 2 ^ 52

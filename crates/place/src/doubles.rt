@@ -2,8 +2,7 @@
 ghost use mathlib.Core.Path.{_≡_};
 ghost use Prim.Native.Nat.{_≤_, _^_};
 ghost use lib.IntN.{natAbs};
-ghost use Rattle.place.specs.Mount.{degrees as degrees-of, astronomical-units, mount-place};
-ghost use Rattle.place.specs.machine.Reach.{Small};
+ghost use Rattle.place.specs.Mount.{degrees as degrees-of, astronomical-units, mount-place, Small};
 use crate::Equatorial;
 use crate::MountPlace;
 

@@ -4,7 +4,7 @@ ghost use Prim.Native.Nat.{_+_, _^_, _≤_};
 ghost use lib.IntN.{natAbs};
 ghost use lib.ListN.{length};
 ghost use Rattle.decimals.specs.Writing.{Put};
-ghost use Rattle.place.specs.machine.Reach.{Small};
+ghost use Rattle.place.specs.Mount.{Small};
 ghost use Rattle.position_lines.specs.Lines.{line-text, angle-text, distance-text, place-text, line-most, place-most};
 use arith::signed::abs;
 use arith::signed::is_neg;

@@ -11,15 +11,8 @@ use Rattle.units.specs.Units.{parts}
 use Rattle.reference_cosine.specs.Reference.{two-pi}
 use Rattle.reference_cosine.proofs.Ranges.{cosine-unit, sine-unit}
 use Rattle.separation.specs.Arcminutes.{arcminutes}
+use Rattle.separation.specs.Positive.{Positive, Positive-coordinates, Positive-test}
 use Rattle.separation.specs.Exact.{Exact-coordinates, Vectorᶠ, cosᶠ, sinᶠ, exact-place, exact-sun, exact-geocentric, dotᶠ, cosine-of-arcminutes}
-
-abbrev pub Positive : Fraction → Type 0
-Positive f = pos 0 ≺ f .lower
-
-pub record Positive-coordinates (c : Exact-coordinates) : Type 0 where
-  pub longitude : Positive (c .longitude)
-  pub latitude : Positive (c .latitude)
-  pub radius : Positive (c .radius)
 
 record Positive-vector (v : Vectorᶠ) : Type 0 where
   pub x : Positive (v .x)
@@ -94,14 +87,7 @@ positive-arcminutes : (k : ℕ) → Positive (cosine-of-arcminutes k)
 unfolding cosine-of-arcminutes
 positive-arcminutes k = cosine-unit (pos (k * two-pi)) (arcminutes * 10 ^ 30) (omega arith) .positive
 
--- The three scalar products and both sides of the comparison, for a planet and Earth.
-pub record Positive-test (k : ℕ) (sun planet : Vectorᶠ) : Type 0 where
-  pub across : Positive (dotᶠ sun planet)
-  pub sun-squared : Positive (dotᶠ sun sun)
-  pub planet-squared : Positive (dotᶠ planet planet)
-  pub left : Positive (cosine-of-arcminutes k *ᶠ cosine-of-arcminutes k *ᶠ (dotᶠ sun sun *ᶠ dotᶠ planet planet))
-  pub right : Positive (dotᶠ sun planet *ᶠ dotᶠ sun planet)
-
+-- For a planet and Earth.
 pub positive-test : (k : ℕ) (planet earth : Exact-coordinates) → Positive-coordinates planet → Positive-coordinates earth
     → Positive-test k (exact-sun earth) (exact-geocentric planet earth)
 positive-test k planet earth h e =

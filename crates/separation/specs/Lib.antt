@@ -1,5 +1,6 @@
--- The exact test, and when a minute is listed (RULES, "Sun list").
+-- The exact test, that its fractions have positive lower numbers, and when a minute is listed (RULES, "Sun list").
 pub mod Arcminutes
 pub mod Exact
+pub mod Positive
 pub mod Listed
 pub mod machine

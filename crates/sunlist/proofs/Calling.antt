@@ -5,7 +5,7 @@ use mathlib.Core.List.{List}
 use Prim.Native.Nat.{ℕ, _-_, _≤_}
 use lib.IntN.{ℤ, pos, negsuc, natAbs}
 use lib.ListN.{length}
-use Rattle.arith.specs.machine.Signed.{natural-or}
+use Rattle.arith.specs.Naturals.{natural-or}
 use Rattle.units.specs.Units.{in-limit}
 use Rattle.units.proofs.Limit.{size-within}
 use Rattle.units.specs.declared.Instant.{Instant}

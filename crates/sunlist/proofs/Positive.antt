@@ -6,7 +6,8 @@ use Rattle.units.specs.declared.Instant.{Instant}
 use Rattle.limits.specs.declared.Term.{Term}
 use Rattle.series.proofs.Positive.{longitude-lower, latitude-lower, radius-lower}
 use Rattle.separation.specs.Exact.{exact-sun, exact-geocentric}
-use Rattle.separation.proofs.Positive.{Positive-coordinates, Positive-test, positive-test}
+use Rattle.separation.specs.Positive.{Positive-coordinates, Positive-test}
+use Rattle.separation.proofs.Positive.{positive-test}
 use Rattle.sunlist.specs.Demand.{exact-coordinates}
 
 exact-positive : (t : Instant) (blocks : List (List Term)) → Positive-coordinates (exact-coordinates t blocks)

@@ -1,9 +1,9 @@
 -- `date_of_day` meets its contract. Assumes nothing.
 use mathlib.Core.Path.{_≡_}
 use Prim.Native.Nat.{_+_}
-use Rattle.arith.specs.machine.Signed.{natural-or}
+use Rattle.arith.specs.Naturals.{natural-or}
 use Rattle.calendar.specs.Constants.{last-day}
-use Rattle.calendar.proofs.WholeDates.{no-date, on-date}
+use Rattle.calendar.proofs.DatesFound.{no-date, on-date}
 use Rattle.arith.proofs.Signs.{back}
 use borrow.Author.Needs.{needs}
 use Rattle.calendar.proofs.date_of_day.Statement.{statement}

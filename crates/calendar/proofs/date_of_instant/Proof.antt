@@ -33,7 +33,7 @@ returns-2 c =
     let k = u .before in
     let e = k .before in
     moment-given _ _ _ _ (told-within _ _ (e .before .in-limit .ensures) (e .if1 .left)) (rw (ms-back k) at (u .since-start .ensures .0))
-    (c .before .plain-date .ensures) (c .wide .ensures)
+    (u .since-start .ensures .1) (c .before .plain-date .ensures) (c .wide .ensures)
 
 pub date-of-instant-spec : {M : Type 1} → statement M
 date-of-instant-spec =

@@ -4,7 +4,7 @@ use lib.IntN.{pos}
 use mir.Syntax.{w64}
 use mir.Val.{toZ, ofZ}
 use native.Mathlib.Omega.{arith}
-use Rattle.arith.specs.machine.Signed.{natural-or}
+use Rattle.arith.specs.Naturals.{natural-or}
 use Rattle.calendar.specs.Calendar.{first-bad-of-four, noon-number}
 use Rattle.units.proofs.Limit.{told-past, told-within}
 use Rattle.calendar.proofs.CallAnswers.{Fields, fields, instant-refused, instant-past, instant-given}

@@ -1,5 +1,5 @@
 -- The calendar as the code counts it, in naturals: a year is held as its index, the year plus year-shift, so that no number is negative.
--- Nothing here has to be believed: proofs/FirstBad, proofs/Formula and proofs/Theorems show that it is the calendar of specs/Calendar.
+-- Nothing here has to be believed: proofs/FirstBad, proofs/Formula and proofs/DatesFound show that it is the calendar of specs/Calendar.
 use mathlib.Core.Path.{_≡_}
 use mathlib.Core.Bool.{cond}
 use Prim.Native.Nat.{ℕ, _+_, _*_, _/_, _%_, _-_, _≤_}

@@ -1,4 +1,4 @@
--- How the code reads a number, byte by byte; proofs/Taken.antt shows that it is the number of specs/Numerals.antt.
+-- How the code reads a number, byte by byte; proofs/Numbers.antt shows that it decides a text as specs/Numerals.antt says.
 use mathlib.Core.Bool.{Bool, true, false, cond}
 use mathlib.Core.List.{List, [], _∷_}
 use Prim.Native.Nat.{ℕ, _+_, _*_, _-_, _/_}

@@ -1,11 +1,9 @@
 -- How large the numbers of a usable sight are: what the functions of this crate ask of each other.
-use Prim.Native.Nat.{ℕ, _+_, _*_, _^_, _≤_, _<_}
-use lib.IntN.{natAbs}
+use Prim.Native.Nat.{ℕ, _+_, _*_, _^_, _<_}
 use Rattle.units.specs.Units.{parts}
 use Rattle.rectangular.specs.declared.Vector.{Vector}
 use Rattle.rectangular.specs.Sight.{greatest-radius}
 use Rattle.rectangular.specs.machine.Components.{Components}
-use Rattle.place.specs.declared.Equatorial.{Equatorial}
 
 -- No component of a usable geocentric vector is greater.
 abbrev pub reach : ℕ
@@ -22,9 +20,3 @@ equator-reach = 2 * length-reach
 pub record Clear (vector : Vector) (distance : ℕ) : Type 0 where
   pub vector-in : Components reach vector
   pub distance-in : distance < 2 ^ 46
-
--- The numbers of a place, each exact as a double.
-pub record Small (p : Equatorial) : Type 0 where
-  pub ascension-in : natAbs (p .«right_ascension») ≤ 2 ^ 52
-  pub declination-in : natAbs (p .declination) ≤ 2 ^ 52
-  pub distance-in : natAbs (p .distance) ≤ 2 ^ 52

@@ -1,7 +1,7 @@
 -- `arith::signed::natural_or` meets its contract. Assumes nothing.
 use mathlib.Core.Path.{_∙_, sym, ap}
 use borrow.Author.Needs.{needs}
-use Rattle.arith.specs.machine.Signed.{natural-or}
+use Rattle.arith.specs.Naturals.{natural-or}
 use Rattle.arith.proofs.Signs.{back, not-negative}
 use Rattle.arith.proofs.Naturals.{natural-of-negative}
 use Rattle.arith.proofs.signed.natural_or.Statement.{statement}

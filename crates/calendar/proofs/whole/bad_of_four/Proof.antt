@@ -1,6 +1,6 @@
 -- `bad_of_four` meets its contract. Assumes nothing.
 use mathlib.Core.Path.{_≡_}
-use Rattle.arith.specs.machine.Signed.{natural-or}
+use Rattle.arith.specs.Naturals.{natural-or}
 use Rattle.calendar.specs.Constants.{day-ms}
 use Rattle.calendar.specs.Calendar.{first-bad}
 use Rattle.calendar.proofs.CallAnswers.{four-date, four-ms, four-none}

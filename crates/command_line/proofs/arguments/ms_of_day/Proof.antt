@@ -1,7 +1,7 @@
 -- `command_line::arguments::ms_of_day` meets its contract. Assumes nothing.
 use mathlib.Core.Path.{_≡_}
 use borrow.Author.Needs.{needs}
-use Rattle.arith.specs.machine.Signed.{natural-or}
+use Rattle.arith.specs.Naturals.{natural-or}
 use Rattle.arith.proofs.Signs.{back, ok}
 use Rattle.command_line.specs.Clock.{hours, minutes, seconds}
 use Rattle.command_line.proofs.Clocks.{no-hour, no-minute, no-second, at-clock}

@@ -1,4 +1,4 @@
--- A whole number as a natural one.
+-- A whole number as a natural one, and what stands for it where it is none.
 use Prim.Native.Nat.{ℕ}
 use lib.IntN.{ℤ, pos, negsuc}
 
