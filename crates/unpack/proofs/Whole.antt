@@ -10,11 +10,11 @@ use Rattle.units.specs.declared.Refusal.the-variants.{NoRoom}
 use Rattle.packed.specs.Series.{Parsed, accepted, refused, parse}
 use Rattle.packed_promises.specs.Bounds.{early-limit, Where}
 use Rattle.packed_promises.proofs.Theorems.{refused-where, decided}
-use Rattle.printer.specs.Printer.{plain-text, text-fits, printed, printed-out}
+use Rattle.printer.specs.Printer.{plain-text, text-limit, text-fits, printed, printed-out}
 use Rattle.printer.specs.declared.Printed.{Printed}
 use Rattle.printer.specs.declared.Printed.the-variants.{Length, NoText}
 use Rattle.printer_promises.proofs.Theorems.{longest}
-use Rattle.unpack.specs.Input.{text-limit, Input, all, begins, Roomy, Answered}
+use Rattle.unpack.specs.Input.{Input, all, begins, Roomy, Answered}
 
 -- No packed bytes are refused 7.
 never-seven : (x : List ℕ) (k : ℕ) → parse x ≡ refused (NoRoom k) → ⊥
