@@ -59,7 +59,7 @@ fn term_end(c: u64) -> u64
 }
 
 // In either.
-pub fn filler_end(heading: bool, column: u64) -> u64
+fn filler_end(heading: bool, column: u64) -> u64
     ensures { λ r. ⌜ r ≡ filler-end heading column ⌝ }
 {
     if heading {
