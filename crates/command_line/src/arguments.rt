@@ -1,6 +1,7 @@
 // Arguments that are numbers, and a clock time made of them. For the programs.
 ghost use mathlib.Core.Path.{_≡_};
 ghost use Prim.Native.Nat.{_≤_};
+ghost use Rattle.command_line.specs.Arguments.{argument-limit};
 ghost use Rattle.command_line.specs.Clock.{ms-of-day, instant-of-clock, minute-of-day};
 use arith::signed::natural_or;
 use arith::signed::wide;
@@ -46,7 +47,7 @@ pub enum Three {
 
 // Arguments i, i + 1 and i + 2.
 pub fn three_arguments(i: usize) -> Three
-    requires { ⌜ i ≤ 1000 ⌝ }
+    requires { ⌜ i ≤ argument-limit ⌝ }
 {
     let Read::Number(first) = number_argument(i) else {
         return Three::Other;

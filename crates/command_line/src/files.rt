@@ -2,6 +2,7 @@
 ghost use mathlib.Core.Path.{_≡_};
 ghost use Prim.Native.Nat.{_≤_};
 ghost use lib.ListN.{take};
+ghost use Rattle.command_line.specs.Arguments.{argument-limit};
 use libc::PATH_MAX;
 use libc::STDOUT_FILENO;
 use units::SERIES_LIMIT;
@@ -50,7 +51,7 @@ pub enum Both {
 
 // Reads the files that argument `first` and the next one name, the planet's series and Earth's.
 pub fn read_both(first: usize, planet: &mut [u8], earth: &mut [u8]) -> Both
-    requires { ⌜ first ≤ 1000 ⌝ }
+    requires { ⌜ first ≤ argument-limit ⌝ }
 {
     let Contents::Bytes(m) = read_series(first, b"the planet", planet) else {
         return Both::Unread;

@@ -10,8 +10,8 @@ use libc::STDOUT_FILENO;
 // How much is read at once.
 const PIECE: usize = 512;
 
-// Room for any reply; each byte of a piece may end a line.
-const REPLY_ROOM: usize = 40;
+// No reply is longer, and each byte of a piece may end a line; date_lines/specs/Replies.antt has the same name.
+const REPLY_LIMIT: usize = 40;
 
 // The line that is being read, and whether there may be more input.
 struct State {
@@ -22,7 +22,7 @@ struct State {
 // Reads once and prints the replies to the lines that ended.
 fn step(line: Line) -> State {
     let mut piece = [0u8; PIECE];
-    let mut out = [0u8; REPLY_ROOM * PIECE];
+    let mut out = [0u8; REPLY_LIMIT * PIECE];
     let got = libc::read(STDIN_FILENO, &mut piece);
     if got <= 0 {
         return State { line, more: false };
@@ -56,7 +56,7 @@ fn run() -> Line {
 
 fn main() {
     let last = run();
-    let mut out = [0u8; REPLY_ROOM];
+    let mut out = [0u8; REPLY_LIMIT];
     let n = answer_last(last, &mut out);
     io::write_all(STDOUT_FILENO, &out[..n]);
 }

@@ -23,15 +23,15 @@ pub struct Row(
 // The rows of the table, of its parts but the last, and of the last; and where the later parts begin.
 pub const ROWS: usize = 106;
 
-const PART: usize = 27;
+const PART_SIZE: usize = 27;
 
-const TWO_PARTS: usize = 2 * PART;
+const TWO_PARTS: usize = 2 * PART_SIZE;
 
-const THREE_PARTS: usize = 3 * PART;
+const THREE_PARTS: usize = 3 * PART_SIZE;
 
 const LAST_PART: usize = ROWS - THREE_PARTS;
 
-const FIRST: [Row; PART] = [
+const FIRST: [Row; PART_SIZE] = [
     Row(-171996, -1742, 92025, 89, 0, 0, 0, 0, 1),
     Row(-13187, -16, 5736, -31, -2, 0, 0, 2, 2),
     Row(-2274, -2, 977, -5, 0, 0, 0, 2, 2),
@@ -61,7 +61,7 @@ const FIRST: [Row; PART] = [
     Row(21, 0, -10, 0, 0, 0, -1, 2, 1),
 ];
 
-const SECOND: [Row; PART] = [
+const SECOND: [Row; PART_SIZE] = [
     Row(17, -1, 0, 0, 0, 2, 0, 0, 0),
     Row(-16, 1, 7, 0, -2, 2, 0, 2, 2),
     Row(16, 0, -8, 0, 2, 0, -1, 0, 1),
@@ -91,7 +91,7 @@ const SECOND: [Row; PART] = [
     Row(4, 0, -2, 0, -2, 0, 2, 0, 1),
 ];
 
-const THIRD: [Row; PART] = [
+const THIRD: [Row; PART_SIZE] = [
     Row(4, 0, -2, 0, -2, 1, 0, 2, 1),
     Row(-3, 0, 0, 0, 0, 1, 1, 0, 0),
     Row(-3, 0, 0, 0, -1, -1, 1, 0, 0),
@@ -182,11 +182,11 @@ pub fn row_at(i: usize) -> Row
     requires { ⌜ i < row-count ⌝ }
     ensures { λ r. ⌜ (r ≡ getD rows i no-row) × Small r ⌝ }
 {
-    if i < PART {
+    if i < PART_SIZE {
         return first_at(i);
     }
     if i < TWO_PARTS {
-        return second_at(i - PART);
+        return second_at(i - PART_SIZE);
     }
     if i < THREE_PARTS {
         return third_at(i - TWO_PARTS);

@@ -27,7 +27,7 @@ ghost use Rattle.packed.specs.machine.Answers.{Begun, walked, stored, Fi
 
 // A term table: row k below TERM_ROWS has term k as it is packed, a and c folded; row TERM_ROWS + j has the place where block j
 // ends, and two zeros.
-pub const TERM_ROWS: usize = SERIES_LIMIT as usize;
+const TERM_ROWS: usize = SERIES_LIMIT as usize;
 
 pub const END_ROWS: usize = BLOCK_COUNT as usize;
 

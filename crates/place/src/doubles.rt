@@ -6,10 +6,10 @@ ghost use Rattle.place.specs.Mount.{degrees as degrees-of, astronomical-
 use crate::Equatorial;
 use crate::MountPlace;
 
-// specs/Mount.antt has the same divisors as whole numbers: hundredths of an arcsecond in a degree, parts in an AU.
-const HUNDREDTHS_PER_DEGREE: f64 = 360000.0;
+// The divisors, as doubles: hundredths of an arcsecond in a degree, parts in an AU.
+const HUNDREDTHS_PER_DEGREE: f64 = crate::HUNDREDTHS_PER_DEGREE as f64;
 
-const PARTS_PER_AU: f64 = 1e11;
+const PARTS: f64 = units::PARTS as f64;
 
 // From hundredths of an arcsecond.
 fn degrees(k: i64) -> f64
@@ -24,7 +24,7 @@ fn units_of_distance(d: i64) -> f64
     requires { ⌜ natAbs d ≤ 2 ^ 52 ⌝ }
     ensures { λ r. ⌜ r ≡ astronomical-units d ⌝ }
 {
-    d as f64 / PARTS_PER_AU
+    d as f64 / PARTS
 }
 
 // Both angles and the distance of a place.

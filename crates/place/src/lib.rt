@@ -35,6 +35,9 @@ pub struct Apparent {
     pub obliquity: i64,
 }
 
+// Hundredths of an arcsecond in a degree; specs/Mount.antt has the same name.
+pub const HUNDREDTHS_PER_DEGREE: u64 = 360000;
+
 // Right ascension and declination in hundredths of an arcsecond, the distance in parts.
 pub struct Equatorial {
     pub right_ascension: i64,

@@ -14,7 +14,9 @@ use Rattle.decimals.specs.Decimals.{most-digits, point, decimal, written, last-
 use Rattle.decimals.specs.Writing.{Put}
 use Rattle.decimals.proofs.Puts.{decimal-length, signed-length, last-length, put-both}
 use Rattle.place.specs.declared.Equatorial.{Equatorial}
-use Rattle.position_lines.specs.Lines.{degree-places, distance-places, line-text, angle-text, distance-text, place-text, line-most, place-most}
+use Rattle.place.specs.Mount.{hundredths-per-degree}
+use Rattle.position_lines.specs.Lines.{degree-places, distance-places, line-text, degree-size, angle-text, distance-text, place-text}
+use Rattle.position_lines.specs.Lines.{name-most, numbers-most, line-most, place-most}
 
 -- ---- lengths
 pub fraction-length : (below : Bool) (k n : ℕ) → length (fraction below k n) ≤ 2 + most-digits + k
@@ -31,16 +33,16 @@ fraction-length below k n = go below
     go true = omega (arith, both)
     go false = omega (arith, both)
 
-line-length : (name measure : List ℕ) (k : ℤ) (places n : ℕ) → length (line-text name k places n measure) ≤ length name + (44 + places) + length measure
+line-length : (name measure : List ℕ) (k : ℤ) (places n : ℕ) → length (line-text name k places n measure) ≤ length name + (numbers-most + places) + length measure
 unfolding line-text
 line-length name measure k places n =
     let f = fraction-length (negative k) places n in
     let s = signed-length k in
     simp length-append (omega arith)
 
-angle-length : (name : List ℕ) (k : ℤ) → length name ≤ 16 → length (angle-text name k) ≤ line-most
+angle-length : (name : List ℕ) (k : ℤ) → length name ≤ name-most → length (angle-text name k) ≤ line-most
 unfolding angle-text text
-angle-length name k h = omega (arith, line-length name (text " degrees, ") k degree-places ((500 * natAbs k + 9) / 18))
+angle-length name k h = omega (arith, line-length name (text " degrees, ") k degree-places (degree-size k))
 
 distance-length : (d : ℤ) → length (distance-text d) ≤ line-most
 unfolding distance-text text
@@ -54,7 +56,7 @@ place-length p =
     let d = distance-length (p .distance) in
     simp length-append (omega arith)
 
-pub after-angle : (name : List ℕ) (k : ℤ) (at r : ℕ) → r ≡ at + length (angle-text name k) → length name ≤ 16 → r ≤ at + line-most
+pub after-angle : (name : List ℕ) (k : ℤ) (at r : ℕ) → r ≡ at + length (angle-text name k) → length name ≤ name-most → r ≤ at + line-most
 after-angle name k at r e h = omega (arith, angle-length name k h)
 
 -- ---- what is written
@@ -72,10 +74,14 @@ line-put name measure k below places n at a b c d z out o1 o2 o3 o4 o5 e p1 p2 p
     (put-both measure s4 b c z o2 o3 o5 p3
     (put-both (signed-decimal k) end c d z o3 o4 o5 p4 p5)))
 
+-- 10^7 over 360,000 in its lowest terms.
+in-lowest-terms : (m : ℕ) → (500 * m + 9) / 18 ≡ (10 ^ degree-places * m + hundredths-per-degree / 2) / hundredths-per-degree
+in-lowest-terms m = omega arith
+
 pub angle-put : (name : List ℕ) (k : ℤ) (m at z : ℕ) (out result : List ℕ) → m ≡ natAbs k
     → Put out at (line-text name k degree-places ((500 * m + 9) / 18) (text " degrees, ")) z result → Put out at (angle-text name k) z result
 unfolding angle-text
-angle-put name k m at z out result e h = rw e at h
+angle-put name k m at z out result e h = rw (in-lowest-terms m, e) at h
 
 pub distance-put : (d : ℤ) (m at z : ℕ) (out result : List ℕ) → m ≡ natAbs d
     → Put out at (line-text (text "distance ") d distance-places m (text " AU, ")) z result → Put out at (distance-text d) z result

@@ -1,11 +1,12 @@
 -- The three lines of a place: right ascension and declination in degrees, the distance in AU, each with the library's own whole number after it.
 use mathlib.Core.List.{List, [], _∷_, _++_}
-use Prim.Native.Nat.{ℕ, _+_, _*_, _/_}
+use Prim.Native.Nat.{ℕ, _+_, _*_, _/_, _^_}
 use lib.IntN.{ℤ, natAbs}
 use Rattle.integers.specs.Signs.{negative}
 use Rattle.decimals.specs.Texts.{text, line-feed}
-use Rattle.decimals.specs.Decimals.{signed-decimal, fraction}
+use Rattle.decimals.specs.Decimals.{most-digits, signed-decimal, fraction}
 use Rattle.place.specs.declared.Equatorial.{Equatorial}
+use Rattle.place.specs.Mount.{hundredths-per-degree}
 
 -- The digits after the point of a degree, and of an AU.
 abbrev pub degree-places : ℕ
@@ -18,9 +19,9 @@ distance-places = 11
 unfoldable pub line-text : List ℕ → ℤ → ℕ → ℕ → List ℕ → List ℕ
 line-text name k places n measure = name ++ (fraction (negative k) places n ++ (measure ++ (signed-decimal k ++ (line-feed ∷ []))))
 
--- The size of k hundredths of an arcsecond in 10^-7 degree, rounded: a hundredth of an arcsecond is 1/360,000 degree.
+-- The size of k hundredths of an arcsecond in the last decimal of a degree, rounded.
 abbrev pub degree-size : ℤ → ℕ
-degree-size k = (500 * natAbs k + 9) / 18
+degree-size k = (10 ^ degree-places * natAbs k + hundredths-per-degree / 2) / hundredths-per-degree
 
 unfoldable pub angle-text : List ℕ → ℤ → List ℕ
 angle-text name k = line-text name k degree-places (degree-size k) (text " degrees, ")
@@ -33,6 +34,15 @@ unfoldable pub place-text : Equatorial → List ℕ
 place-text p =
     angle-text (text "right ascension ") (p .«right_ascension»)
     ++ (angle-text (text "declination ") (p .declination) ++ distance-text (p .distance))
+
+-- The name of an angle is at most so long.
+abbrev pub name-most : ℕ
+name-most = 16
+
+-- Beside its name, its places and its unit of measure a line has at most a sign, whole digits and a point, the whole number with its sign, and the
+-- line feed.
+abbrev pub numbers-most : ℕ
+numbers-most = (2 + most-digits) + (1 + most-digits) + 1
 
 -- No line is longer, and no place.
 abbrev pub line-most : ℕ

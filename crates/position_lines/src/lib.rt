@@ -6,6 +6,7 @@ mod answer;
 mod lines;
 
 ghost use Prim.Native.Nat.{_≤_};
+ghost use Rattle.command_line.specs.Arguments.{first-limit};
 use crate::answer::put_position;
 use crate::lines::PLACE_MOST;
 use command_line::arguments::Three;
@@ -25,7 +26,7 @@ enum Asked {
 
 // The arguments from YEAR on, where PLANET is argument `first`.
 fn time_asked(first: usize) -> Asked
-    requires { ⌜ first ≤ 900 ⌝ }
+    requires { ⌜ first ≤ first-limit ⌝ }
 {
     let Three::Numbers(date) = three_arguments(first + 2) else {
         return Asked::Unclear;
@@ -44,7 +45,7 @@ fn print_position(planet: &[u8], earth: &[u8], date: Triple, clock: Triple) {
 
 // Reads both files into the rooms lent for them.
 fn position_of_files(first: usize, planet: &mut [u8], earth: &mut [u8], date: Triple, clock: Triple)
-    requires { ⌜ first ≤ 900 ⌝ }
+    requires { ⌜ first ≤ first-limit ⌝ }
 {
     let Both::Bytes(m, n) = read_both(first, planet, earth) else {
         return;
@@ -54,7 +55,7 @@ fn position_of_files(first: usize, planet: &mut [u8], earth: &mut [u8], date: Tr
 
 // The eight arguments from `first` on, answered on standard output.
 pub fn place_of_arguments(first: usize)
-    requires { ⌜ first ≤ 900 ⌝ }
+    requires { ⌜ first ≤ first-limit ⌝ }
 {
     let mut planet = [0u8; PACKED_ROOM];
     let mut earth = [0u8; PACKED_ROOM];

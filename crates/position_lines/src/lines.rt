@@ -5,13 +5,14 @@ ghost use lib.IntN.{natAbs};
 ghost use lib.ListN.{length};
 ghost use Rattle.decimals.specs.Writing.{Put};
 ghost use Rattle.place.specs.Mount.{Small};
-ghost use Rattle.position_lines.specs.Lines.{line-text, angle-text, distance-text, place-text, line-most, place-most};
+ghost use Rattle.position_lines.specs.Lines.{line-text, angle-text, distance-text, place-text, name-most, numbers-most, line-most, place-most};
 use arith::signed::abs;
 use arith::signed::is_neg;
 use decimals::writing::put_bytes;
 use decimals::writing::put_fraction;
 use decimals::writing::put_signed;
 use place::Equatorial;
+use place::HUNDREDTHS_PER_DEGREE;
 use units::PARTS;
 
 // specs/Lines.antt has these under the same names.
@@ -21,11 +22,20 @@ const DEGREE_PLACES: usize = 7;
 
 const DISTANCE_PLACES: usize = 11;
 
-// Room for the three lines, or for a refusal, which is shorter.
-pub const PLACE_MOST: usize = 270;
+// Room for a line, and for the three lines or for a refusal, which is shorter.
+const LINE_MOST: usize = 90;
 
-// A degree in the last of its decimals; a hundredth of an arcsecond, 1/360,000 degree, is 500/18 of it.
+pub const PLACE_MOST: usize = 3 * LINE_MOST;
+
+// A degree in the last of its decimals: ten to their number.
 const DEGREE: u64 = 10000000;
+
+// A degree in the last of its decimals and in hundredths of an arcsecond, both over a common divisor, so that an angle times the first fits 64 bits.
+const COMMON: u64 = 20000;
+
+const DECIMALS: u64 = DEGREE / COMMON;
+
+const HUNDREDTHS: u64 = HUNDREDTHS_PER_DEGREE / COMMON;
 
 // A name, n over unit with the sign of k, a unit of measure, and k.
 fn put_line(
@@ -38,7 +48,7 @@ fn put_line(
     out: &mut [u8],
     at: usize,
 ) -> usize
-    requires { ⌜ (unit ≡ 10 ^ places) × (at + (length (now name) + (44 + places) + length (now measure)) ≤ length (now out)) ⌝ }
+    requires { ⌜ (unit ≡ 10 ^ places) × (at + (length (now name) + (numbers-most + places) + length (now measure)) ≤ length (now out)) ⌝ }
     ensures { λ r. ⌜ Put (now (out .entry)) at (line-text (now (name .entry)) k places n (now (measure .entry))) r (now (out .exit)) ⌝ }
 {
     let below = is_neg(k);
@@ -51,10 +61,10 @@ fn put_line(
 
 // Hundredths of an arcsecond, in degrees and as they are.
 fn put_angle(name: &[u8], k: i64, out: &mut [u8], at: usize) -> usize
-    requires { ⌜ (natAbs k ≤ 2 ^ 52) × (length (now name) ≤ 16) × (at + line-most ≤ length (now out)) ⌝ }
+    requires { ⌜ (natAbs k ≤ 2 ^ 52) × (length (now name) ≤ name-most) × (at + line-most ≤ length (now out)) ⌝ }
     ensures { λ r. ⌜ Put (now (out .entry)) at (angle-text (now (name .entry)) k) r (now (out .exit)) ⌝ }
 {
-    let n = (500 * abs(k) + 9) / 18;
+    let n = (DECIMALS * abs(k) + HUNDREDTHS / 2) / HUNDREDTHS;
     put_line(name, k, DEGREE_PLACES, n, DEGREE, b" degrees, ", out, at)
 }
 

@@ -14,24 +14,24 @@ use Rattle.units.specs.Units.{parts}
 use Rattle.packed_numbers.specs.Numbers.{unfolded}
 use Rattle.packed_numbers.proofs.Folding.{even, odd}
 use Rattle.limits.specs.declared.Term.{Term}
-use Rattle.series_lines.specs.Grammar.{feed, spaces, sign, point, digits, decimal, term-bytes}
-use Rattle.printer.specs.Printer.{places, last-digits, plain-decimal, plain-term}
+use Rattle.series_lines.specs.Grammar.{feed, spaces, sign, point, part-digits, digits, decimal, term-bytes}
+use Rattle.printer.specs.Printer.{last-digits, plain-decimal, plain-term}
 use Rattle.printer.specs.machine.Writing.{Room, Wrote, whole-text, line-text, whole-most, decimal-most}
 use Rattle.printer.proofs.PieceByPiece.{joined, total, length-joined}
 use Rattle.printer.proofs.DigitsWritten.{length-digits, length-last}
 
 -- A decimal: its sign, its whole part, the point and the digits after it.
 abbrev pub decimal-parts : Bool → ℕ → List (List ℕ)
-decimal-parts minus v = sign minus ∷ whole-text (v / parts) ∷ (point ∷ []) ∷ digits (last-digits places v) ∷ []
+decimal-parts minus v = sign minus ∷ whole-text (v / parts) ∷ (point ∷ []) ∷ digits (last-digits part-digits v) ∷ []
 
 pub decimal-pieces : (minus : Bool) (v : ℕ) → decimal (plain-decimal minus v) ≡ joined (decimal-parts minus v)
 unfolding decimal plain-decimal whole-text joined
-decimal-pieces minus v = rw (append-nil (digits (last-digits places v)))
+decimal-pieces minus v = rw (append-nil (digits (last-digits part-digits v)))
 
-pub decimal-size : (minus : Bool) (v : ℕ) → length (decimal (plain-decimal minus v)) ≡ length (sign minus) + length (whole-text (v / parts)) + (1 + places)
+pub decimal-size : (minus : Bool) (v : ℕ) → length (decimal (plain-decimal minus v)) ≡ length (sign minus) + length (whole-text (v / parts)) + (1 + part-digits)
 unfolding total
 decimal-size minus v =
-    omega (arith, ap length (decimal-pieces minus v) ∙ length-joined (decimal-parts minus v), length-digits (last-digits places v), length-last places v)
+    omega (arith, ap length (decimal-pieces minus v) ∙ length-joined (decimal-parts minus v), length-digits (last-digits part-digits v), length-last part-digits v)
 
 pub sign-length : (m : Bool) → length (sign m) ≤ 1
 unfolding sign
@@ -39,7 +39,7 @@ sign-length true = omega arith
 sign-length false = omega arith
 
 pub decimal-length : (minus : Bool) (v n : ℕ) → n ≡ length (whole-text (v / parts)) → n ≤ whole-most
-    → (n + (1 + places) + length (sign minus) ≡ length (decimal (plain-decimal minus v))) × (n + (1 + places) + length (sign minus) ≤ decimal-most)
+    → (n + (1 + part-digits) + length (sign minus) ≡ length (decimal (plain-decimal minus v))) × (n + (1 + part-digits) + length (sign minus) ≤ decimal-most)
 decimal-length minus v n e h = (omega (arith, decimal-size minus v), omega (arith, sign-length minus))
 
 -- A folded number is below zero where it is odd.

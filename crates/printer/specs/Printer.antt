@@ -2,17 +2,18 @@
 -- lines the printer gives, and what it answers and leaves.
 use mathlib.Core.Bool.{Bool, false, cond}
 use mathlib.Core.List.{List, [], _∷_, _++_, map}
-use Prim.Native.Nat.{ℕ, zero, suc, _/_, _%_, _^_}
+use Prim.Native.Nat.{ℕ, zero, suc, _+_, _*_, _/_, _%_, _^_}
 use lib.Dec.{leb, ltb}
 use lib.IntN.{natAbs}
 use lib.ListN.{length}
 use lib.Seq.{sets}
 use Rattle.integers.specs.Signs.{negative}
 use Rattle.units.specs.Units as units
+use Rattle.units.specs.Units.{block-count, series-limit}
 use Rattle.units.specs.declared.Refusal.the-variants.{NoRoom}
 use Rattle.limits.specs.declared.Term.{Term}
 use Rattle.packed.specs.Series.{Parsed, accepted, refused}
-use Rattle.series_lines.specs.Grammar.{Decimal, CountLine, TermLine, Block, blocks-bytes}
+use Rattle.series_lines.specs.Grammar.{count-digits, part-digits, Decimal, CountLine, TermLine, Block, blocks-bytes}
 use Rattle.printer.specs.declared.Printed.{Printed}
 use Rattle.printer.specs.declared.Printed.the-variants.{Length, NoText}
 
@@ -36,10 +37,6 @@ first-digit v = v / 10 ^ further-digits v
 unfoldable pub rest-digits : ℕ → List ℕ
 rest-digits v = last-digits (further-digits v) v
 
--- The digits of a decimal after its point.
-abbrev pub places : ℕ
-places = 11
-
 -- A number of parts as a decimal, with a minus or none.
 unfoldable pub plain-decimal : Bool → ℕ → Decimal
 plain-decimal minus v =
@@ -47,7 +44,7 @@ plain-decimal minus v =
       minus = minus;
       first = first-digit (v / units.parts);
       more = rest-digits (v / units.parts);
-      parts = last-digits places v;
+      parts = last-digits part-digits v;
     }
 
 -- A count, a term, a block, each as its lines: no leading space, and none beside the one that parts two decimals.
@@ -71,6 +68,18 @@ plain-block ts = record { head = plain-count (length ts); lines = map plain-term
 -- The plain text of a series.
 unfoldable pub plain-text : List (List Term) → List ℕ
 plain-text blocks = blocks-bytes (map plain-block blocks)
+
+-- The most bytes of a line within the limits of a series, with its line feed: of a count; and of a term, which has a minus before a and before
+-- c, whole digits of a, b and c, three points with the parts after them, and two spaces.
+abbrev pub count-line-limit : ℕ
+count-line-limit = count-digits + 1
+
+abbrev pub term-line-limit : ℕ
+term-line-limit = 2 + (5 + 1 + 6) + 3 * (1 + part-digits) + 2 + 1
+
+-- No plain text of an accepted series is longer.
+abbrev pub text-limit : ℕ
+text-limit = block-count * count-line-limit + series-limit * term-line-limit
 
 -- The printer, of what a packed series is parsed to: its refusal; then 7 with the length that the text would need. On a refusal the lent
 -- buffer stays as it was, on a success what lies past the text.

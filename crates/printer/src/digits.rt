@@ -1,4 +1,5 @@
 // Digits and decimals: their lengths, and writing them into a buffer with room. For this crate alone.
+use series_lines::lexer::PART_DIGITS;
 use units::PARTS;
 ghost use mathlib.Core.Path.{_≡_};
 ghost use mathlib.Core.List.{[], _∷_};
@@ -8,11 +9,8 @@ ghost use Rattle.series_lines.specs.Grammar.{sign, digits, decimal};
 ghost use Rattle.printer.specs.Printer.{last-digits, further-digits, plain-decimal};
 ghost use Rattle.printer.specs.machine.Writing.{Room, Wrote, whole-text, further-most, whole-most, decimal-most};
 
-// The digits of a decimal after its point: those of a number below PARTS.
-const PLACES: usize = 11;
-
-// The point and those digits.
-const FRACTION: usize = 1 + PLACES;
+// The point of a decimal and the digits after it: those of a number below PARTS.
+const FRACTION: usize = 1 + PART_DIGITS as usize;
 
 // The digit 0.
 const ZERO: u64 = b'0' as u64;
@@ -95,5 +93,5 @@ pub fn put_decimal(minus: bool, v: u64, out: &mut [u8], at: usize) -> usize
     let whole = put_sign(minus, out, at);
     let point = put_whole(v / PARTS, out, whole);
     let part = put_byte(b'.', out, point);
-    put_digits(v, PLACES, out, part)
+    put_digits(v, PART_DIGITS as usize, out, part)
 }

@@ -9,12 +9,27 @@ use packed::Checked;
 use packed::table::TABLE_ROWS;
 use packed::table::Table;
 use packed::table::unpack;
+use series_lines::lexer::COUNT_DIGITS;
+use series_lines::lexer::PART_DIGITS;
+use units::BLOCK_COUNT;
 use units::Refusal;
+use units::SERIES_LIMIT;
 ghost use mathlib.Core.Path.{_≡_};
 ghost use Rattle.packed.specs.Series.{accepted, parse};
 ghost use Rattle.packed.specs.machine.Table.{Sized, ends, table-blocks};
 ghost use Rattle.printer.specs.Printer.{printed, printed-out};
 ghost use Rattle.printer.specs.machine.Writing.{Ordered};
+
+// specs/Printer.antt has these under the same names.
+
+// The most bytes of a line of a series, with its line feed: of a count, and of a term.
+const COUNT_LINE_LIMIT: u64 = COUNT_DIGITS + 1;
+
+const TERM_LINE_LIMIT: u64 = 2 + (5 + 1 + 6) + 3 * (1 + PART_DIGITS) + 2 + 1;
+
+// No plain text of a series is longer: the theorem `longest` of printer_promises/proofs/Theorems.antt.
+pub const TEXT_LIMIT: usize = (BLOCK_COUNT * COUNT_LINE_LIMIT
+    + SERIES_LIMIT * TERM_LINE_LIMIT) as usize;
 
 // What printing answers: the length of the text, or the refusal.
 pub enum Printed {

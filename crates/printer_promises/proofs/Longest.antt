@@ -14,8 +14,8 @@ use Rattle.limits.specs.Allowed.{term-count}
 use Rattle.limits.proofs.Passing.{GoodTerm}
 use Rattle.limits.proofs.Terms as limits
 use Rattle.limits.proofs.Series as judged
-use Rattle.series_lines.specs.Grammar.{feed, sign, count-bytes, decimal}
-use Rattle.printer.specs.Printer.{places, plain-decimal, plain-count, plain-text}
+use Rattle.series_lines.specs.Grammar.{feed, part-digits, sign, count-bytes, decimal}
+use Rattle.printer.specs.Printer.{plain-decimal, plain-count, plain-text, count-line-limit, term-line-limit}
 use Rattle.printer.specs.machine.Writing.{whole-text, line-text, lines-text, block-text}
 use Rattle.printer.proofs.DigitsWritten.{whole-length}
 use Rattle.printer.proofs.LinePieces.{decimal-size, sign-length, line-length, signed}
@@ -25,10 +25,10 @@ use Rattle.printer.proofs.TableText.{lines-cons, lines-none, text-cons, text-no
 whole-short : (n v : ℕ) → v < 10 ^ suc n → length (whole-text v) ≤ suc n
 whole-short n v h = omega (arith, whole-length v, further-few n v h)
 
-decimal-short : (minus : Bool) (n v : ℕ) → v / parts < 10 ^ suc n → length (decimal (plain-decimal minus v)) ≤ length (sign minus) + suc n + (1 + places)
+decimal-short : (minus : Bool) (n v : ℕ) → v / parts < 10 ^ suc n → length (decimal (plain-decimal minus v)) ≤ length (sign minus) + suc n + (1 + part-digits)
 decimal-short minus n v h = omega (arith, decimal-size minus v, whole-short n (v / parts) h)
 
-line-short : (f : ℕ) (s : Tally) (t : Term) → GoodTerm f s t → length (line-text t) ≤ 53
+line-short : (f : ℕ) (s : Tally) (t : Term) → GoodTerm f s t → length (line-text t) ≤ term-line-limit
 unfolding sign
 line-short f s t g =
     let a = decimal-short (negative (t .a)) 4 (natAbs (t .a)) (omega (arith, g .good-a .small)) in
@@ -39,19 +39,19 @@ line-short f s t g =
     let l = line-length t _ _ _ _ (signed (t .a) _ _ refl refl) (signed (t .c) _ _ refl refl) _ _ _ refl refl refl in
     omega arith
 
-lines-short : {f : ℕ} {s : Tally} {ts : List Term} → limits.GoodTerms f s ts → length (lines-text ts) ≤ 53 * length ts
+lines-short : {f : ℕ} {s : Tally} {ts : List Term} → limits.GoodTerms f s ts → length (lines-text ts) ≤ term-line-limit * length ts
 lines-short limits.good-none = rw lines-none (omega arith)
 lines-short {f} {s} {ts = t ∷ ts} (limits.good-term g h) =
     rw (lines-cons t ts) (omega (arith, length-append (line-text t) (lines-text ts), line-short f s t g, lines-short h))
 
-block-short : (k : ℕ) (s : Tally) (ts : List Term) → judged.GoodBlock k s ts → length (block-text ts) ≤ 5 + 53 * length ts
+block-short : (k : ℕ) (s : Tally) (ts : List Term) → judged.GoodBlock k s ts → length (block-text ts) ≤ count-line-limit + term-line-limit * length ts
 unfolding block-text count-bytes plain-count
 block-short k s ts g =
     let w = whole-short 3 (length ts) (omega (arith, g .few)) in
     let e : count-bytes (plain-count (length ts)) ≡ whole-text (length ts) = unfold whole-text in refl in
     omega (arith, ap length e, length-append (count-bytes (plain-count (length ts))) (feed ∷ lines-text ts), lines-short (g .terms))
 
-pub text-short : {k : ℕ} {s : Tally} {bs : List (List Term)} → judged.GoodBlocks k s bs → length (plain-text bs) ≤ 5 * length bs + 53 * term-count bs
+pub text-short : {k : ℕ} {s : Tally} {bs : List (List Term)} → judged.GoodBlocks k s bs → length (plain-text bs) ≤ count-line-limit * length bs + term-line-limit * term-count bs
 unfolding term-count
 text-short judged.none = rw text-none (omega arith)
 text-short {k} {s} {bs = ts ∷ bs} (judged.more g h) =

@@ -9,8 +9,8 @@ use Rattle.integers.proofs.Division.{sgn-natAbs}
 use Rattle.integers.proofs.Order.{natAbs-sgn}
 use Rattle.units.specs.Units as units
 use Rattle.limits.specs.declared.Term.{Term}
-use Rattle.series_lines.specs.Grammar.{numeral, Decimal, size, value, GoodDecimal, CountLine, count, GoodCount, TermLine, GoodTerm, term-of-line}
-use Rattle.printer.specs.Printer.{places, last-digits, plain-decimal, plain-count, plain-term}
+use Rattle.series_lines.specs.Grammar.{part-digits, numeral, Decimal, size, value, GoodDecimal, CountLine, count, GoodCount, TermLine, GoodTerm, term-of-line}
+use Rattle.printer.specs.Printer.{last-digits, plain-decimal, plain-count, plain-term}
 use Rattle.printer.proofs.DigitsWritten.{length-last}
 use Rattle.printer_promises.proofs.Spacing.{PlainLine}
 use Rattle.printer_promises.proofs.DigitsAndNumbers.{all-last, numeral-last, natural-good, natural-value, natural-unique, written}
@@ -18,15 +18,15 @@ use Rattle.printer_promises.proofs.DigitsAndNumbers.{all-last, numeral-
 -- A decimal and its number.
 pub size-plain : (minus : Bool) (v : ℕ) → size (plain-decimal minus v) ≡ v
 unfolding size plain-decimal
-size-plain minus v = rw (natural-value (v / units.parts)) (numeral-last places v)
+size-plain minus v = rw (natural-value (v / units.parts)) (numeral-last part-digits v)
 
 pub decimal-good : (minus : Bool) (v : ℕ) → v < 1000000 * units.parts → (minus ≡ true → 0 < v) → GoodDecimal (plain-decimal minus v)
 unfolding plain-decimal
 decimal-good minus v h z =
     record {
       whole = natural-good 5 (v / units.parts) (omega arith) (omega arith);
-      digits = all-last places v;
-      eleven = length-last places v;
+      digits = all-last part-digits v;
+      eleven = length-last part-digits v;
       zero = λ e. rw (size-plain minus v) (z e);
     }
 
@@ -49,8 +49,8 @@ decimal-unique d g =
     let n = numeral (d .first) (d .more) in
     let w = written (d .parts) n (g .digits) in
     let u = natural-unique 6 (d .first) (d .more) (g .whole) (omega arith) in
-    let b : numeral n (d .parts) / 10 ^ places ≡ n = rw (g .eleven) at (w .before) in
-    let l : last-digits places (numeral n (d .parts)) ≡ d .parts = rw (g .eleven) at (w .last) in
+    let b : numeral n (d .parts) / 10 ^ part-digits ≡ n = rw (g .eleven) at (w .before) in
+    let l : last-digits part-digits (numeral n (d .parts)) ≡ d .parts = rw (g .eleven) at (w .last) in
     rw (l, b, u .one, u .rest)
 
 negative-sgn : (m : Bool) (v : ℕ) → (m ≡ true → 0 < v) → negative (sgn m v) ≡ m

@@ -9,8 +9,8 @@ use lib.ListN.{length}
 use Rattle.integers.specs.Signs.{negative}
 use Rattle.units.specs.Units.{parts}
 use Rattle.limits.specs.declared.Term.{Term}
-use Rattle.series_lines.specs.Grammar.{feed, sign, point, digits, decimal, count-bytes}
-use Rattle.printer.specs.Printer.{places, last-digits, first-digit, rest-digits, plain-decimal, plain-count, plain-text}
+use Rattle.series_lines.specs.Grammar.{feed, part-digits, sign, point, digits, decimal, count-bytes}
+use Rattle.printer.specs.Printer.{last-digits, first-digit, rest-digits, plain-decimal, plain-count, plain-text}
 use Rattle.printer_promises.specs.Plain.{Spaced, PlainText}
 use Rattle.printer.specs.machine.Writing.{line-text, lines-text, block-text}
 use Rattle.printer.proofs.PieceByPiece.{joined}
@@ -42,12 +42,12 @@ solid-sign false = tt
 
 -- A decimal ends in such bytes: its whole digits, the point and the digits after it.
 abbrev solid-tail : ℕ → List ℕ
-solid-tail v = digits (rest-digits (v / parts)) ++ (point ∷ digits (last-digits places v))
+solid-tail v = digits (rest-digits (v / parts)) ++ (point ∷ digits (last-digits part-digits v))
 
 solid-end : (v : ℕ) → AllSolid (solid-tail v)
 solid-end v =
-    solid-append (digits (rest-digits (v / parts))) (point ∷ digits (last-digits places v)) (solid-digits (rest-digits (v / parts)))
-    (record { no-space = λ e. omega (arith, e); no-feed = λ e. omega (arith, e) }, solid-digits (last-digits places v))
+    solid-append (digits (rest-digits (v / parts))) (point ∷ digits (last-digits part-digits v)) (solid-digits (rest-digits (v / parts)))
+    (record { no-space = λ e. omega (arith, e); no-feed = λ e. omega (arith, e) }, solid-digits (last-digits part-digits v))
 
 -- What may follow solid bytes.
 abbrev Next : List ℕ → Type 0

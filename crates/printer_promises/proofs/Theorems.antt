@@ -19,7 +19,7 @@ use Rattle.series_lines.specs.Grammar.{Block, blocks-bytes, blocks-of-lines, Go
 use Rattle.text_promises.proofs.Theorems.{read-text, accepted-text}
 use Rattle.text_promises.proofs.Series.{front, text-allowed, reads-packed}
 use Rattle.printer.specs.declared.Printed.the-variants.{Length}
-use Rattle.printer.specs.Printer.{plain-block, plain-text, text-fits, printed, printed-out}
+use Rattle.printer.specs.Printer.{plain-block, plain-text, text-limit, text-fits, printed, printed-out}
 use Rattle.printer_promises.specs.Plain.{PlainText}
 use Rattle.printer_promises.proofs.Spacing.{text-plain}
 use Rattle.printer_promises.proofs.PlainSeries.{blocks-plain, series-in, blocks-good, blocks-unique}
@@ -27,7 +27,7 @@ use Rattle.printer_promises.proofs.PrintedSpacing.{text-spaced}
 use Rattle.printer_promises.proofs.Longest.{text-short}
 
 -- The text of an accepted series is never longer than that.
-pub longest : (x : List ℕ) (blocks : List (List Term)) → parse x ≡ accepted blocks → length (plain-text blocks) ≤ 434266
+pub longest : (x : List ℕ) (blocks : List (List Term)) → parse x ≡ accepted blocks → length (plain-text blocks) ≤ text-limit
 longest x blocks e =
     let a = accepted-allowed x blocks e in
     omega (arith, text-short (allowed-good blocks a), a .eighteen, a .few)

@@ -55,7 +55,7 @@ pub fn heading_column(c: u64) -> Column
 }
 
 // In the field of a decimal, with m columns after this one.
-pub fn decimal_column(m: u64) -> Column
+fn decimal_column(m: u64) -> Column
     ensures { λ r. ⌜ r ≡ decimal-column m ⌝ }
 {
     if PART_DIGITS < m {

@@ -33,7 +33,7 @@ fn lex_figure(l: Line, byte: u8) -> Line
 }
 
 // No digit of the figure has come.
-pub fn no_digit(l: Line) -> bool
+fn no_digit(l: Line) -> bool
     ensures { λ r. ⌜ r ≡ no-digit l ⌝ }
 {
     if l.spot == SPOT_DECIMAL {
@@ -53,7 +53,7 @@ pub fn unbegun(l: Line) -> bool
 }
 
 // A minus or a first digit may come, with w whole columns after this one, in a figure of at most so many whole digits.
-pub fn may_begin(w: u64, most: u64, byte: u8) -> bool
+fn may_begin(w: u64, most: u64, byte: u8) -> bool
     ensures { λ r. ⌜ r ≡ may-begin w most byte ⌝ }
 {
     if byte == b'-' {

@@ -8,13 +8,14 @@ use crate::columns::NUMBER_LAST;
 use crate::columns::POWER_COLUMN;
 use crate::columns::VERSION_COLUMN;
 use crate::rows::COLUMN_LIMIT;
+use series_lines::steps::LAST_OFFSET;
 ghost use mathlib.Core.Path.{_≡_};
 ghost use lib.ListN.{length};
 ghost use Prim.Native.Nat.{_-_, _≤_};
 ghost use Rattle.published_records.specs.machine.Fillers.{heading-end, term-end, filler-end, put-column, Run, Skips};
 
 // After the count of a heading all columns are free: no column is so large.
-const NO_END: u64 = 18446744073709551615;
+const NO_END: u64 = LAST_OFFSET as u64;
 
 // The row after some bytes, and the index of the next one.
 pub struct Skipped {
@@ -58,7 +59,7 @@ fn term_end(c: u64) -> u64
 }
 
 // In either.
-pub fn filler_end(heading: bool, column: u64) -> u64
+fn filler_end(heading: bool, column: u64) -> u64
     ensures { λ r. ⌜ r ≡ filler-end heading column ⌝ }
 {
     if heading {

@@ -1,9 +1,9 @@
 // One record of a published VSOP87D file, a byte at a time (RULES, "Published files"). For the crate published.
 pub mod columns;
-pub mod figures;
-pub mod fillers;
-pub mod indents;
-pub mod parts;
+mod figures;
+mod fillers;
+mod indents;
+mod parts;
 pub mod rows;
 pub mod runs;
 

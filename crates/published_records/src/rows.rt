@@ -46,7 +46,7 @@ pub fn fresh_row() -> Row
 }
 
 // The column of the next byte.
-pub fn next_column(c: u64) -> u64
+fn next_column(c: u64) -> u64
     ensures { λ r. ⌜ r ≡ next-column c ⌝ }
 {
     if c < COLUMN_LIMIT {

@@ -23,12 +23,12 @@ runs j before [] = []
 runs j before (f ∷ fs) = run-ends j before f (first-listed fs) ++ runs (suc j) f fs
 
 -- The byte of a listed minute.
-abbrev pub listed : ℕ
-listed = 1
+abbrev pub listed-flag : ℕ
+listed-flag = 1
 
 -- Whether a byte says that its minute is listed.
 abbrev pub flag : ℕ → Bool
-flag b = eqb b listed
+flag b = eqb b listed-flag
 
 -- The flags of a window, from its bytes.
 unfoldable pub flags : List ℕ → List Bool

@@ -7,8 +7,8 @@ ghost use Rattle.runs.specs.Runs.{first-listed, flags, run-ends, run-num
 
 // specs/Runs.antt has both constants under the same names.
 
-// The byte of a listed minute.
-const LISTED: u8 = 1;
+// The byte of a listed minute; any other byte says that its minute is not listed.
+pub const LISTED_FLAG: u8 = 1;
 
 // A window has at most so many minutes.
 pub const MOST_MINUTES: u64 = 1440;
@@ -18,7 +18,7 @@ fn is_listed(window: &[u8], i: usize) -> bool
     ensures { λ r. ⌜ r ≡ first-listed (flags (drop i (now (window .entry)))) ⌝ }
 {
     if i < window.len() {
-        return window[i] == LISTED;
+        return window[i] == LISTED_FLAG;
     }
     false
 }

@@ -27,9 +27,9 @@ pub const SPOT_BAD: u64 = 31;
 // Before the last digit of a decimal, after the last digit that a count may have, and past that.
 pub const SPOT_LAST: u64 = SPOT_DONE - 1;
 
-pub const SPOT_FULL: u64 = SPOT_COUNT + COUNT_DIGITS;
+const SPOT_FULL: u64 = SPOT_COUNT + COUNT_DIGITS;
 
-pub const SPOT_PAST: u64 = SPOT_FULL + 1;
+const SPOT_PAST: u64 = SPOT_FULL + 1;
 
 // A value that no line has: a digit more might not fit.
 pub const VALUE_LIMIT: u64 = 1000000000000000000;

@@ -15,7 +15,7 @@ use Rattle.limits.specs.declared.Term.{Term}
 use Rattle.packed.specs.Series.{Parsed, accepted, refused, parse}
 use Rattle.series.specs.Sums.{coordinates}
 use Rattle.separation.specs.Arcminutes.{least-keep-out, greatest-keep-out}
-use Rattle.runs.specs.Runs.{run-numbers, most-minutes}
+use Rattle.runs.specs.Runs.{listed-flag, run-numbers, most-minutes}
 use Rattle.sunlist.specs.declared.Decision.{Decision}
 use Rattle.sunlist.specs.declared.Decision.the-variants.{Listed, Clear, Unusable}
 use Rattle.sunlist.specs.declared.ListAnswer.{ListAnswer}
@@ -35,16 +35,24 @@ window-fits minutes keep-out =
 unfoldable pub decision-at : (planet earth : List (List Term)) → Instant → ℕ → ℕ → Decision
 decision-at planet earth t0 k j = decide k (coordinates (minute t0 j .ms) planet) (coordinates (minute t0 j .ms) earth)
 
--- Whether places are usable at a minute so decided, and its flag: 1 is listed, 0 clear.
+-- Whether places are usable at a minute so decided.
 unfoldable pub good : Decision → Bool
 good (Listed f) = true
 good (Clear f) = true
 good Unusable = false
 
+-- The flags of a minute that is not listed: it is clear, or its places are not usable.
+abbrev pub clear-flag : ℕ
+clear-flag = 0
+
+abbrev pub unusable-flag : ℕ
+unusable-flag = 2
+
+-- The flag of a minute so decided.
 abbrev pub flag-of : Decision → ℕ
-flag-of (Listed f) = 1
-flag-of (Clear f) = 0
-flag-of Unusable = 2
+flag-of (Listed f) = listed-flag
+flag-of (Clear f) = clear-flag
+flag-of Unusable = unusable-flag
 
 -- Of n minutes from j on: the first bad one, or the minute after them; and their flags.
 unfoldable pub first-bad : (ℕ → Decision) → ℕ → ℕ → ℕ

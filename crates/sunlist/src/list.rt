@@ -13,6 +13,7 @@ use crate::Decision;
 use crate::ListAnswer;
 use crate::one_minute::decide;
 use crate::window::FLAGS_ROOM;
+use crate::window::UNUSABLE_FLAG;
 use crate::window::flag;
 use crate::window::minute;
 use crate::window::write_runs;
@@ -43,7 +44,7 @@ fn flag_minutes(window: &mut [u8], t0: Instant, k: u64, planet: &Table, earth: &
     let mut j = 0;
     while j < window.len() {
         let f = flag(decide_at(t0, j as u64, k, planet, earth));
-        if f == 2 {
+        if f == UNUSABLE_FLAG {
             return j;
         }
         window[j] = f;

@@ -10,6 +10,7 @@ use crate::Decision;
 use crate::ListAnswer;
 use arith::signed::add;
 use arith::signed::wide;
+use runs::LISTED_FLAG;
 use runs::MOST_MINUTES;
 use units::Instant;
 use units::MINUTE_MS;
@@ -24,6 +25,11 @@ const GREATEST_KEEP_OUT: u64 = 2700;
 
 // The flags of a window, a byte each.
 pub const FLAGS_ROOM: usize = MOST_MINUTES as usize;
+
+// The flags of a minute that is not listed.
+const CLEAR_FLAG: u8 = 0;
+
+pub const UNUSABLE_FLAG: u8 = 2;
 
 // Whether a window of n minutes and a keep-out of k arcminutes are within their ranges.
 pub fn fits(n: u64, k: u64) -> bool
@@ -50,14 +56,14 @@ pub fn minute(t0: Instant, j: u64) -> Instant
     Instant { ms }
 }
 
-// The flag of a decision: 1 listed, 0 clear, 2 not usable.
+// The flag of a decision.
 pub fn flag(d: Decision) -> u8
     ensures { λ r. ⌜ r ≡ flag-of d ⌝ }
 {
     match d {
-        Decision::Listed(_) => 1,
-        Decision::Clear(_) => 0,
-        Decision::Unusable => 2,
+        Decision::Listed(_) => LISTED_FLAG,
+        Decision::Clear(_) => CLEAR_FLAG,
+        Decision::Unusable => UNUSABLE_FLAG,
     }
 }
 

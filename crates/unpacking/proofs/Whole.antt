@@ -10,11 +10,11 @@ use Rattle.units.specs.declared.Refusal.the-variants.{NoRoom}
 use Rattle.packed.specs.Series.{Parsed, accepted, refused, parse}
 use Rattle.packed_promises.specs.Bounds.{early-limit}
 use Rattle.packed_promises.proofs.Theorems.{refused-where, room-where, decided}
-use Rattle.printer.specs.Printer.{plain-text, text-fits, printed, printed-out}
+use Rattle.printer.specs.Printer.{plain-text, text-limit, text-fits, printed, printed-out}
 use Rattle.printer.specs.declared.Printed.{Printed}
 use Rattle.printer.specs.declared.Printed.the-variants.{Length, NoText}
 use Rattle.printer_promises.proofs.Theorems.{longest}
-use Rattle.unpacking.specs.Input.{text-limit, Input, all, begins, Roomy, Answered}
+use Rattle.unpacking.specs.Input.{Input, all, begins, Roomy, Answered}
 
 -- No packed bytes are refused for want of room.
 never-full : (x : List ℕ) (k : ℕ) → parse x ≡ refused (NoRoom k) → ⊥

@@ -6,13 +6,9 @@ use lib.ListN.{length, take}
 use Rattle.units.specs.declared.Refusal.the-variants.{NoRoom}
 use Rattle.packed.specs.Series.{parse}
 use Rattle.packed_promises.specs.Bounds.{early-limit}
-use Rattle.printer.specs.Printer.{printed, printed-out}
+use Rattle.printer.specs.Printer.{text-limit, printed, printed-out}
 use Rattle.printer.specs.declared.Printed.{Printed}
 use Rattle.printer.specs.declared.Printed.the-variants.{NoText}
-
--- No text of a series is longer.
-abbrev pub text-limit : ℕ
-text-limit = 434266
 
 -- The input is the first n bytes of the buffer; or the buffer is full, and the input goes on.
 pub data Input (n : ℕ) (buffer : List ℕ) : List ℕ → Type 0 where

@@ -6,10 +6,8 @@ use command_line::words::write_refusal;
 use libc::STDERR_FILENO;
 use libc::STDIN_FILENO;
 use printer::Printed;
+use printer::TEXT_LIMIT;
 ghost use Rattle.unpacking.specs.Input.{Roomy, AnswersAny};
-
-// Room for the text of any series: the theorem `longest` of printer_promises/proofs/Theorems.antt.
-const TEXT_ROOM: usize = 434266;
 
 // The text of the input, of which the first n packed bytes are all or, where they fill the buffer, the beginning: whatever follows,
 // the whole input is then refused as they are, by the theorem `decided` of packed_promises/proofs/Theorems.antt.
@@ -36,7 +34,7 @@ fn convert(packed: &[u8], n: usize, text: &mut [u8])
 // There is room for every series and its text.
 pub fn unpack_input() {
     let mut packed = [0u8; PACKED_ROOM];
-    let mut text = [0u8; TEXT_ROOM];
+    let mut text = [0u8; TEXT_LIMIT];
     let n = io::read_full(STDIN_FILENO, &mut packed);
     convert(&packed, n, &mut text);
 }

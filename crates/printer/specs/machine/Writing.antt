@@ -7,8 +7,8 @@ use lib.Seq.{sets}
 use Rattle.limits.specs.declared.Term.{Term}
 use Rattle.units.specs.Units.{series-limit}
 use Rattle.packed.specs.machine.Table.{term-at, terms-at}
-use Rattle.series_lines.specs.Grammar.{feed, digits, count-bytes, term-bytes, lines-bytes}
-use Rattle.printer.specs.Printer.{places, first-digit, rest-digits, plain-count, plain-term}
+use Rattle.series_lines.specs.Grammar.{feed, part-digits, digits, count-bytes, term-bytes, lines-bytes}
+use Rattle.printer.specs.Printer.{first-digit, rest-digits, plain-count, plain-term}
 
 -- There is room for a text from at.
 abbrev pub Room : List ℕ → ℕ → List ℕ → Type 0
@@ -24,7 +24,7 @@ unfoldable pub whole-text : ℕ → List ℕ
 whole-text v = digits (first-digit v ∷ rest-digits v)
 
 -- The most digits that a number of 64 bits has after its first, and in all; and the most bytes of a decimal, which has a sign, a point and its
--- places besides, and of a line, which has three of them, two spaces and its line feed.
+-- parts besides, and of a line, which has three of them, two spaces and its line feed.
 abbrev pub further-most : ℕ
 further-most = 19
 
@@ -32,7 +32,7 @@ abbrev pub whole-most : ℕ
 whole-most = further-most + 1
 
 abbrev pub decimal-most : ℕ
-decimal-most = 1 + whole-most + 1 + places
+decimal-most = 1 + whole-most + 1 + part-digits
 
 abbrev pub line-most : ℕ
 line-most = 3 * decimal-most + 3

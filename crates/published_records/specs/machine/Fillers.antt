@@ -6,6 +6,7 @@ use Prim.Native.Nat.{ℕ, _+_, _≤_}
 use lib.Dec.{leb, ltb}
 use lib.ListN.{length}
 use Rattle.series_lines.specs.Lexer.{spot-bad}
+use Rattle.series_lines.specs.Reader.{last-offset}
 use Rattle.published_records.specs.declared.Row.{Row}
 use Rattle.published_records.specs.Layout.{version-column, coordinate-column, power-column, count-last, number-first, number-last, a-first, NoFeed}
 use Rattle.published_records.specs.Rows.{column-limit, lex-rows}
@@ -13,7 +14,7 @@ use Rattle.published_records.specs.machine.Runs.{between, GoesOn}
 
 -- After the count of a heading all columns are free: no column is so large.
 abbrev pub no-end : ℕ
-no-end = 18446744073709551615
+no-end = last-offset
 
 -- The first column from c on that is not free, in a heading and in a term record.
 unfoldable pub heading-end : ℕ → ℕ

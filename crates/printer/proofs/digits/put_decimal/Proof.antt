@@ -1,6 +1,6 @@
 -- `put_decimal` meets its contract. Assumes nothing.
-use Rattle.series_lines.specs.Grammar.{decimal}
-use Rattle.printer.specs.Printer.{places, plain-decimal}
+use Rattle.series_lines.specs.Grammar.{part-digits, decimal}
+use Rattle.printer.specs.Printer.{plain-decimal}
 use Rattle.printer.proofs.PieceByPiece.{Left, left-is, left-more, left-over, left-room}
 use Rattle.printer.proofs.DigitsWritten.{digits-room}
 use Rattle.printer.proofs.LinePieces.{decimal-parts, decimal-pieces}
@@ -40,7 +40,7 @@ put-digits-requires c κs =
     let s = sign .before .before .before in
     let left1 = left-more (begun s) (sign .put-sign .ensures) in
     let left2 = left-more left1 (whole .put-whole .ensures) in
-    digits-room places (s .args .v) (left-more left2 (byte .put-byte .ensures)) (s .pre)
+    digits-room part-digits (s .args .v) (left-more left2 (byte .put-byte .ensures)) (s .pre)
 
 same-length : tie.Need-same-length
 same-length c = search needs
