@@ -25,7 +25,7 @@ const SUM_TURN: u64 = 360 * 3600 * 100000;
 // The coefficients of the mean obliquity, from the constant one up.
 const OBLIQUITY: [i64; 4] = [8438144800, -46815000, -5900, 181300];
 
-// D, M, M', F and the longitude of the node, each less its whole turns, in 10^-8 arcsecond.
+// D, M, M', F and the longitude of the node, in 10^-8 arcsecond.
 pub struct Arguments {
     pub elongation: i64,
     pub sun: i64,

@@ -5,7 +5,8 @@ use native.Mathlib.Omega.{arith}
 use lib.IntN.{natAbs, _+ℤ_, _*ℤ_}
 use Rattle.arith.proofs.Signs.{back, ok}
 use Rattle.integers.proofs.Order.{fits}
-use Rattle.nutation.proofs.Terms.{product-small, sum-fits, sum-small}
+use Rattle.nutation.proofs.Terms.{sum-fits}
+use Rattle.nutation.proofs.Products.{product-small, sum-small}
 use Rattle.nutation.proofs.rows.plus_product.Statement.{statement}
 use Rattle.nutation.proofs.rows.plus_product.Tie as tie
 
