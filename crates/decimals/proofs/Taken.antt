@@ -1,8 +1,8 @@
 -- The loop that reads digits: what is left to read gives what all of it gives; then the sign. Assumes nothing.
-use mathlib.Core.Path.{_≡_, refl, sym, _∙_}
+use mathlib.Core.Path.{_≡_, refl}
 use mathlib.Core.Bool.{Bool, true, false}
 use mathlib.Core.List.{List, [], _∷_}
-use Prim.Native.Nat.{ℕ, suc, _+_, _*_, _-_, _/_, _≤_, _<_}
+use Prim.Native.Nat.{ℕ, _+_, _*_, _-_, _/_, _≤_, _<_}
 use native.Mathlib.Numerals.{add-one}
 use native.Mathlib.Omega.{arith}
 use borrow.Author.Tests.{eq-eqb, ne-eqb, lt-ltb, le-ltb, le-leb, lt-leb}
@@ -10,8 +10,7 @@ use lib.ListN.{length, getD, drop, drop-of-length-le}
 use lib.Seq.{drop-cons}
 use Rattle.decimals.specs.Decimals.{minus-sign, zero-digit, nine-digit}
 use Rattle.decimals.specs.machine.Reading.{too-great, digits-after, all-digits, signed-read, number-of}
-use Rattle.decimals.specs.declared.reading.Read.{Read}
-use Rattle.decimals.specs.declared.reading.Read.the-variants.{Number, Other}
+use Rattle.decimals.specs.declared.reading.Read.the-variants.{Other}
 
 pub no-digits : (text : List ℕ) (from : ℕ) → length text ≤ from → too-great ≡ all-digits (drop from text)
 unfolding all-digits

@@ -40,18 +40,18 @@ pub sum-small : (s m a r : ℤ) → natAbs m ≤ multiplier-limit → natAbs a �
 sum-small s m a r h k e = subst (λ t. natAbs t ≤ natAbs s + 2 ^ 49) (sym e) (omega (arith, natAbs-+ s (m *ℤ a), product-small m a h k))
 
 -- ---- the sum s of k products, and the next one, m times a
-module _ (k : ℕ) (s m a : ℤ) (few : k < 5) (sum : natAbs s ≤ k * 2 ^ 49) (multiplier : natAbs m ≤ multiplier-limit) (argument : natAbs a ≤ 2 ^ 47) where
+module _ (k : ℕ) (s m a : ℤ) (few : k < 5) (sum : natAbs s ≤ k * 2 ^ 49) (by : natAbs m ≤ multiplier-limit) (one : natAbs a ≤ 2 ^ 47) where
   pub next-asks : (natAbs (Cell s) ≤ 2 ^ 60) × (natAbs (Cell m) ≤ multiplier-limit) × (natAbs (Cell a) ≤ 2 ^ 47)
   next-asks = (
     held-le s (2 ^ 60) (lit< tt) (omega arith),
-    held-le m multiplier-limit (lit< tt) multiplier,
-    held-le a (2 ^ 47) (lit< tt) argument,
+    held-le m multiplier-limit (lit< tt) by,
+    held-le a (2 ^ 47) (lit< tt) one,
   )
 
   pub next-is : {r : ℤ} → (r ≡ Cell s +ℤ Cell m *ℤ Cell a) × (natAbs r ≤ natAbs (Cell s) + 2 ^ 49) → (r ≡ s +ℤ m *ℤ a) × (natAbs r ≤ (k + 1) * 2 ^ 49)
   next-is {r} h =
       let e = kept s (2 ^ 60) (lit< tt) (omega arith) in
-      let f = rw (e, kept m multiplier-limit (lit< tt) multiplier, kept a (2 ^ 47) (lit< tt) argument) at h in
+      let f = rw (e, kept m multiplier-limit (lit< tt) by, kept a (2 ^ 47) (lit< tt) one) at h in
       (f .0, (let g = f .1 in omega arith))
 
 pub combined-from : (r : Row) (a : Arguments) (s1 s2 s3 s4 s5 : ℤ) → s1 ≡ pos 0 +ℤ times-d r *ℤ a .elongation → s2 ≡ s1 +ℤ times-m r *ℤ a .sun

@@ -3,7 +3,6 @@ use mathlib.Core.Path.{_≡_, refl, sym, ap, ap₂, _∙_, subst}
 use mathlib.Core.List.{List, [], _∷_}
 use Prim.Native.Nat.{ℕ, _+_, _-_, _*_, _^_, _≤_, _<_}
 use native.Mathlib.Omega.{arith}
-use native.Mathlib.Nat.{mul-le-mul}
 use lib.Dec.{lit<, lit≤}
 use lib.IntN.{ℤ, pos, natAbs, _+ℤ_, _*ℤ_}
 use mir.Syntax.{w64}
@@ -13,7 +12,7 @@ use Rattle.integers.specs.Division.{floor, rounded}
 use Rattle.integers.proofs.Pairs.{nonneg}
 use Rattle.integers.proofs.Auto.{ring!, polys}
 use Rattle.integers.proofs.Order.{natAbs-*, natAbs-+, fits}
-use Rattle.integers.proofs.Division.{floor-modulo, modulo-lt, rounded-add}
+use Rattle.integers.proofs.Division.{floor-modulo, rounded-add}
 use Rattle.integers.proofs.Rounding.{rounded-mono, rounded-zero, rounded-scale}
 use Rattle.arith.proofs.Ranges.{scaled-within}
 use Rattle.arith.proofs.Cells.{Cell, cell}
@@ -24,7 +23,7 @@ use Rattle.reference_cosine.proofs.Ranges.{cosine-size, sine-size}
 use Rattle.direction.specs.Angles.{units-angle}
 use Rattle.nutation_table.specs.declared.Row.{Row}
 use Rattle.nutation_table.specs.Table.{psi, psi-rate, eps, eps-rate, times-d, times-m, times-m1, times-f, times-node}
-use Rattle.nutation_table.specs.machine.Small.{figure-limit, rate-limit, multiplier-limit, Small}
+use Rattle.nutation_table.specs.machine.Small.{figure-limit, rate-limit, Small}
 use Rattle.nutation.specs.declared.Arguments.{Arguments}
 use Rattle.nutation.specs.Nutation.{polynomial, argument, mean-elongation, sun-anomaly, moon-anomaly, latitude-argument, moon-node, row-argument}
 use Rattle.nutation.specs.Nutation.{row-angle, argument-turn, coefficient, longitude-term, obliquity-term}

@@ -1,14 +1,13 @@
 -- RULES, "Series, as text and packed" and "Refusals and what they leave": where packed bytes are refused, and how many of them a series may have.
 use mathlib.Core.Path.{_≡_}
 use mathlib.Core.List.{List}
-use Prim.Native.Nat.{ℕ, _+_, _*_, _-_, _≤_, _<_}
+use Prim.Native.Nat.{ℕ, _+_, _*_, _-_, _<_}
 use lib.ListN.{length}
 use Rattle.units.specs.declared.Refusal.{Refusal}
 use Rattle.units.specs.declared.Refusal.the-variants.{NoSuchDate, PastLimit, BadByte, OverLimit, TotalOverLimit, TooCoarse}
 use Rattle.units.specs.declared.Refusal.the-variants.{NoRoom, EndedEarly, ByteAfterEnd, NotShortest, NotUsable, BadWindow, BadHeading, BadNumber}
 use Rattle.units.specs.Units.{series-limit, block-count}
-use Rattle.packed_numbers.specs.Numbers.{group-limit, encode, folded}
-use Rattle.limits.specs.declared.Term.{Term}
+use Rattle.packed_numbers.specs.Numbers.{group-limit}
 
 -- What the figure of a refusal is: with 8 the number of the bytes, with 4, 5, 6, 9 and 10 the offset of one of them. Packed bytes have no other refusal.
 unfoldable pub Where : Refusal → List ℕ → Type 0
@@ -42,11 +41,6 @@ count-bytes = 2
 
 abbrev pub term-bytes : ℕ
 term-bytes = a-bytes + b-bytes + c-bytes
-
-pub record ShortTerm (t : Term) : Type 0 where
-  pub a : length (encode (folded (t .a))) ≤ a-bytes
-  pub b : length (encode (t .b)) ≤ b-bytes
-  pub c : length (encode (folded (t .c))) ≤ c-bytes
 
 -- An accepted series has at most so many bytes.
 abbrev pub packed-limit : ℕ

@@ -20,7 +20,6 @@ use Rattle.series_lines.specs.Grammar.{AnyLine, a-count, a-term, line-bytes, an
 use Rattle.series_lines.specs.Reader.{refusal}
 use Rattle.published_records.specs.Layout.{Heading, heading-bytes, GoodHeading, TermRecord, record-bytes, GoodRecord, cut-term}
 use Rattle.published.specs.Judge.{in-order, skipped}
-use Rattle.published.specs.Reader as published
 use Rattle.integers.proofs.Tests.{by-cases}
 use Rattle.text_promises.specs.Decided as text
 use Rattle.text_promises.specs.Decided.{NumbersInLimits}

@@ -11,7 +11,8 @@ polynomial-requires c κs = rw (back (c .args .t) (c .fits .t)) (by-time (c .arg
 returns : tie.Need-returns
 returns c =
     let s = c .before in
-    back (c .polynomial .result) (ok (c .polynomial .ok)) ∙ (rw (back (s .args .t) (s .fits .t)) at (c .polynomial .ensures)) ∙ argument-is (s .args .t) _
+    back (c .polynomial .result) (ok (c .polynomial .ok)) ∙ (rw (back (s .args .t) (s .fits .t)) at (c .polynomial .ensures))
+    ∙ argument-is (s .args .t) _
 
 pub argument-at-spec : {M : Type 1} → statement M
 argument-at-spec = tie.close (tie.spec polynomial-requires returns)

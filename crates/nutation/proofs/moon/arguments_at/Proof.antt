@@ -1,5 +1,5 @@
 -- `nutation::moon::arguments_at` meets its contract. Assumes nothing.
-use mathlib.Core.Path.{_≡_, _∙_, ap}
+use mathlib.Core.Path.{_∙_, ap}
 use borrow.Author.Needs.{needs}
 use Rattle.arith.proofs.Signs.{back}
 use Rattle.nutation.specs.machine.Reduced.{less-turns}

@@ -2,7 +2,7 @@
 use mathlib.Core.Path.{_≡_, _∙_}
 use Prim.Native.Nat.{_*_, _^_, _≤_}
 use lib.Dec.{lit<, lit≤}
-use lib.IntN.{ℤ, pos, natAbs, _+ℤ_, _*ℤ_}
+use lib.IntN.{pos, natAbs, _+ℤ_, _*ℤ_}
 use Rattle.arith.proofs.Signs.{back, ok}
 use Rattle.nutation.proofs.Products.{at-small, next-asks, next-is, combined-from}
 use Rattle.nutation.proofs.rows.row_argument.Statement.{statement}
@@ -42,7 +42,8 @@ plus-product-requires-2 : tie.Need-plus-product-requires-2
 plus-product-requires-2 c κs =
     let p = c .before .before in
     let s = start p in
-    next-asks 1 (p .plus-product .result) (s .args .r .5) (s .args .a .sun) (lit< tt) (sum-1 p .1) (s .pre .0 .m-small) (at-small _ _ (s .pre .1) .1)
+    next-asks 1 (p .plus-product .result) (s .args .r .5) (s .args .a .sun) (lit< tt) (sum-1 p .1)
+    (s .pre .0 .m-small) (at-small _ _ (s .pre .1) .1)
 
 sum-2 : (c : tie.After-plus-product2) → (let s = start-2 c in
     let r = c .plus-product2 .result in
@@ -57,7 +58,8 @@ plus-product-requires-3 : tie.Need-plus-product-requires-3
 plus-product-requires-3 c κs =
     let p = c .before .before in
     let s = start-2 p in
-    next-asks 2 (p .plus-product2 .result) (s .args .r .6) (s .args .a .moon) (lit< tt) (sum-2 p .1) (s .pre .0 .m1-small) (at-small _ _ (s .pre .1) .2)
+    next-asks 2 (p .plus-product2 .result) (s .args .r .6) (s .args .a .moon) (lit< tt) (sum-2 p .1)
+    (s .pre .0 .m1-small) (at-small _ _ (s .pre .1) .2)
 
 sum-3 : (c : tie.After-plus-product3) → (let s = start-3 c in
     let r = c .plus-product3 .result in
@@ -72,7 +74,8 @@ plus-product-requires-4 : tie.Need-plus-product-requires-4
 plus-product-requires-4 c κs =
     let p = c .before .before in
     let s = start-3 p in
-    next-asks 3 (p .plus-product3 .result) (s .args .r .7) (s .args .a .latitude) (lit< tt) (sum-3 p .1) (s .pre .0 .f-small) (at-small _ _ (s .pre .1) .3)
+    next-asks 3 (p .plus-product3 .result) (s .args .r .7) (s .args .a .latitude) (lit< tt) (sum-3 p .1)
+    (s .pre .0 .f-small) (at-small _ _ (s .pre .1) .3)
 
 sum-4 : (c : tie.After-plus-product4) → (let s = start-4 c in
     let r = c .plus-product4 .result in
@@ -87,7 +90,8 @@ plus-product-requires-5 : tie.Need-plus-product-requires-5
 plus-product-requires-5 c κs =
     let p = c .before .before in
     let s = start-4 p in
-    next-asks 4 (p .plus-product4 .result) (s .args .r .8) (s .args .a .node) (lit< tt) (sum-4 p .1) (s .pre .0 .node-small) (at-small _ _ (s .pre .1) .4)
+    next-asks 4 (p .plus-product4 .result) (s .args .r .8) (s .args .a .node) (lit< tt) (sum-4 p .1)
+    (s .pre .0 .node-small) (at-small _ _ (s .pre .1) .4)
 
 sum-5 : (c : tie.After-plus-product5) → (let s = start-5 c in
     let r = c .plus-product5 .result in
@@ -106,8 +110,8 @@ returns c =
     let c1 = c2 .before .before .before in
     let s = c1 .before .before .before in
     back (c .plus-product5 .result) (ok (c .plus-product5 .ok))
-    ∙ combined-from (s .args .r) (s .args .a) (c1 .plus-product .result) (c2 .plus-product2 .result) (c3 .plus-product3 .result) (c4 .plus-product4 .result)
-    (c .plus-product5 .result) (sum-1 c1 .0) (sum-2 c2 .0) (sum-3 c3 .0) (sum-4 c4 .0) (sum-5 c .0)
+    ∙ combined-from (s .args .r) (s .args .a) (c1 .plus-product .result) (c2 .plus-product2 .result) (c3 .plus-product3 .result)
+    (c4 .plus-product4 .result) (c .plus-product5 .result) (sum-1 c1 .0) (sum-2 c2 .0) (sum-3 c3 .0) (sum-4 c4 .0) (sum-5 c .0)
 
 pub row-argument-spec : {M : Type 1} → statement M
 row-argument-spec =

@@ -61,14 +61,13 @@ returns c =
     let s = w .before in
     let r = s .pre .1 in
     let t = back (s .args .t) (s .fits .t) in
-    let sin = at-sin w in
-    let cos = at-cos w in (
-      term-is (s .args .t) (s .args .r .0) (s .args .r .1) (w .row-trig .result .sin) _ t (kept (s .args .r .0) _ (lit< tt) (r .psi-small))
-          (kept (s .args .r .1) _ (lit< tt) (r .psi-rate-small)) (kept (w .row-trig .result .sin) U (lit< tt) (same-small _ _ _ sin (sine-size _)) ∙ sin)
-          (ok (d .term .ok)) (d .term .ensures),
-      term-is (s .args .t) (s .args .r .2) (s .args .r .3) (w .row-trig .result .cos) _ t (kept (s .args .r .2) _ (lit< tt) (r .eps-small))
-          (kept (s .args .r .3) _ (lit< tt) (r .eps-rate-small)) (kept (w .row-trig .result .cos) U (lit< tt) (same-small _ _ _ cos (cosine-size _)) ∙ cos)
-          (ok (c .term2 .ok)) (c .term2 .ensures),
+    let v = w .row-trig .result in (
+      term-is (s .args .t) (s .args .r .0) (s .args .r .1) (v .sin) _ t (kept (s .args .r .0) _ (lit< tt) (r .psi-small))
+          (kept (s .args .r .1) _ (lit< tt) (r .psi-rate-small))
+          (kept (v .sin) U (lit< tt) (same-small _ _ _ (at-sin w) (sine-size _)) ∙ at-sin w) (ok (d .term .ok)) (d .term .ensures),
+      term-is (s .args .t) (s .args .r .2) (s .args .r .3) (v .cos) _ t (kept (s .args .r .2) _ (lit< tt) (r .eps-small))
+          (kept (s .args .r .3) _ (lit< tt) (r .eps-rate-small))
+          (kept (v .cos) U (lit< tt) (same-small _ _ _ (at-cos w) (cosine-size _)) ∙ at-cos w) (ok (c .term2 .ok)) (c .term2 .ensures),
     )
 
 pub row-terms-spec : {M : Type 1} → statement M

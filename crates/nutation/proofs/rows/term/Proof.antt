@@ -29,7 +29,8 @@ at-coefficient : (c : tie.After-coefficient-at)
     → (let s = c .before in c .coefficient-at .result ≡ coefficient (s .args .t) (s .args .first) (s .args .rate))
 at-coefficient c =
     let s = c .before in
-    rw (back (s .args .t) (s .fits .t), back (s .args .first) (s .fits .first), back (s .args .rate) (s .fits .rate)) at (c .coefficient-at .ensures .0)
+    rw (back (s .args .t) (s .fits .t), back (s .args .first) (s .fits .first), back (s .args .rate) (s .fits .rate))
+    at (c .coefficient-at .ensures .0)
 
 returns : tie.Need-returns
 returns c =
