@@ -127,6 +127,6 @@ every-line l = go (reading (read fresh l)) refl
 
 -- The two lines of the rules: `1582 10 4` and `1582 10 10` are answered `2299160` and `refused 1`.
 pub two-lines : replies fresh example-lines ≡ example-replies
-unfolding text replies said after take at-space at-digit reading reply day-text decimal refused sgn natural-or day-of-date first-bad month-length leap noon-number
-    floor modulo greatest
+unfolding replies said after take at-space at-digit reading reply day-text decimal refused sgn natural-or day-of-date first-bad month-length leap noon-number
+    floor modulo greatest text
 two-lines = refl

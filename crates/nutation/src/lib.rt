@@ -1,6 +1,6 @@
 // Nutation and obliquity at an instant: RULES, "Places".
 pub mod moon;
-pub mod polynomial;
+mod polynomial;
 pub mod rows;
 
 ghost use mathlib.Core.Path.{_≡_};
@@ -15,7 +15,7 @@ use direction::units_angle;
 use units::MILLENNIUM;
 
 // A century in milliseconds: by t over it is by 10t/T.
-pub const CENTURY: u64 = MILLENNIUM / 10;
+const CENTURY: u64 = MILLENNIUM / 10;
 
 // The units in a turn, 10^-8 arcsecond for the arguments and 10^-5 for the sums.
 const ARGUMENT_TURN: u64 = 360 * 3600 * 100000000;

@@ -13,7 +13,7 @@ use arith::residue::residue;
 use arith::signed::wide;
 
 // The coefficients of the five, from the constant one up.
-pub const ELONGATION: [i64; 5] = [
+const ELONGATION: [i64; 5] = [
     107226073512000,
     160296160146030000,
     -586810000,
@@ -21,9 +21,9 @@ pub const ELONGATION: [i64; 5] = [
     -3184,
 ];
 
-pub const SUN: [i64; 4] = [128710479304800, 12959658104740000, -55290000, 14700];
+const SUN: [i64; 4] = [128710479304800, 12959658104740000, -55290000, 14700];
 
-pub const MOON: [i64; 5] = [
+const MOON: [i64; 5] = [
     48586828096800,
     171791592347280000,
     3238930000,
@@ -31,7 +31,7 @@ pub const MOON: [i64; 5] = [
     -24470,
 ];
 
-pub const LATITUDE: [i64; 5] = [
+const LATITUDE: [i64; 5] = [
     33577955755200,
     173952726309830000,
     -1225050000,
@@ -39,7 +39,7 @@ pub const LATITUDE: [i64; 5] = [
     417,
 ];
 
-pub const NODE: [i64; 5] = [45016039814400, -696289026560000, 747420000, 770200, -5939];
+const NODE: [i64; 5] = [45016039814400, -696289026560000, 747420000, 770200, -5939];
 
 // The argument with these coefficients. By 10t/T is by t over a century.
 fn argument_at(t: i64, c: &[i64]) -> i64
@@ -49,7 +49,7 @@ fn argument_at(t: i64, c: &[i64]) -> i64
     polynomial(t, CENTURY, c)
 }
 
-// The five as their polynomials give them.
+// The five at t with their whole turns, as their polynomials give them.
 pub fn arguments_with_turns(t: i64) -> Arguments
     requires { ⌜ natAbs t ≤ t-limit ⌝ }
     ensures { λ r. ⌜ (r .elongation ≡ mean-elongation t) × (r .sun ≡ sun-anomaly t) × (r .moon ≡ moon-anomaly t) × (r .latitude ≡ latitude-argument t)
@@ -85,6 +85,7 @@ fn each_less_turns(a: Arguments) -> Arguments
     }
 }
 
+// The five at t, less their whole turns.
 pub fn arguments_at(t: i64) -> Arguments
     requires { ⌜ natAbs t ≤ t-limit ⌝ }
     ensures { λ r. ⌜ At t r ⌝ }

@@ -1,6 +1,6 @@
 -- `nutation::rows::plus_product` meets its contract. Assumes nothing.
 use mathlib.Core.Path.{_≡_}
-use Prim.Native.Nat.{ℕ, _+_, _*_, _^_, _≤_}
+use Prim.Native.Nat.{ℕ, _^_, _≤_}
 use native.Mathlib.Omega.{arith}
 use lib.IntN.{natAbs, _+ℤ_, _*ℤ_}
 use Rattle.arith.proofs.Signs.{back, ok}
