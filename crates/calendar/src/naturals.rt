@@ -71,7 +71,7 @@ fn month_length(index: u64, month: u64) -> u64
 }
 
 // The first of year, month and day that does not exist, or 0.
-pub fn first_bad(index: u64, month: u64, day: u64) -> u64
+pub fn bad_field(index: u64, month: u64, day: u64) -> u64
     requires { ⌜ index ≤ last-index ⌝ }
     ensures { λ r. ⌜ r ≡ bad-field index month day ⌝ }
 {

@@ -15,8 +15,8 @@ use crate::LAST_YEAR;
 use crate::MS_FIELD;
 use crate::YEAR_SHIFT;
 use crate::YEARS_BEFORE_ZERO;
+use crate::naturals::bad_field;
 use crate::naturals::date_at;
-use crate::naturals::first_bad;
 use crate::naturals::noon_of;
 use arith::signed::abs;
 use arith::signed::is_neg;
@@ -56,7 +56,7 @@ pub fn bad_of_date(year: i64, month: i64, day: i64) -> u64
     let c = year_index(year);
     let m = natural_or(month, 0);
     let d = natural_or(day, 0);
-    first_bad(c, m, d)
+    bad_field(c, m, d)
 }
 
 // The first of year, month, day and ms that does not exist, or 0.

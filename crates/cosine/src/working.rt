@@ -95,7 +95,7 @@ pub fn first(y: u64, d: u64) -> u64
     U - ((y + d / 2) as u32 / d as u32) as u64
 }
 
-fn even_series(y: u64) -> u64
+fn horner_evens(y: u64) -> u64
     requires { ⌜ y ≤ y-limit ⌝ }
     ensures { λ r. ⌜ (pos r ≡ horner (pos y) evens) × (r ≤ U) ⌝ }
 {
@@ -107,7 +107,7 @@ fn even_series(y: u64) -> u64
     step(y, h2, EVEN_1)
 }
 
-fn odd_series(y: u64) -> u64
+fn horner_odds(y: u64) -> u64
     requires { ⌜ y ≤ y-limit ⌝ }
     ensures { λ r. ⌜ (pos r ≡ horner (pos y) odds) × (r ≤ U) ⌝ }
 {
@@ -133,13 +133,13 @@ fn biased_cosine(k: u64, v: u64, y: u64) -> u64
     ensures { λ r. ⌜ (pos r ≡ pos U +ℤ cosine-by negℤ k (even-part (pos v -ℤ pos U)) (odd-part (pos v -ℤ pos U))) × (r ≤ 2 * U) ⌝ }
 {
     if k % 2 == 0 {
-        let e = even_series(y);
+        let e = horner_evens(y);
         if k == 0 {
             return U + e;
         }
         return U - e;
     }
-    let h = odd_series(y);
+    let h = horner_odds(y);
     let o = (v * h + HALF_UNIT) / U;
     if k == 1 {
         return U + h - o;

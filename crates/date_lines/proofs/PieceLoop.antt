@@ -13,10 +13,10 @@ use Rattle.calendar.specs.Calendar.{day-of-date}
 use Rattle.calendar.specs.declared.DayAnswer.{DayAnswer}
 use Rattle.calendar.specs.declared.DayAnswer.the-variants.{Day, NoDay}
 use Rattle.arith.specs.Naturals.{natural-or}
-use Rattle.decimals.specs.Texts.{line-feed}
+use Rattle.decimals.specs.Texts.{text, line-feed}
 use Rattle.decimals.specs.Decimals.{most-digits, decimal}
 use Rattle.decimals.proofs.Puts.{decimal-length}
-use Rattle.date_lines.specs.Lines.{fault-empty, reading}
+use Rattle.date_lines.specs.Lines.{fault-empty, fault-byte, fault-space, fault-large, fault-few, reading}
 use Rattle.date_lines.specs.Replies.{reply-limit, refused, day-text, fault-words, fault-text, reply, after, said, line-after}
 use Rattle.date_lines.specs.Replies.{replies, unless-empty, last-reply}
 use Rattle.date_lines.specs.declared.reader.Line.{Line}
@@ -29,21 +29,21 @@ either true x y k p q = p
 either false x y k p q = q
 
 day-length : (a : DayAnswer) → length (day-text a) ≤ reply-limit
-unfolding day-text refused
+unfolding text day-text refused
 day-length (Day n) = omega (arith, decimal-length most-digits (natural-or n 0), length-append (decimal most-digits (natural-or n 0)) (line-feed ∷ []))
 day-length (NoDay r) = lit≤ tt
 
-words : (f : ℕ) → length (fault-words f) ≤ 10
-unfolding fault-words
+words : (f : ℕ) → length (fault-words f) ≤ 9
+unfolding text fault-words
 words f =
-    either (eqb f fault-empty) _ _ 10 (lit≤ tt)
-    (either (eqb f 2) _ _ 10 (lit≤ tt)
-    (either (eqb f 3) _ _ 10 (lit≤ tt)
-    (either (eqb f 4) _ _ 10 (lit≤ tt) (either (eqb f 5) _ _ 10 (lit≤ tt) (lit≤ tt)))))
+    either (eqb f fault-empty) _ _ 9 (lit≤ tt)
+    (either (eqb f fault-byte) _ _ 9 (lit≤ tt)
+    (either (eqb f fault-space) _ _ 9 (lit≤ tt)
+    (either (eqb f fault-large) _ _ 9 (lit≤ tt) (either (eqb f fault-few) _ _ 9 (lit≤ tt) (lit≤ tt)))))
 
 fault-length : (f : ℕ) → length (fault-text f) ≤ reply-limit
-unfolding fault-text
-fault-length f = omega (arith, words f)
+unfolding text fault-text
+fault-length f = omega (arith, words f, length-append (fault-words f) (line-feed ∷ []))
 
 reply-length : (w : Reading) → length (reply w) ≤ reply-limit
 unfolding reply
@@ -83,16 +83,16 @@ module _ (start : Line) (first piece out : List ℕ) (line : Line) (at i : ℕ) 
     now-left : drop i piece ≡ b ∷ drop (i + 1) piece
     now-left = rw (e, add-one) (drop-cons piece i 0 h)
 
-    text : List ℕ
-    text = replies (after line b) (drop (i + 1) piece)
+    rest : List ℕ
+    rest = replies (after line b) (drop (i + 1) piece)
 
-    split : replies line (drop i piece) ≡ said line b ++ text
-    unfolding text
+    split : replies line (drop i piece) ≡ said line b ++ rest
+    unfolding rest
     split = ap (replies line) now-left ∙ next-reply line b (drop (i + 1) piece)
 
     pub left-more : (t : Line) (r : ℕ) (result : List ℕ) → (t ≡ after line b) × (r ≡ at + length (said line b)) × (result ≡ sets out at (said line b))
         → Left start first piece result t r (i + 1)
-    unfolding text
+    unfolding rest
     left-more t r result q =
         rw (q .0, q .1, q .2)
         (record {
@@ -100,8 +100,8 @@ module _ (start : Line) (first piece out : List ℕ) (line : Line) (at i : ℕ) 
           same = length-sets out at (said line b) ∙ l .same;
           room = omega (arith, l .room, said-length line b);
           line-is = sym (next-line line b (drop (i + 1) piece)) ∙ ap (line-after line) (sym now-left) ∙ l .line-is;
-          count = omega (arith, l .count, ap length split, length-append (said line b) text);
-          holds = sym (sets-append (said line b) text out at) ∙ ap (sets out at) (sym split) ∙ l .holds;
+          count = omega (arith, l .count, ap length split, length-append (said line b) rest);
+          holds = sym (sets-append (said line b) rest out at) ∙ ap (sets out at) (sym split) ∙ l .holds;
         })
 
   pub left-end : length piece ≤ i → (line ≡ line-after start piece) × (at ≡ length (replies start piece)) × (out ≡ sets first 0 (replies start piece))

@@ -11,7 +11,7 @@ use Rattle.integers.specs.Division.{floor, modulo}
 use Rattle.integers.specs.Signs.{sgn}
 use Rattle.arith.specs.Naturals.{natural-or}
 use Rattle.calendar.specs.Calendar.{leap, month-length, first-bad, noon-number, day-of-date}
-use Rattle.decimals.specs.Texts.{line-feed}
+use Rattle.decimals.specs.Texts.{text, line-feed}
 use Rattle.decimals.specs.Decimals.{zero-digit, decimal, written}
 use Rattle.decimals.specs.Numerals.{Digits, value, Decimal}
 use Rattle.decimals.proofs.Numbers.{grows}
@@ -128,5 +128,5 @@ every-line l = go (reading (read fresh l)) refl
 -- The two lines of the rules: `1582 10 4` and `1582 10 10` are answered `2299160` and `refused 1`.
 pub two-lines : replies fresh example-lines ≡ example-replies
 unfolding replies said after take at-space at-digit reading reply day-text decimal refused sgn natural-or day-of-date first-bad month-length leap noon-number
-    floor modulo greatest
+    floor modulo greatest text
 two-lines = refl

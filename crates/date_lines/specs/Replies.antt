@@ -10,7 +10,7 @@ use Rattle.arith.specs.Naturals.{natural-or}
 use Rattle.calendar.specs.Calendar.{day-of-date}
 use Rattle.calendar.specs.declared.DayAnswer.{DayAnswer}
 use Rattle.calendar.specs.declared.DayAnswer.the-variants.{Day, NoDay}
-use Rattle.decimals.specs.Texts.{line-feed}
+use Rattle.decimals.specs.Texts.{text, line-feed}
 use Rattle.decimals.specs.Decimals.{most-digits, decimal}
 use Rattle.date_lines.specs.Lines.{fault-empty, fault-byte, fault-space, fault-large, fault-few, fresh, take, reading}
 use Rattle.date_lines.specs.declared.Progress.{Progress}
@@ -20,26 +20,26 @@ use Rattle.date_lines.specs.declared.reader.Reading.the-variants.{Three,
 
 -- `refused 1` and a line feed: a date to its day number is never refused otherwise.
 unfoldable pub refused : List ℕ
-refused = 114 ∷ 101 ∷ 102 ∷ 117 ∷ 115 ∷ 101 ∷ 100 ∷ 32 ∷ 49 ∷ 10 ∷ []
+refused = text "refused 1" ++ (line-feed ∷ [])
 
 -- A day number, or that there is none.
 unfoldable pub day-text : DayAnswer → List ℕ
 day-text (Day n) = decimal most-digits (natural-or n 0) ++ (line-feed ∷ [])
 day-text (NoDay r) = refused
 
--- What is wrong with a line, and a line feed: `empty`, `byte`, `space`, `too large`, `too few` or `too many`.
+-- What is wrong with a line.
 unfoldable pub fault-words : ℕ → List ℕ
 fault-words f =
-    cond (eqb f fault-empty) (101 ∷ 109 ∷ 112 ∷ 116 ∷ 121 ∷ 10 ∷ [])
-    (cond (eqb f fault-byte) (98 ∷ 121 ∷ 116 ∷ 101 ∷ 10 ∷ [])
-    (cond (eqb f fault-space) (115 ∷ 112 ∷ 97 ∷ 99 ∷ 101 ∷ 10 ∷ [])
-    (cond (eqb f fault-large) (116 ∷ 111 ∷ 111 ∷ 32 ∷ 108 ∷ 97 ∷ 114 ∷ 103 ∷ 101 ∷ 10 ∷ [])
-    (cond (eqb f fault-few) (116 ∷ 111 ∷ 111 ∷ 32 ∷ 102 ∷ 101 ∷ 119 ∷ 10 ∷ [])
-    (116 ∷ 111 ∷ 111 ∷ 32 ∷ 109 ∷ 97 ∷ 110 ∷ 121 ∷ 10 ∷ [])))))
+    cond (eqb f fault-empty) (text "empty")
+    (cond (eqb f fault-byte) (text "byte")
+    (cond (eqb f fault-space) (text "space")
+    (cond (eqb f fault-large) (text "too large")
+    (cond (eqb f fault-few) (text "too few")
+    (text "too many")))))
 
--- The same after `bad line: `.
+-- The line that says so.
 unfoldable pub fault-text : ℕ → List ℕ
-fault-text f = 98 ∷ 97 ∷ 100 ∷ 32 ∷ 108 ∷ 105 ∷ 110 ∷ 101 ∷ 58 ∷ 32 ∷ fault-words f
+fault-text f = text "bad line: " ++ (fault-words f ++ (line-feed ∷ []))
 
 -- The reply to a line.
 unfoldable pub reply : Reading → List ℕ

@@ -3,7 +3,7 @@ use mathlib.Core.Path.{_≡_}
 use mathlib.Core.List.{List, [], _∷_, _++_}
 use Prim.Native.Nat.{ℕ}
 use lib.IntN.{ℤ}
-use Rattle.decimals.specs.Texts.{line-feed}
+use Rattle.decimals.specs.Texts.{text, line-feed}
 use Rattle.decimals.specs.Numerals.{Numeral}
 use Rattle.date_lines.specs.Lines.{space, greatest}
 use Rattle.date_lines.specs.declared.reader.Reading.{Reading}
@@ -29,13 +29,9 @@ pub data Decided (line : List ℕ) (r : Reading) : Type 0 where
   three : (y m d : ℤ) → ThreeNumbers line y m d → r ≡ Three y m d → Decided line r
   fault : (f : ℕ) → ((y m d : ℤ) → ThreeNumbers line y m d → ⊥) → r ≡ Bad f → Decided line r
 
--- The two lines of the rules, `1582 10 4` and `1582 10 10`, each with its line feed, and their replies, `2299160` and `refused 1`.
+-- The two lines of the rules, and their replies.
 abbrev pub example-lines : List ℕ
-example-lines =
-    49 ∷ 53 ∷ 56 ∷ 50 ∷ 32 ∷ 49 ∷ 48 ∷ 32 ∷ 52 ∷ 10
-    ∷ 49 ∷ 53 ∷ 56 ∷ 50 ∷ 32 ∷ 49 ∷ 48 ∷ 32 ∷ 49 ∷ 48 ∷ 10 ∷ []
+example-lines = text "1582 10 4" ++ (line-feed ∷ (text "1582 10 10" ++ (line-feed ∷ [])))
 
 abbrev pub example-replies : List ℕ
-example-replies =
-    50 ∷ 50 ∷ 57 ∷ 57 ∷ 49 ∷ 54 ∷ 48 ∷ 10
-    ∷ 114 ∷ 101 ∷ 102 ∷ 117 ∷ 115 ∷ 101 ∷ 100 ∷ 32 ∷ 49 ∷ 10 ∷ []
+example-replies = text "2299160" ++ (line-feed ∷ (text "refused 1" ++ (line-feed ∷ [])))

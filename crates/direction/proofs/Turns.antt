@@ -58,11 +58,6 @@ three-turns x (suc n) h =
     ∙ omega (arith, turn-neg 1 (suc n) (negℤ (pos x)), turn-neg 0 x (pos (suc n)), stop 0 (suc n) x (omega arith))
 
 -- ---- the same by the signs and magnitudes that the code has
-above : (x : ℤ) → negative x ≡ true → 0 < natAbs x
-unfolding negative
-above (pos m) e = absurd (subst T (sym e) tt)
-above (negsuc m) e = omega arith
-
 pub by-none : (x y : ℤ) → negative x ≡ false → negative y ≡ false → 0 < natAbs x
     → 0 * quarter-steps + in-quarter (pos (natAbs x)) (pos (natAbs y)) ≡ direction x y
 unfolding negative sgn

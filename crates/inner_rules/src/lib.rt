@@ -1,5 +1,4 @@
 // Inner rules as C functions, for tests alone: no library or program holds this crate. Each takes every number; one past its range counts as 0.
-mod arguments;
 mod terms;
 
 ghost use mathlib.Core.Path.{_≡_};
@@ -15,7 +14,6 @@ ghost use Rattle.nutation.specs.Nutation.{mean-elongation, sun-anomaly, moon-an
 ghost use Rattle.nutation.specs.Nutation.{longitude-nutation, obliquity-nutation, mean-obliquity, nutation-angle, obliquity-angle};
 ghost use Rattle.place.specs.Apparent.{light-time};
 ghost use Rattle.inner_rules.specs.Inner.{held, reach, a-last, b-last, c-last, shown};
-use crate::arguments::arguments_of;
 use crate::terms::figures_of;
 use arith::signed::abs;
 use cosine::cosine;
@@ -24,6 +22,7 @@ use direction::direction_of;
 use direction::latitude_of;
 use nutation::angles_at;
 use nutation::mean_obliquity_at;
+use nutation::moon::arguments_with_turns;
 use nutation::rows::nutation_at;
 use place::light_time::light;
 use rectangular::Sight;
@@ -205,8 +204,14 @@ pub extern "C" fn stephylax_test_arguments(t: i64) -> ArgumentFigures
     ensures { λ r. ⌜ (r .elongation ≡ mean-elongation (held t-limit t)) × (r .sun ≡ sun-anomaly (held t-limit t))
         × (r .moon ≡ moon-anomaly (held t-limit t)) × (r .latitude ≡ latitude-argument (held t-limit t)) × (r .node ≡ moon-node (held t-limit t)) ⌝ }
 {
-    let at = held(t, T_LIMIT);
-    arguments_of(at)
+    let a = arguments_with_turns(held(t, T_LIMIT));
+    ArgumentFigures {
+        elongation: a.elongation,
+        sun: a.sun,
+        moon: a.moon,
+        latitude: a.latitude,
+        node: a.node,
+    }
 }
 
 // The light time of a distance in parts, by its magnitude, in milliseconds.

@@ -6,7 +6,7 @@ use Rattle.integers.specs.Division.{floor, rounded, modulo}
 use Rattle.cosine.specs.Cosine.{q-of, r-of, w-of, y-of, horner, even-part, odd-part, cosine-by, sine-by, working-cosine, working-sine, cosine, sine}
 use Rattle.direction.specs.Angles.{units-angle}
 use Rattle.nutation_table.specs.Table.{rows}
-use Rattle.nutation.specs.Nutation.{polynomial, mean-elongation, sun-anomaly, moon-anomaly, latitude-argument, moon-node, row-sum, row-angle}
+use Rattle.nutation.specs.Nutation.{polynomial, mean-elongation, sun-anomaly, moon-anomaly, latitude-argument, moon-node, row-argument, row-angle}
 use Rattle.nutation.specs.Nutation.{coefficient, longitude-term, obliquity-term, add-up, longitude-nutation, obliquity-nutation, mean-obliquity}
 use Rattle.nutation.specs.Nutation.{true-obliquity, nutation-angle, obliquity-angle}
 
@@ -18,6 +18,6 @@ pub figures : figures-at (pos 157809600000) ∷ figures-at (negℤ (pos 63115200
     ≡ (negℤ (pos 741297) ∷ pos 759608 ∷ pos 8437910693 ∷ pos 8438670301 ∷ negℤ (pos 359390927) ∷ pos 4091182812298 ∷ [])
     ∷ (pos 1568609 ∷ pos 251233 ∷ pos 8530300800 ∷ pos 8530552033 ∷ pos 760483104 ∷ pos 4135728333015 ∷ []) ∷ []
 unfolding figures-at floor rounded modulo q-of r-of w-of y-of horner even-part odd-part cosine-by sine-by working-cosine working-sine cosine sine
-    units-angle rows polynomial mean-elongation sun-anomaly moon-anomaly latitude-argument moon-node row-sum row-angle coefficient longitude-term
+    units-angle rows polynomial mean-elongation sun-anomaly moon-anomaly latitude-argument moon-node row-argument row-angle coefficient longitude-term
     obliquity-term add-up longitude-nutation obliquity-nutation mean-obliquity true-obliquity nutation-angle obliquity-angle
 figures = refl

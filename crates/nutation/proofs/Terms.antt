@@ -1,9 +1,8 @@
--- A row's sum with reduced arguments, its angle, and the sizes of its coefficients and terms. Assumes nothing.
+-- A row's argument, as it is and less whole turns, its angle, and the sizes of its coefficients and terms. Assumes nothing.
 use mathlib.Core.Path.{_≡_, refl, sym, ap, ap₂, _∙_, subst}
 use mathlib.Core.List.{List, [], _∷_}
-use Prim.Native.Nat.{ℕ, _+_, _-_, _*_, _^_, _≤_, _<_}
+use Prim.Native.Nat.{ℕ, _-_, _*_, _^_, _≤_, _<_}
 use native.Mathlib.Omega.{arith}
-use native.Mathlib.Nat.{mul-le-mul}
 use lib.Dec.{lit<, lit≤}
 use lib.IntN.{ℤ, pos, natAbs, _+ℤ_, _*ℤ_}
 use mir.Syntax.{w64}
@@ -13,9 +12,10 @@ use Rattle.integers.specs.Division.{floor, rounded}
 use Rattle.integers.proofs.Pairs.{nonneg}
 use Rattle.integers.proofs.Auto.{ring!, polys}
 use Rattle.integers.proofs.Order.{natAbs-*, natAbs-+, fits}
-use Rattle.integers.proofs.Division.{floor-modulo, modulo-lt, rounded-add}
+use Rattle.integers.proofs.Division.{floor-modulo, rounded-add}
 use Rattle.integers.proofs.Rounding.{rounded-mono, rounded-zero, rounded-scale}
 use Rattle.arith.proofs.Ranges.{scaled-within}
+use Rattle.arith.proofs.Cells.{Cell, cell}
 use Rattle.units.specs.Units.{U, millennium, turn, t-limit}
 use Rattle.cosine.specs.Cosine.{cosine, sine}
 use Rattle.cosine.proofs.WholeTurns.{cosine-turns, sine-turns}
@@ -23,9 +23,9 @@ use Rattle.reference_cosine.proofs.Ranges.{cosine-size, sine-size}
 use Rattle.direction.specs.Angles.{units-angle}
 use Rattle.nutation_table.specs.declared.Row.{Row}
 use Rattle.nutation_table.specs.Table.{psi, psi-rate, eps, eps-rate, times-d, times-m, times-m1, times-f, times-node}
-use Rattle.nutation_table.specs.machine.Small.{figure-limit, rate-limit, multiplier-limit, Small}
+use Rattle.nutation_table.specs.machine.Small.{figure-limit, rate-limit, Small}
 use Rattle.nutation.specs.declared.Arguments.{Arguments}
-use Rattle.nutation.specs.Nutation.{polynomial, argument, mean-elongation, sun-anomaly, moon-anomaly, latitude-argument, moon-node, row-sum}
+use Rattle.nutation.specs.Nutation.{polynomial, argument, mean-elongation, sun-anomaly, moon-anomaly, latitude-argument, moon-node, row-argument}
 use Rattle.nutation.specs.Nutation.{row-angle, argument-turn, coefficient, longitude-term, obliquity-term}
 use Rattle.nutation.specs.machine.Reduced.{century, By, less-turns, At, combined, coefficient-limit}
 use Rattle.nutation.proofs.Polynomials.{polynomial-scale, step-bound}
@@ -37,12 +37,7 @@ by-time t h = record { positive = lit< tt; divisor = lit≤ tt; factor = omega a
 pub argument-is : (t : ℤ) (cs : List ℤ) → polynomial t century cs ≡ argument t cs
 argument-is t cs = sym (polynomial-scale 10 (lit< tt) t century (lit< tt) cs)
 
--- an argument less its turns is small
-less-small : (a : ℤ) → natAbs (less-turns a) ≤ 2 ^ 47
-unfolding less-turns
-less-small a = let h = modulo-lt a argument-turn (lit< tt) in omega arith
-
--- ---- the row's sum
+-- ---- the row's argument
 sum-split : (D a b c d e qa qb qc qd qe ra rb rc rd re A B C E F : ℤ) → D *ℤ qa +ℤ ra ≡ A → D *ℤ qb +ℤ rb ≡ B → D *ℤ qc +ℤ rc ≡ C → D *ℤ qd +ℤ rd ≡ E
     → D *ℤ qe +ℤ re ≡ F
     → D *ℤ (a *ℤ qa +ℤ b *ℤ qb +ℤ c *ℤ qc +ℤ d *ℤ qd +ℤ e *ℤ qe) +ℤ (a *ℤ ra +ℤ b *ℤ rb +ℤ c *ℤ rc +ℤ d *ℤ rd +ℤ e *ℤ re)
@@ -68,8 +63,8 @@ whole-turns t r = times-d r *ℤ floor (mean-elongation t) argument-turn +ℤ ti
     +ℤ times-m1 r *ℤ floor (moon-anomaly t) argument-turn +ℤ times-f r *ℤ floor (latitude-argument t) argument-turn +ℤ times-node r *ℤ floor (moon-node t)
     argument-turn
 
-sum-turns : (t : ℤ) (r : Row) → pos argument-turn *ℤ whole-turns t r +ℤ reduced-sum t r ≡ row-sum t r
-unfolding row-sum reduced-sum whole-turns less-turns
+sum-turns : (t : ℤ) (r : Row) → pos argument-turn *ℤ whole-turns t r +ℤ reduced-sum t r ≡ row-argument t r
+unfolding row-argument reduced-sum whole-turns less-turns
 sum-turns t r =
     let d = argument-turn in
     sum-split (pos d) (times-d r) (times-m r) (times-m1 r) (times-f r) (times-node r) _ _ _ _ _ _ _ _ _ _ _ _ _ _ _
@@ -92,12 +87,12 @@ sine-left k m s e = sym (ap (λ z. sine (units-angle argument-turn z)) (sym e) �
 pub cosine-row : (t : ℤ) (r : Row) (a : Arguments) (s c : ℤ) → At t a → s ≡ combined r a → c ≡ cosine (units-angle argument-turn s) → c ≡ cosine (row-angle t r)
 unfolding row-angle
 cosine-row t r a s c h e f = f ∙ ap (λ z. cosine (units-angle argument-turn z)) (e ∙ combined-is t r a h)
-    ∙ cosine-left (whole-turns t r) (reduced-sum t r) (row-sum t r) (sum-turns t r)
+    ∙ cosine-left (whole-turns t r) (reduced-sum t r) (row-argument t r) (sum-turns t r)
 
 pub sine-row : (t : ℤ) (r : Row) (a : Arguments) (s c : ℤ) → At t a → s ≡ combined r a → c ≡ sine (units-angle argument-turn s) → c ≡ sine (row-angle t r)
 unfolding row-angle
 sine-row t r a s c h e f = f ∙ ap (λ z. sine (units-angle argument-turn z)) (e ∙ combined-is t r a h)
-    ∙ sine-left (whole-turns t r) (reduced-sum t r) (row-sum t r) (sum-turns t r)
+    ∙ sine-left (whole-turns t r) (reduced-sum t r) (row-argument t r) (sum-turns t r)
 
 -- the angle of a remainder is not negative, and small enough to be worked out
 pub left-room : (m : ℕ) → m < argument-turn → m * turn < argument-turn * (2 ^ 63 - 1)
@@ -145,33 +140,8 @@ obliquity-small t r h k = term-small (coefficient t (eps r) (eps-rate r)) (cosin
 pub same-small : (z w : ℤ) (k : ℕ) → z ≡ w → natAbs w ≤ k → natAbs z ≤ k
 same-small z w k e h = subst (λ t. natAbs t ≤ k) (sym e) h
 
-pub product-small : (m a : ℤ) → natAbs m ≤ multiplier-limit → natAbs a ≤ 2 ^ 47 → natAbs (m *ℤ a) ≤ 2 ^ 49
-product-small m a h k = subst (λ (n : ℕ). n ≤ 2 ^ 49) (sym (natAbs-* m a)) (mul-le-mul h k)
-
 pub sum-fits : (a b : ℤ) → natAbs a ≤ 2 ^ 60 → natAbs b ≤ 2 ^ 60 → SFits w64 (a +ℤ b)
 sum-fits a b h k = fits (a +ℤ b) (omega (arith, natAbs-+ a b))
 
-pub sum-small : (s m a r : ℤ) → natAbs m ≤ multiplier-limit → natAbs a ≤ 2 ^ 47 → r ≡ s +ℤ m *ℤ a → natAbs r ≤ natAbs s + 2 ^ 49
-sum-small s m a r h k e = subst (λ t. natAbs t ≤ natAbs s + 2 ^ 49) (sym e) (omega (arith, natAbs-+ s (m *ℤ a), product-small m a h k))
-
-pub at-small : (t : ℤ) (a : Arguments) → At t a → (natAbs (a .elongation) ≤ 2 ^ 47) × (natAbs (a .sun) ≤ 2 ^ 47) × (natAbs (a .moon) ≤ 2 ^ 47)
-    × (natAbs (a .latitude) ≤ 2 ^ 47) × (natAbs (a .node) ≤ 2 ^ 47)
-at-small t a h = (
-  same-small _ _ _ (h .elongation-at) (less-small _),
-  same-small _ _ _ (h .sun-at) (less-small _),
-  same-small _ _ _ (h .moon-at) (less-small _),
-  same-small _ _ _ (h .latitude-at) (less-small _),
-  same-small _ _ _ (h .node-at) (less-small _),
-)
-
-pub combined-from : (r : Row) (a : Arguments) (s1 s2 s3 s4 s5 : ℤ) → s1 ≡ pos 0 +ℤ times-d r *ℤ a .elongation → s2 ≡ s1 +ℤ times-m r *ℤ a .sun
-    → s3 ≡ s2 +ℤ times-m1 r *ℤ a .moon → s4 ≡ s3 +ℤ times-f r *ℤ a .latitude → s5 ≡ s4 +ℤ times-node r *ℤ a .node → s5 ≡ combined r a
-unfolding combined
-combined-from r a s1 s2 s3 s4 s5 e1 e2 e3 e4 e5 =
-    e5
-    ∙ ap (λ z. z +ℤ times-node r *ℤ a .node)
-    (e4 ∙ ap (λ z. z +ℤ times-f r *ℤ a .latitude)
-    (e3 ∙ ap (λ z. z +ℤ times-m1 r *ℤ a .moon) (e2 ∙ ap (λ z. z +ℤ times-m r *ℤ a .sun) (e1 ∙ zero-left (times-d r *ℤ a .elongation)))))
-  where
-    zero-left : (z : ℤ) → pos 0 +ℤ z ≡ z
-    zero-left z = ring! (z ∷ []) (search polys depth 60 fits 100000) tt
+pub kept : (z : ℤ) (k : ℕ) → k < 2 ^ 63 → natAbs z ≤ k → Cell z ≡ z
+kept z k l h = cell z (omega arith)

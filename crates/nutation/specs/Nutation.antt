@@ -58,8 +58,8 @@ unfoldable pub moon-node : ℤ → ℤ
 moon-node t = argument t node-coefficients
 
 -- s of a row: the arguments, each times the row's multiplier, added.
-unfoldable pub row-sum : ℤ → Row → ℤ
-row-sum t r =
+unfoldable pub row-argument : ℤ → Row → ℤ
+row-argument t r =
     times-d r *ℤ mean-elongation t +ℤ times-m r *ℤ sun-anomaly t +ℤ times-m1 r *ℤ moon-anomaly t +ℤ times-f r *ℤ latitude-argument t
     +ℤ times-node r *ℤ moon-node t
 
@@ -71,7 +71,7 @@ abbrev pub sum-turn : ℕ
 sum-turn = 360 * 3600 * 100000
 
 unfoldable pub row-angle : ℤ → Row → ℤ
-row-angle t r = units-angle argument-turn (row-sum t r)
+row-angle t r = units-angle argument-turn (row-argument t r)
 
 -- A coefficient in 10^-5 arcsecond, from a figure in 10^-4 and its rate a century.
 unfoldable pub coefficient : ℤ → ℤ → ℤ → ℤ

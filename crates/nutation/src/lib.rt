@@ -1,6 +1,6 @@
 // Nutation and obliquity at an instant: RULES, "Places".
 pub mod moon;
-pub mod polynomial;
+mod polynomial;
 pub mod rows;
 
 ghost use mathlib.Core.Path.{_≡_};
@@ -15,7 +15,7 @@ use direction::units_angle;
 use units::MILLENNIUM;
 
 // A century in milliseconds: by t over it is by 10t/T.
-pub const CENTURY: u64 = MILLENNIUM / 10;
+const CENTURY: u64 = MILLENNIUM / 10;
 
 // The units in a turn, 10^-8 arcsecond for the arguments and 10^-5 for the sums.
 const ARGUMENT_TURN: u64 = 360 * 3600 * 100000000;
@@ -25,7 +25,7 @@ const SUM_TURN: u64 = 360 * 3600 * 100000;
 // The coefficients of the mean obliquity, from the constant one up.
 const OBLIQUITY: [i64; 4] = [8438144800, -46815000, -5900, 181300];
 
-// D, M, M', F and the longitude of the node, each less its whole turns, in 10^-8 arcsecond.
+// D, M, M', F and the longitude of the node, in 10^-8 arcsecond.
 pub struct Arguments {
     pub elongation: i64,
     pub sun: i64,

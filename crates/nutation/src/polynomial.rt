@@ -1,4 +1,4 @@
-// Polynomials in the time, highest power first, each product rounded: RULES, "Places". For this crate, and for the tests of inner rules.
+// Polynomials in the time, highest power first, each product rounded: RULES, "Places". For this crate alone.
 ghost use mathlib.Core.Path.{_≡_};
 ghost use Prim.Native.Nat.{_+_, _-_, _*_, _<_, _^_};
 ghost use lib.IntN.{natAbs, _+ℤ_, _*ℤ_};

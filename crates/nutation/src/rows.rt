@@ -2,11 +2,12 @@
 ghost use mathlib.Core.Path.{_≡_};
 ghost use Prim.Native.Nat.{_+_, _*_, _<_, _≤_, _^_};
 ghost use lib.IntN.{natAbs, _+ℤ_, _*ℤ_};
-ghost use Rattle.units.specs.Units.{t-limit};
+ghost use Rattle.integers.specs.Division.{rounded};
+ghost use Rattle.units.specs.Units.{U, t-limit};
 ghost use Rattle.cosine.specs.Cosine.{cosine, sine};
 ghost use Rattle.direction.specs.Angles.{units-angle};
 ghost use Rattle.nutation_table.specs.machine.Small.{figure-limit, rate-limit, multiplier-limit, Small};
-ghost use Rattle.nutation.specs.Nutation.{argument-turn, coefficient, longitude-term, obliquity-term};
+ghost use Rattle.nutation.specs.Nutation.{argument-turn, row-angle, coefficient, longitude-term, obliquity-term};
 ghost use Rattle.nutation.specs.machine.Reduced.{At, NutationAt, combined, coefficient-limit, sum-limit};
 use crate::ARGUMENT_TURN;
 use crate::Arguments;
@@ -36,7 +37,7 @@ fn plus_product(s: i64, m: i64, a: i64) -> i64
 }
 
 // The row's s, with the arguments less their whole turns.
-fn row_sum(t: i64, r: Row, a: Arguments) -> i64
+fn row_argument(t: i64, r: Row, a: Arguments) -> i64
     requires { ⌜ Small r × At t a ⌝ }
     ensures { λ s. ⌜ s ≡ combined r a ⌝ }
 {
@@ -63,17 +64,43 @@ fn coefficient_at(t: i64, first: i64, rate: i64) -> i64
     next(mul(10, first), rate, t, CENTURY)
 }
 
+// Cosine and sine of the row's angle.
+fn row_trig(t: i64, r: Row, a: Arguments) -> Trig
+    requires { ⌜ Small r × At t a ⌝ }
+    ensures { λ w. ⌜ (w .cos ≡ cosine (row-angle t r)) × (w .sin ≡ sine (row-angle t r)) ⌝ }
+{
+    trig_of(row_argument(t, r, a))
+}
+
+// One term: a coefficient times a cosine or a sine w.
+fn term(t: i64, first: i64, rate: i64, w: i64) -> i64
+    requires { ⌜ (natAbs t ≤ t-limit) × (natAbs first ≤ figure-limit) × (natAbs rate ≤ rate-limit) × (natAbs w ≤ U) ⌝ }
+    ensures { λ r. ⌜ r ≡ rounded (coefficient t first rate *ℤ w) U ⌝ }
+{
+    scale(coefficient_at(t, first, rate), w)
+}
+
+// The row's terms, in longitude and in obliquity.
+fn row_terms(t: i64, r: Row, a: Arguments) -> Nutation
+    requires { ⌜ (natAbs t ≤ t-limit) × Small r × At t a ⌝ }
+    ensures { λ n. ⌜ (n .longitude ≡ longitude-term t r) × (n .obliquity ≡ obliquity-term t r) ⌝ }
+{
+    let w = row_trig(t, r, a);
+    Nutation {
+        longitude: term(t, r.0, r.1, w.sin),
+        obliquity: term(t, r.2, r.3, w.cos),
+    }
+}
+
 // The sums with a row's terms added.
 fn add_row(sum: Nutation, t: i64, r: Row, a: Arguments) -> Nutation
     requires { ⌜ (natAbs t ≤ t-limit) × Small r × At t a × (natAbs (sum .longitude) ≤ sum-limit) × (natAbs (sum .obliquity) ≤ sum-limit) ⌝ }
     ensures { λ n. ⌜ (n .longitude ≡ sum .longitude +ℤ longitude-term t r) × (n .obliquity ≡ sum .obliquity +ℤ obliquity-term t r) ⌝ }
 {
-    let w = trig_of(row_sum(t, r, a));
-    let psi = scale(coefficient_at(t, r.0, r.1), w.sin);
-    let eps = scale(coefficient_at(t, r.2, r.3), w.cos);
+    let n = row_terms(t, r, a);
     Nutation {
-        longitude: add(sum.longitude, psi),
-        obliquity: add(sum.obliquity, eps),
+        longitude: add(sum.longitude, n.longitude),
+        obliquity: add(sum.obliquity, n.obliquity),
     }
 }
 

@@ -2,7 +2,7 @@
 use mathlib.Core.Path.{_≡_, refl, ap}
 use mathlib.Core.Bool.{Bool, true, false}
 use mathlib.Core.List.{List, [], _∷_}
-use Prim.Native.Nat.{ℕ, zero, suc, _+_, _*_, _/_, _-_, _^_, _≤_, _<_}
+use Prim.Native.Nat.{ℕ, zero, suc, _+_, _*_, _-_, _^_, _≤_, _<_}
 use native.Mathlib.Nat.{pow-succ', mul-le-mul-right}
 use native.Mathlib.Numerals.{add-one}
 use native.Mathlib.Decide.{decLe, ℕ-discrete}
@@ -14,43 +14,15 @@ use Rattle.units.specs.declared.Refusal.{Refusal}
 use Rattle.units.specs.declared.Refusal.the-variants.{OverLimit, TotalOverLimit, TooCoarse}
 use Rattle.units.specs.declared.Refusal.the-variants.{EndedEarly, NotShortest}
 use Rattle.units.specs.Units.{a-limit, b-limit, c-limit, series-limit, block-count}
-use Rattle.packed_numbers.specs.Numbers.{Read, got, bad, next, closed, groups-from, number, groups, encode, folded, unfolded}
-use Rattle.packed_numbers.proofs.Folding.{folded-natAbs, natAbs-unfolded}
+use Rattle.packed_numbers.specs.Numbers.{Read, got, bad, next, closed, groups-from, number, unfolded}
+use Rattle.packed_numbers.proofs.Folding.{natAbs-unfolded}
 use Rattle.limits.specs.declared.Term.{Term}
 use Rattle.limits.specs.declared.Tally.{Tally}
-use Rattle.limits.specs.Allowed.{TermFits}
 use Rattle.limits.specs.Limits.{no-tally, opened, added, after-block, factor, count-fits, a-fits, b-fits, c-fits, total-fits, coarse-fits}
 use Rattle.limits.proofs.Passing.{count-passed}
 use Rattle.packed.specs.Series.{judged, read-a, read-b, read-c, read-term, read-terms, read-block, read-blocks, read-series}
-use Rattle.packed_promises.specs.Bounds.{a-bytes, b-bytes, c-bytes, count-bytes, term-bytes, packed-limit, early-limit, ShortTerm}
+use Rattle.packed_promises.specs.Bounds.{a-bytes, b-bytes, c-bytes, count-bytes, term-bytes, packed-limit, early-limit}
 use Rattle.packed.proofs.Blocks.{block-sums}
-
--- A number below a power of 128 has so many groups.
-groups-few : (f n v : ℕ) → v < 128 ^ suc n → length (groups f v) ≤ suc n
-unfolding groups
-groups-few zero n v h = omega arith
-groups-few (suc f) n v h = go (λ n. groups-few f n (v / 128)) (decLe 128 v) n h
-  where
-    go : ((n : ℕ) → v / 128 < 128 ^ suc n → length (groups f (v / 128)) ≤ suc n)
-        → Dec (128 ≤ v) → (n : ℕ) → v < 128 ^ suc n → length (groups (suc f) v) ≤ suc n
-    go r (no l) n h = let u : v < 128 = omega (arith, l) in rw (lt-ltb v 128 u) (omega arith)
-    go r (yes l) zero h = absurd (omega arith)
-    go r (yes l) (suc n) h =
-        let i = r n (omega (arith, pow-succ' 128 (suc n))) in
-        rw (le-ltb v 128 l) (omega arith)
-
-encode-few : (n v : ℕ) → v < 128 ^ suc n → length (encode v) ≤ suc n
-unfolding encode
-encode-few n v h = groups-few 10 n v h
-
--- Each number of a term within its limits.
-pub term-short : (t : Term) → TermFits t → ShortTerm t
-term-short t g =
-    record {
-      a = encode-few (a-bytes - 1) (folded (t .a)) (omega (arith, g .a-below, folded-natAbs (t .a)));
-      b = encode-few (b-bytes - 1) (t .b) (omega (arith, g .b-below));
-      c = encode-few (c-bytes - 1) (folded (t .c)) (omega (arith, g .c-below, folded-natAbs (t .c)));
-    }
 
 -- A reader that has read a value and come to an offset of which P holds, or a refusal that is 8 at most so far on.
 pub data Bounded {A : Type 0} (P : A → ℕ → Type 0) (most : ℕ) : Read A → Type 0 where

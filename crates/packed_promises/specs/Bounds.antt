@@ -1,13 +1,12 @@
 -- RULES, "Series, as text and packed" and "Refusals and what they leave": where packed bytes are refused, and how many of them a series may have.
 use mathlib.Core.Path.{_≡_}
 use mathlib.Core.List.{List}
-use Prim.Native.Nat.{ℕ, _+_, _*_, _-_, _≤_, _<_}
+use Prim.Native.Nat.{ℕ, _+_, _*_, _-_, _<_}
 use lib.ListN.{length}
 use Rattle.units.specs.declared.Refusal.{Refusal}
 use Rattle.units.specs.declared.Refusal.the-variants.{OverLimit, TotalOverLimit, TooCoarse, EndedEarly, ByteAfterEnd, NotShortest}
 use Rattle.units.specs.Units.{series-limit, block-count}
-use Rattle.packed_numbers.specs.Numbers.{group-limit, encode, folded}
-use Rattle.limits.specs.declared.Term.{Term}
+use Rattle.packed_numbers.specs.Numbers.{group-limit}
 
 -- What the figure of a refusal of packed bytes is: with one the number of the bytes, with the others the offset of one of them. There is no other.
 pub data Where (bytes : List ℕ) : Refusal → Type 0 where
@@ -33,11 +32,6 @@ count-bytes = 2
 
 abbrev pub term-bytes : ℕ
 term-bytes = a-bytes + b-bytes + c-bytes
-
-pub record ShortTerm (t : Term) : Type 0 where
-  pub a : length (encode (folded (t .a))) ≤ a-bytes
-  pub b : length (encode (t .b)) ≤ b-bytes
-  pub c : length (encode (folded (t .c))) ≤ c-bytes
 
 -- An accepted series has at most so many bytes.
 abbrev pub packed-limit : ℕ

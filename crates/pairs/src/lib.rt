@@ -64,7 +64,7 @@ fn step_pair(y: Pair, h: Pair, d: u64) -> Pair
     }
 }
 
-fn even_series_pair(y: Pair) -> Pair
+fn horner_evens_pair(y: Pair) -> Pair
     requires { ⌜ (y .one ≤ y-limit) × (y .two ≤ y-limit) ⌝ }
     ensures { λ r. ⌜ (pos (r .one) ≡ horner (pos (y .one)) evens) × (pos (r .two) ≡ horner (pos (y .two)) evens) × (r .one ≤ U) × (r .two ≤ U) ⌝ }
 {
@@ -76,7 +76,7 @@ fn even_series_pair(y: Pair) -> Pair
     step_pair(y, h2, EVEN_1)
 }
 
-fn odd_series_pair(y: Pair) -> Pair
+fn horner_odds_pair(y: Pair) -> Pair
     requires { ⌜ (y .one ≤ y-limit) × (y .two ≤ y-limit) ⌝ }
     ensures { λ r. ⌜ (pos (r .one) ≡ horner (pos (y .one)) odds) × (pos (r .two) ≡ horner (pos (y .two)) odds) × (r .one ≤ U) × (r .two ≤ U) ⌝ }
 {
@@ -94,7 +94,7 @@ fn even_pair(v: Pair) -> Pair
     ensures { λ r. ⌜ (pos (r .one) ≡ pos U +ℤ even-part (pos (v .one) -ℤ pos U)) × (pos (r .two) ≡ pos U +ℤ even-part (pos (v .two) -ℤ pos U))
         × (r .one ≤ 2 * U) × (r .two ≤ 2 * U) ⌝ }
 {
-    let h = even_series_pair(square_pair(v));
+    let h = horner_evens_pair(square_pair(v));
     Pair {
         one: U + h.one,
         two: U + h.two,
@@ -115,7 +115,7 @@ fn odd_pair(v: Pair) -> Pair
     ensures { λ r. ⌜ (pos (r .one) ≡ pos U -ℤ odd-part (pos (v .one) -ℤ pos U)) × (pos (r .two) ≡ pos U -ℤ odd-part (pos (v .two) -ℤ pos U))
         × (r .one ≤ 2 * U) × (r .two ≤ 2 * U) ⌝ }
 {
-    let h = odd_series_pair(square_pair(v));
+    let h = horner_odds_pair(square_pair(v));
     Pair {
         one: odd_lifted(v.one, h.one),
         two: odd_lifted(v.two, h.two),

@@ -1,23 +1,22 @@
--- A vector to-equator to the true equator, as the code works it, and its size. Assumes nothing.
-use mathlib.Core.Path.{_≡_, sym, ap₂, _∙_, subst}
+-- A vector turned to the true equator, as the code works it, and its size. Assumes nothing.
+use mathlib.Core.Path.{_≡_, sym, _∙_, subst}
 use Prim.Native.Nat.{ℕ, _+_, _^_, _≤_, _<_}
 use native.Mathlib.Omega.{arith}
 use native.Mathlib.Nat.{le-trans}
+use lib.Dec.{lit<}
 use lib.IntN.{ℤ, pos, natAbs, _+ℤ_, _-ℤ_, _*ℤ_}
-use mir.Syntax.{w64}
-use mir.Val.{SFits}
 use Rattle.integers.specs.Division.{rounded}
-use Rattle.integers.proofs.Order.{natAbs-sub, natAbs-+, fits}
+use Rattle.integers.proofs.Order.{natAbs-sub, natAbs-+}
 use Rattle.units.specs.Units.{U}
 use Rattle.cosine.specs.Cosine.{cosine, sine}
 use Rattle.rectangular.specs.declared.Vector.{Vector}
 use Rattle.rectangular.specs.machine.Components.{Components}
-use Rattle.arith.proofs.Cells.{Cell, cell}
+use Rattle.arith.proofs.Cells.{Cell, cell, held-le}
 use Rattle.reference_cosine.proofs.Ranges.{cosine-size, sine-size}
 use Rattle.rectangular.proofs.Places.{scaled-size, three}
 use Rattle.place.specs.Apparent.{to-equator}
 
--- Each to-equator component is at most the sum of two.
+-- Each turned component is at most the sum of two.
 pub equator-size : (k : ℕ) (e : ℤ) (v : Vector) → Components k v → Components (k + k) (to-equator e v)
 unfolding to-equator
 equator-size k e v h =
@@ -31,55 +30,39 @@ equator-size k e v h =
       z-in = (let s = natAbs-+ (rounded (v .y *ℤ sine e) U) (rounded (v .z *ℤ cosine e) U) in omega arith);
     }
 
--- One product by a cosine or a sine f.
-product-in : (x f : ℤ) → natAbs x ≤ 2 ^ 61 → natAbs f ≤ U → natAbs (rounded (x *ℤ f) U) ≤ 2 ^ 61
-product-in x f h g = le-trans (scaled-size x f g) h
+-- The two products that y and z are made of, by a cosine and a sine, and their difference and sum.
+module _ (y z c s : ℤ) (y-in : natAbs y ≤ 2 ^ 61) (z-in : natAbs z ≤ 2 ^ 61) (c-in : natAbs c ≤ U) (s-in : natAbs s ≤ U) where
+  pub difference-small : natAbs (rounded (y *ℤ c) U -ℤ rounded (z *ℤ s) U) < 2 ^ 63
+  difference-small =
+      omega (arith, natAbs-sub (rounded (y *ℤ c) U) (rounded (z *ℤ s) U), le-trans (scaled-size y c c-in) y-in, le-trans (scaled-size z s s-in) z-in)
 
-product-is : (x f g w : ℤ) → natAbs x ≤ 2 ^ 61 → natAbs g ≤ U → f ≡ g → w ≡ rounded (Cell x *ℤ Cell f) U → Cell w ≡ rounded (x *ℤ g) U
-product-is x f g w h l e p =
-    let q : w ≡ rounded (x *ℤ g) U = p ∙ ap₂ (λ (s t : ℤ). rounded (s *ℤ t) U) (cell x (omega arith))
-    (cell f (subst (λ (t : ℤ). natAbs t < 2 ^ 63) (sym e) (omega arith)) ∙ e) in
-    cell w (subst (λ (t : ℤ). natAbs t < 2 ^ 63) (sym q) (let k = product-in x g h l in omega arith)) ∙ q
+  pub sum-small : natAbs (rounded (y *ℤ s) U +ℤ rounded (z *ℤ c) U) < 2 ^ 63
+  sum-small =
+      omega (arith, natAbs-+ (rounded (y *ℤ s) U) (rounded (z *ℤ c) U), le-trans (scaled-size y s s-in) y-in, le-trans (scaled-size z c c-in) z-in)
 
-module _ (v : Vector) (h : Components (2 ^ 61) v) (e : ℕ) (c s : ℤ) (pc : c ≡ cosine (pos e)) (ps : s ≡ sine (pos e)) (yc ys zc zs : ℤ) where
-  module _ (eyc : yc ≡ rounded (Cell (v .y) *ℤ Cell c) U) (eys : ys ≡ rounded (Cell (v .y) *ℤ Cell s) U) (ezc : zc ≡ rounded (Cell (v .z) *ℤ Cell c) U)
-      (ezs : zs ≡ rounded (Cell (v .z) *ℤ Cell s) U) where
-    y-is : Cell yc -ℤ Cell zs ≡ rounded (v .y *ℤ cosine (pos e)) U -ℤ rounded (v .z *ℤ sine (pos e)) U
-    y-is =
-        ap₂ _-ℤ_ (product-is (v .y) c (cosine (pos e)) yc (h .y-in) (cosine-size (pos e)) pc eyc)
-        (product-is (v .z) s (sine (pos e)) zs (h .z-in) (sine-size (pos e)) ps ezs)
+-- A vector's numbers and a cosine c and a sine s, as they are handed on.
+module _ (v : Vector) (h : Components (2 ^ 61) v) (e : ℕ) (c s : ℤ) (pc : c ≡ cosine (pos e)) (ps : s ≡ sine (pos e)) where
+  c-in : natAbs c ≤ U
+  c-in = subst (λ (t : ℤ). natAbs t ≤ U) (sym pc) (cosine-size (pos e))
 
-    z-is : Cell ys +ℤ Cell zc ≡ rounded (v .y *ℤ sine (pos e)) U +ℤ rounded (v .z *ℤ cosine (pos e)) U
-    z-is =
-        ap₂ _+ℤ_ (product-is (v .y) s (sine (pos e)) ys (h .y-in) (sine-size (pos e)) ps eys)
-        (product-is (v .z) c (cosine (pos e)) zc (h .z-in) (cosine-size (pos e)) pc ezc)
+  s-in : natAbs s ≤ U
+  s-in = subst (λ (t : ℤ). natAbs t ≤ U) (sym ps) (sine-size (pos e))
 
-    y-in-range : natAbs (rounded (v .y *ℤ cosine (pos e)) U -ℤ rounded (v .z *ℤ sine (pos e)) U) < 2 ^ 63
-    y-in-range =
-        let a = product-in (v .y) (cosine (pos e)) (h .y-in) (cosine-size (pos e)) in
-        let b = product-in (v .z) (sine (pos e)) (h .z-in) (sine-size (pos e)) in
-        let d = natAbs-sub (rounded (v .y *ℤ cosine (pos e)) U) (rounded (v .z *ℤ sine (pos e)) U) in
-        omega arith
+  pub turned-asks : (natAbs (Cell (v .y)) ≤ 2 ^ 61) × (natAbs (Cell (v .z)) ≤ 2 ^ 61) × (natAbs (Cell c) ≤ U) × (natAbs (Cell s) ≤ U)
+  turned-asks = (held-le (v .y) _ (lit< tt) (h .y-in), held-le (v .z) _ (lit< tt) (h .z-in), held-le c U (lit< tt) c-in, held-le s U (lit< tt) s-in)
 
-    z-in-range : natAbs (rounded (v .y *ℤ sine (pos e)) U +ℤ rounded (v .z *ℤ cosine (pos e)) U) < 2 ^ 63
-    z-in-range =
-        let a = product-in (v .y) (sine (pos e)) (h .y-in) (sine-size (pos e)) in
-        let b = product-in (v .z) (cosine (pos e)) (h .z-in) (cosine-size (pos e)) in
-        let d = natAbs-+ (rounded (v .y *ℤ sine (pos e)) U) (rounded (v .z *ℤ cosine (pos e)) U) in
-        omega arith
-
-    pub y-asks : SFits w64 (Cell yc -ℤ Cell zs)
-    y-asks = subst (SFits w64) (sym y-is) (fits _ y-in-range)
-
-    pub z-asks : SFits w64 (Cell ys +ℤ Cell zc)
-    z-asks = subst (SFits w64) (sym z-is) (fits _ z-in-range)
-
-    pub to-equator-is : (y z : ℤ) → y ≡ Cell yc -ℤ Cell zs → z ≡ Cell ys +ℤ Cell zc
-        → _≡_ {A = Vector} (record { x = Cell (v .x); y = Cell y; z = Cell z }) (to-equator (pos e) v)
-    unfolding to-equator
-    to-equator-is y z ey ez =
-        let p = ey ∙ y-is in
-        let q = ez ∙ z-is in
-        three (cell (v .x) (let a = h .x-in in omega arith))
-        (cell y (subst (λ (t : ℤ). natAbs t < 2 ^ 63) (sym p) y-in-range) ∙ p)
-        (cell z (subst (λ (t : ℤ). natAbs t < 2 ^ 63) (sym q) z-in-range) ∙ q)
+  pub to-equator-is : (y z : ℤ) → y ≡ rounded (Cell (v .y) *ℤ Cell c) U -ℤ rounded (Cell (v .z) *ℤ Cell s) U
+      → z ≡ rounded (Cell (v .y) *ℤ Cell s) U +ℤ rounded (Cell (v .z) *ℤ Cell c) U
+      → _≡_ {A = Vector} (record { x = Cell (v .x); y = Cell y; z = Cell z }) (to-equator (pos e) v)
+  unfolding to-equator
+  to-equator-is y z ey ez =
+      let vy = cell (v .y) (let a = h .y-in in omega arith) in
+      let vz = cell (v .z) (let a = h .z-in in omega arith) in
+      let cc = cell c (let a = c-in in omega arith) in
+      let cs = cell s (let a = s-in in omega arith) in
+      let p = rw (vy, vz, cc, cs) at ey in
+      let q = rw (vy, vz, cc, cs) at ez in
+      rw (← pc, ← ps)
+      (three (cell (v .x) (let a = h .x-in in omega arith))
+      (cell y (subst (λ (t : ℤ). natAbs t < 2 ^ 63) (sym p) (difference-small (v .y) (v .z) c s (h .y-in) (h .z-in) c-in s-in)) ∙ p)
+      (cell z (subst (λ (t : ℤ). natAbs t < 2 ^ 63) (sym q) (sum-small (v .y) (v .z) c s (h .y-in) (h .z-in) c-in s-in)) ∙ q))

@@ -1,10 +1,10 @@
 // The steps to an apparent place. For this crate alone.
 ghost use mathlib.Core.Path.{_≡_};
 ghost use Prim.Native.Nat.{_<_, _≤_, _^_};
-ghost use lib.IntN.{pos, natAbs};
+ghost use lib.IntN.{pos, natAbs, _+ℤ_, _-ℤ_, _*ℤ_};
 ghost use Rattle.rectangular.specs.machine.Components.{Components};
-ghost use Rattle.integers.specs.Division.{modulo};
-ghost use Rattle.units.specs.Units.{turn, t-limit};
+ghost use Rattle.integers.specs.Division.{modulo, rounded};
+ghost use Rattle.units.specs.Units.{U, turn, t-limit};
 ghost use Rattle.direction.specs.Direction.{turn-steps, steps-angle};
 ghost use Rattle.place.specs.Apparent.{earlier as earlier-of, rebuilt, to-equator as to-equator-of, apparent as apparent-of};
 ghost use Rattle.place.specs.Apparent.{equatorial as equatorial-of};
@@ -38,18 +38,30 @@ pub fn earlier(t: Instant, distance: u64) -> Instant
     Instant { ms }
 }
 
+// y and z turned about X by the angle of the cosine c and the sine s: the new y.
+fn turned_y(y: i64, z: i64, c: i64, s: i64) -> i64
+    requires { ⌜ (natAbs y ≤ 2 ^ 61) × (natAbs z ≤ 2 ^ 61) × (natAbs c ≤ U) × (natAbs s ≤ U) ⌝ }
+    ensures { λ r. ⌜ r ≡ rounded (y *ℤ c) U -ℤ rounded (z *ℤ s) U ⌝ }
+{
+    sub(scale(y, c), scale(z, s))
+}
+
+// The new z.
+fn turned_z(y: i64, z: i64, c: i64, s: i64) -> i64
+    requires { ⌜ (natAbs y ≤ 2 ^ 61) × (natAbs z ≤ 2 ^ 61) × (natAbs c ≤ U) × (natAbs s ≤ U) ⌝ }
+    ensures { λ r. ⌜ r ≡ rounded (y *ℤ s) U +ℤ rounded (z *ℤ c) U ⌝ }
+{
+    add(scale(y, s), scale(z, c))
+}
+
 // A vector turned to the true equator, by the cosine and the sine of the obliquity.
 fn to_equator(v: Vector, obliquity: u64) -> Vector
     requires { ⌜ Components (2 ^ 61) v × (obliquity < 2 ^ 63) ⌝ }
     ensures { λ r. ⌜ r ≡ to-equator-of (pos obliquity) v ⌝ }
 {
     let e = cosine_sine(obliquity);
-    let yc = scale(v.y, e.cos);
-    let ys = scale(v.y, e.sin);
-    let zc = scale(v.z, e.cos);
-    let zs = scale(v.z, e.sin);
-    let y = sub(yc, zs);
-    let z = add(ys, zc);
+    let y = turned_y(v.y, v.z, e.cos, e.sin);
+    let z = turned_z(v.y, v.z, e.cos, e.sin);
     Vector { x: v.x, y, z }
 }
 

@@ -21,7 +21,6 @@ use Rattle.series_lines.specs.Grammar.{feed, size, value, count, count-bytes, t
 use Rattle.series_lines.specs.Grammar.{AnyLine, a-count, a-term, line-bytes, any-bytes, any-packed}
 use Rattle.published_records.specs.Layout.{Heading, heading-bytes, GoodHeading, TermRecord, record-bytes, GoodRecord, cut-term}
 use Rattle.published_headings.specs.Judge.{in-order, skipped}
-use Rattle.published.specs.Reader as published
 use Rattle.integers.proofs.Tests.{by-cases}
 use Rattle.text_promises.specs.Decided as text
 use Rattle.text_promises.specs.Decided.{NumbersInLimits}

@@ -1,7 +1,6 @@
 -- A byte of a figure that is no space and no point is taken as the lexer of a text takes it. Assumes nothing.
 use mathlib.Core.Path.{_≡_}
-use mathlib.Core.Bool.{true, false}
-use Prim.Native.Nat.{ℕ, _+_}
+use Prim.Native.Nat.{ℕ}
 use native.Mathlib.Omega.{arith}
 use borrow.Author.Tests.{ne-eqb, lt-ltb, eqb-true}
 use lib.Dec.{ltb, eqb}

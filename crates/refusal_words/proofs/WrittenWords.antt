@@ -4,7 +4,6 @@ use mathlib.Core.List.{List, [], _∷_, _++_}
 use Prim.Native.Nat.{ℕ, _+_, _≤_}
 use native.Mathlib.Omega.{arith}
 use lib.Dec.{lit≤}
-use lib.IntN.{pos}
 use lib.ListN.{length, length-append}
 use Rattle.integers.specs.Signs.{negative}
 use Rattle.units.specs.Refusals.{number, figure, whole}

@@ -5,7 +5,7 @@ use Prim.Native.Nat.{ℕ, _+_, _≤_, _<_}
 use native.Mathlib.Numerals.{add-one}
 use lib.ListN.{length, getD, drop, drop-of-length-le}
 use lib.Seq.{drop-cons}
-use Rattle.series_lines.specs.Calls.{Run, run, calls, joined}
+use Rattle.series_lines.specs.Calls.{run, calls, joined}
 
 module _ {R : Type 0} (step : R → List ℕ → ℕ → R) (step-out : R → List ℕ → ℕ → List ℕ) where
   -- The cutting rule: two calls are one with the bytes of both.

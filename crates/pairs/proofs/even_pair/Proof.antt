@@ -8,8 +8,8 @@ use Rattle.pairs.proofs.even_pair.Tie as tie
 square-pair-requires : tie.Need-square-pair-requires
 square-pair-requires c κs = search needs
 
-even-series-pair-requires : tie.Need-even-series-pair-requires
-even-series-pair-requires c κs = search needs
+horner-evens-pair-requires : tie.Need-horner-evens-pair-requires
+horner-evens-pair-requires c κs = search needs
 
 add-t4 : tie.Need-add-t4
 add-t4 c = search needs
@@ -22,7 +22,7 @@ returns c =
     let s = c .before .before in
     let y = s .before .square-pair in
     let v = s .before .before .args .v in
-    let h = s .even-series-pair in (
+    let h = s .horner-evens-pair in (
       even-biased (v .one) (y .result .one) (h .result .one) (y .ensures .0) (h .ensures .0),
       even-biased (v .two) (y .result .two) (h .result .two) (y .ensures .1) (h .ensures .1),
       omega arith,
@@ -31,4 +31,4 @@ returns c =
 
 pub even-pair-spec : {M : Type 1} → statement M
 even-pair-spec =
-    tie.close (tie.spec square-pair-requires even-series-pair-requires add-t4 add-t5 returns)
+    tie.close (tie.spec square-pair-requires horner-evens-pair-requires add-t4 add-t5 returns)

@@ -1,7 +1,6 @@
 -- `sunlist::sun_list` meets its contract. Assumes nothing.
 use Prim.Native.Nat.{ℕ, _-_, _≤_, _<_}
 use native.Mathlib.Omega.{arith}
-use mathlib.Core.Path.{sym, _∙_}
 use borrow.Author.Tests.{not-true, not-false}
 use Rattle.units.proofs.Limit.{told-past, told-within, told-size}
 use Rattle.runs.specs.Runs.{most-minutes}

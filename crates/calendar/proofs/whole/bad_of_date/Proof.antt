@@ -15,8 +15,8 @@ natural-or-requires c κs = search needs
 natural-or-requires-2 : tie.Need-natural-or-requires-2
 natural-or-requires-2 c κs = search needs
 
-first-bad-requires : tie.Need-first-bad-requires
-first-bad-requires c κs =
+bad-field-requires : tie.Need-bad-field-requires
+bad-field-requires c κs =
     let y = c .before .before in
     let s = y .before in
     year-known (s .args .year) _ (rw (back _ (s .fits .year)) at (y .year-index .ensures)) .small
@@ -26,7 +26,7 @@ returns c =
     let y = c .before .before .before in
     let s = y .before in
     rw (
-      c .first-bad .ensures,
+      c .bad-field .ensures,
       y .year-index .ensures,
       c .before .before .natural-or .ensures,
       c .before .natural-or2 .ensures,
@@ -43,5 +43,5 @@ bad-of-date-spec =
     year-index-requires
     natural-or-requires
     natural-or-requires-2
-    first-bad-requires
+    bad-field-requires
     returns)

@@ -3,6 +3,7 @@ use native.Mathlib.Omega.{arith}
 use mathlib.Core.Path.{_≡_}
 use mir.Syntax.{w64}
 use mir.Val.{toZ, ofZ}
+use Rattle.decimals.specs.Texts.{text}
 use Rattle.decimals.specs.Decimals.{most-digits}
 use Rattle.decimals.proofs.Puts.{decimal-length}
 use Rattle.date_lines.proofs.WrittenReplies.{day-put, refused-put}
@@ -58,7 +59,7 @@ same-length-2 : tie.Need-same-length-2
 same-length-2 c = search needs
 
 returns-2 : tie.Need-returns-2
-unfolding refused
+unfolding text refused
 returns-2 c =
     let p = c .before .before in
     refused-put _ _ _ _ _ _ (p .before .before .before .enum-told .given .1) (p .put-bytes .ensures)

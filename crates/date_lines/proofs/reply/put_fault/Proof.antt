@@ -1,15 +1,11 @@
 -- `put_fault` meets its contract. Assumes nothing.
-use Prim.Native.Nat.{ℕ}
-use borrow.Author.Tests.{eq-eqb, ne-eqb}
+use borrow.Author.Tests.{ne-eqb}
+use Rattle.decimals.specs.Texts.{text}
 use Rattle.date_lines.specs.Lines.{fault-empty, fault-byte, fault-space, fault-large, fault-few}
 use Rattle.date_lines.specs.Replies.{fault-text, fault-words}
 use borrow.Author.Needs.{needs}
 use Rattle.date_lines.proofs.reply.put_fault.Statement.{statement}
 use Rattle.date_lines.proofs.reply.put_fault.Tie as tie
-
--- the fault that is written
-abbrev fault : tie.Else1 → ℕ
-fault c = c .before .before .args .fault
 
 slice-aggregate-put-bytes : tie.Need-slice-aggregate-put-bytes
 slice-aggregate-put-bytes c = search needs
@@ -21,11 +17,8 @@ same-length : tie.Need-same-length
 same-length c = search needs
 
 returns : tie.Need-returns
-unfolding fault-text fault-words
-returns c =
-    let p = c .before .before in
-    let t = p .before .before .before in
-    rw (eq-eqb (t .before .before .args .fault) fault-empty (t .if1 .taken)) (p .put-bytes .ensures)
+unfolding text fault-text fault-words
+returns c = let p = c .before .before in rw (p .before .before .before .if1 .taken) (p .put-bytes .ensures)
 
 slice-aggregate-put-bytes-2 : tie.Need-slice-aggregate-put-bytes-2
 slice-aggregate-put-bytes-2 c = search needs
@@ -37,15 +30,8 @@ same-length-2 : tie.Need-same-length-2
 same-length-2 c = search needs
 
 returns-2 : tie.Need-returns-2
-unfolding fault-text fault-words
-returns-2 c =
-    let p = c .before .before in
-    let t = p .before .before .before in
-    let e1 = t .before in
-    let f = fault e1 in
-    rw
-    (ne-eqb f fault-empty (e1 .if1 .left), eq-eqb f fault-byte (t .if2 .taken))
-    (p .put-bytes2 .ensures)
+unfolding text fault-text fault-words
+returns-2 c = let p = c .before .before in rw (p .before .before .before .if2 .taken) (p .put-bytes2 .ensures)
 
 slice-aggregate-put-bytes-3 : tie.Need-slice-aggregate-put-bytes-3
 slice-aggregate-put-bytes-3 c = search needs
@@ -57,16 +43,8 @@ same-length-3 : tie.Need-same-length-3
 same-length-3 c = search needs
 
 returns-3 : tie.Need-returns-3
-unfolding fault-text fault-words
-returns-3 c =
-    let p = c .before .before in
-    let t = p .before .before .before in
-    let e2 = t .before in
-    let e1 = e2 .before in
-    let f = fault e1 in
-    rw
-    (ne-eqb f fault-empty (e1 .if1 .left), ne-eqb f fault-byte (e2 .if2 .left), eq-eqb f fault-space (t .if3 .taken))
-    (p .put-bytes3 .ensures)
+unfolding text fault-text fault-words
+returns-3 c = let p = c .before .before in rw (p .before .before .before .if3 .taken) (p .put-bytes3 .ensures)
 
 slice-aggregate-put-bytes-4 : tie.Need-slice-aggregate-put-bytes-4
 slice-aggregate-put-bytes-4 c = search needs
@@ -78,21 +56,8 @@ same-length-4 : tie.Need-same-length-4
 same-length-4 c = search needs
 
 returns-4 : tie.Need-returns-4
-unfolding fault-text fault-words
-returns-4 c =
-    let p = c .before .before in
-    let t = p .before .before .before in
-    let e3 = t .before in
-    let e2 = e3 .before in
-    let e1 = e2 .before in
-    let f = fault e1 in
-    rw (
-      ne-eqb f fault-empty (e1 .if1 .left),
-      ne-eqb f fault-byte (e2 .if2 .left),
-      ne-eqb f fault-space (e3 .if3 .left),
-      eq-eqb f fault-large (t .if4 .taken),
-    )
-    (p .put-bytes4 .ensures)
+unfolding text fault-text fault-words
+returns-4 c = let p = c .before .before in rw (p .before .before .before .if4 .taken) (p .put-bytes4 .ensures)
 
 slice-aggregate-put-bytes-5 : tie.Need-slice-aggregate-put-bytes-5
 slice-aggregate-put-bytes-5 c = search needs
@@ -104,23 +69,8 @@ same-length-5 : tie.Need-same-length-5
 same-length-5 c = search needs
 
 returns-5 : tie.Need-returns-5
-unfolding fault-text fault-words
-returns-5 c =
-    let p = c .before .before in
-    let t = p .before .before .before in
-    let e4 = t .before in
-    let e3 = e4 .before in
-    let e2 = e3 .before in
-    let e1 = e2 .before in
-    let f = fault e1 in
-    rw (
-      ne-eqb f fault-empty (e1 .if1 .left),
-      ne-eqb f fault-byte (e2 .if2 .left),
-      ne-eqb f fault-space (e3 .if3 .left),
-      ne-eqb f fault-large (e4 .if4 .left),
-      eq-eqb f fault-few (t .if5 .taken),
-    )
-    (p .put-bytes5 .ensures)
+unfolding text fault-text fault-words
+returns-5 c = let p = c .before .before in rw (p .before .before .before .if5 .taken) (p .put-bytes5 .ensures)
 
 slice-aggregate-put-bytes-6 : tie.Need-slice-aggregate-put-bytes-6
 slice-aggregate-put-bytes-6 c = search needs
@@ -132,7 +82,7 @@ same-length-6 : tie.Need-same-length-6
 same-length-6 c = search needs
 
 returns-6 : tie.Need-returns-6
-unfolding fault-text fault-words
+unfolding text fault-text fault-words
 returns-6 c =
     let p = c .before .before in
     let e5 = p .before .before .before in
@@ -140,7 +90,7 @@ returns-6 c =
     let e3 = e4 .before in
     let e2 = e3 .before in
     let e1 = e2 .before in
-    let f = fault e1 in
+    let f = e1 .before .before .args .fault in
     rw (
       ne-eqb f fault-empty (e1 .if1 .left),
       ne-eqb f fault-byte (e2 .if2 .left),

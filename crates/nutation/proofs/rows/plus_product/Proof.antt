@@ -1,11 +1,12 @@
 -- `nutation::rows::plus_product` meets its contract. Assumes nothing.
 use mathlib.Core.Path.{_≡_}
-use Prim.Native.Nat.{ℕ, _+_, _*_, _^_, _≤_}
+use Prim.Native.Nat.{ℕ, _^_, _≤_}
 use native.Mathlib.Omega.{arith}
 use lib.IntN.{natAbs, _+ℤ_, _*ℤ_}
 use Rattle.arith.proofs.Signs.{back, ok}
 use Rattle.integers.proofs.Order.{fits}
-use Rattle.nutation.proofs.Terms.{product-small, sum-fits, sum-small}
+use Rattle.nutation.proofs.Terms.{sum-fits}
+use Rattle.nutation.proofs.Products.{product-small, sum-small}
 use Rattle.nutation.proofs.rows.plus_product.Statement.{statement}
 use Rattle.nutation.proofs.rows.plus_product.Tie as tie
 

@@ -1,12 +1,12 @@
--- `first_bad` meets its contract. Assumes nothing.
+-- `bad_field` meets its contract. Assumes nothing.
 use mathlib.Core.Path.{_≡_}
 use borrow.Author.Tests.{eq-eqb, ne-eqb, lt-ltb, le-ltb}
 use native.Mathlib.Omega.{arith}
 use Rattle.calendar.specs.machine.Shifted.{bad-field, in-gap, key}
 use Rattle.calendar.proofs.Bounds.{month-le}
 use borrow.Author.Needs.{needs}
-use Rattle.calendar.proofs.naturals.first_bad.Statement.{statement}
-use Rattle.calendar.proofs.naturals.first_bad.Tie as tie
+use Rattle.calendar.proofs.naturals.bad_field.Statement.{statement}
+use Rattle.calendar.proofs.naturals.bad_field.Tie as tie
 
 -- where the call begins, from past the tests of year, month and day
 abbrev entry : tie.Else5 → tie.Start
@@ -84,8 +84,8 @@ returns-7 c = simp (left (c .before .before), le-ltb _ _ (c .before .if6 .left),
 returns-8 : tie.Need-returns-8
 returns-8 c = simp (left (c .before .before), le-ltb _ _ (c .before .if6 .left), le-ltb _ _ (c .if7 .left))
 
-pub first-bad-spec : {M : Type 1} → statement M
-first-bad-spec =
+pub bad-field-spec : {M : Type 1} → statement M
+bad-field-spec =
     tie.close
     (tie.spec
     returns

@@ -1,8 +1,8 @@
--- `pairs::odd_series_pair` meets its contract. Assumes nothing.
+-- `pairs::horner_odds_pair` meets its contract. Assumes nothing.
 use borrow.Author.Needs.{needs}
 use Rattle.cosine.proofs.NaturalSteps.{six}
-use Rattle.pairs.proofs.odd_series_pair.Statement.{statement}
-use Rattle.pairs.proofs.odd_series_pair.Tie as tie
+use Rattle.pairs.proofs.horner_odds_pair.Statement.{statement}
+use Rattle.pairs.proofs.horner_odds_pair.Tie as tie
 
 first-pair-requires : tie.Need-first-pair-requires
 first-pair-requires c κs = search needs
@@ -37,8 +37,8 @@ returns c =
       c .step-pair5 .ensures .3,
     )
 
-pub odd-series-pair-spec : {M : Type 1} → statement M
-odd-series-pair-spec =
+pub horner-odds-pair-spec : {M : Type 1} → statement M
+horner-odds-pair-spec =
     tie.close
     (tie.spec
     first-pair-requires
