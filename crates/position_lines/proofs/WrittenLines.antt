@@ -14,7 +14,6 @@ use Rattle.decimals.specs.Decimals.{most-digits, point, decimal, written, last-
 use Rattle.decimals.specs.Writing.{Put}
 use Rattle.decimals.proofs.Puts.{decimal-length, signed-length, last-length, put-both}
 use Rattle.place.specs.declared.Equatorial.{Equatorial}
-use Rattle.place.specs.Mount.{hundredths-per-degree}
 use Rattle.position_lines.specs.Lines.{degree-places, distance-places, line-text, degree-size, angle-text, distance-text, place-text}
 use Rattle.position_lines.specs.Lines.{name-most, numbers-most, line-most, place-most}
 
@@ -74,14 +73,10 @@ line-put name measure k below places n at a b c d z out o1 o2 o3 o4 o5 e p1 p2 p
     (put-both measure s4 b c z o2 o3 o5 p3
     (put-both (signed-decimal k) end c d z o3 o4 o5 p4 p5)))
 
--- 10^7 over 360,000 in its lowest terms.
-in-lowest-terms : (m : ℕ) → (500 * m + 9) / 18 ≡ (10 ^ degree-places * m + hundredths-per-degree / 2) / hundredths-per-degree
-in-lowest-terms m = omega arith
-
-pub angle-put : (name : List ℕ) (k : ℤ) (m at z : ℕ) (out result : List ℕ) → m ≡ natAbs k
-    → Put out at (line-text name k degree-places ((500 * m + 9) / 18) (text " degrees, ")) z result → Put out at (angle-text name k) z result
+pub angle-put : (name : List ℕ) (k : ℤ) (n at z : ℕ) (out result : List ℕ)
+    → Put out at (line-text name k degree-places n (text " degrees, ")) z result → n ≡ degree-size k → Put out at (angle-text name k) z result
 unfolding angle-text
-angle-put name k m at z out result e h = rw (in-lowest-terms m, e) at h
+angle-put name k n at z out result h e = rw e at h
 
 pub distance-put : (d : ℤ) (m at z : ℕ) (out result : List ℕ) → m ≡ natAbs d
     → Put out at (line-text (text "distance ") d distance-places m (text " AU, ")) z result → Put out at (distance-text d) z result

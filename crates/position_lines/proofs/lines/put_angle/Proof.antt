@@ -31,7 +31,8 @@ returns c =
     let l = c .before .before in
     let a = l .before .before .before in
     let b = back _ (a .before .before .before .fits .k) in
-    angle-put _ _ _ _ _ _ _ (rw b at (a .abs .ensures)) (rw b at (l .put-line .ensures))
+    let m = rw b at (a .abs .ensures) in
+    angle-put _ _ _ _ _ _ _ (rw b at (l .put-line .ensures)) (omega (arith, m))
 
 pub put-angle-spec : {M : Type 1} → statement M
 put-angle-spec =
