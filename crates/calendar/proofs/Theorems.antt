@@ -9,7 +9,7 @@ use Rattle.units.specs.Units.{in-limit}
 use Rattle.units.specs.declared.Instant.{Instant}
 use Rattle.calendar.specs.Calendar.{leap, month-length, first-bad, first-bad-of-four, noon-number, day-of-date, date-of-day, instant, instant-of-date}
 use Rattle.calendar.specs.Calendar.{date-of-instant}
-use Rattle.calendar.specs.Promises.{day-of, instant-of, OneDate, OneMoment, marked, All-right}
+use Rattle.calendar.specs.Promises.{day-of, instant-of, One-date, One-moment, marked, All-right}
 use Rattle.calendar.specs.machine.Shifted.{date-at, plain}
 use Rattle.calendar.specs.declared.Date.{Date}
 use Rattle.calendar.specs.declared.DayAnswer.the-variants.{Day}
@@ -36,7 +36,7 @@ day-date-day n w e =
     ap day-of (sym (p .found)) ∙ day-of-plain (p .k) (date-at (p .k)) (f .sound) (f .number) ∙ ap Day (sym (p .is))
 
 -- Every day number has exactly one date.
-pub one-date : (n : ℕ) → n ≤ last-day → OneDate (pos n)
+pub one-date : (n : ℕ) → n ≤ last-day → One-date (pos n)
 one-date n h =
     let e = on-day n h in
     record { the = plain (date-at n); has = day-date-day (pos n) (plain (date-at n)) e; only = λ w p. same-date (sym (date-day-date w (pos n) p) ∙ e) }
@@ -53,7 +53,7 @@ instant-moment-instant t w ms e =
     instant-back t w ms (s .u) l (s .is) (s .small) e
 
 -- Every instant within the limit has exactly one date with milliseconds.
-pub one-moment : (t : Instant) → in-limit (t .ms) ≡ true → OneMoment t
+pub one-moment : (t : Instant) → in-limit (t .ms) ≡ true → One-moment t
 one-moment t h =
     let s = since (t .ms) h in
     let e = moment-of t (s .u) h (s .is) (s .small) in

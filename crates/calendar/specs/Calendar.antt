@@ -123,7 +123,7 @@ unfoldable pub date-below : ℕ → ℤ → Date
 date-below zero n = written-as 0
 date-below (suc k) n = cond (has-number n (written-as k)) (written-as k) (date-below k n)
 
--- The date with the day number n, looked for among all; each n from 0 to last-day has one, and no other (`OneDate` in specs/Promises).
+-- The date with the day number n, looked for among all; each n from 0 to last-day has one, and no other (`One-date` in specs/Promises).
 unfoldable pub date-numbered : ℤ → Date
 date-numbered n = date-below (10000 * (years-before-zero + last-year + 1)) n
 

@@ -19,13 +19,13 @@ abbrev pub instant-of : Date → ℤ → InstantAnswer
 instant-of w ms = instant-of-date (w .year) (w .month) (w .day) ms
 
 -- The day number n has a date, and no other.
-pub record OneDate (n : ℤ) : Type 0 where
+pub record One-date (n : ℤ) : Type 0 where
   pub the : Date
   pub has : day-of the ≡ Day n
   pub only : (w : Date) → day-of w ≡ Day n → w ≡ the
 
 -- The instant t has a date with milliseconds, and no other.
-pub record OneMoment (t : Instant) : Type 0 where
+pub record One-moment (t : Instant) : Type 0 where
   pub the : Date
   pub ms : ℤ
   pub has : instant-of the ms ≡ At t

@@ -14,7 +14,7 @@ use Rattle.integers.proofs.Division.{rounded-add}
 use Rattle.integers.proofs.Rounding.{rounded-scale}
 use Rattle.units.specs.Units.{U, quarter, angle-step}
 use Rattle.integers.specs.Division.{modulo}
-use Rattle.cosine.specs.machine.Parity.{eighth, y-limit, InRange}
+use Rattle.cosine.specs.machine.Parity.{eighth, y-limit, In-range}
 use Rattle.cosine.proofs.Shifts.{sine-shift}
 use Rattle.cosine.specs.Cosine.{q-of, r-of, w-of, y-of, horner, even-part, odd-part, evens, odds, cosine-by, sine-by, working-cosine, working-sine}
 use Rattle.cosine.specs.Cosine.{cosine, sine}
@@ -52,7 +52,7 @@ biased-angle-is x q e =
     ∙ rounded-add (pos U) (pos x -ℤ pos q *ℤ pos quarter) angle-step (omega arith)
     ∙ ap (λ t. pos U +ℤ rounded (pos x -ℤ t *ℤ pos quarter) angle-step) e
 
-pub biased-angle-range : (x q : ℕ) → pos q ≡ q-of quarter (pos x) → InRange ((x + (angle-step * U + angle-step / 2) - q * quarter) / angle-step)
+pub biased-angle-range : (x q : ℕ) → pos q ≡ q-of quarter (pos x) → In-range ((x + (angle-step * U + angle-step / 2) - q * quarter) / angle-step)
 biased-angle-range x q e = let v = quarters-value x q e in record { low = omega arith; high = omega arith }
 
 -- ---- the square
@@ -65,7 +65,7 @@ square-low v =
     omega arith
 
 -- v is between its two bounds, whose product is U² − eighth²
-pub square-high : (v : ℕ) → InRange v → v * v + (U - eighth) * (U + eighth) ≤ 2 * U * v
+pub square-high : (v : ℕ) → In-range v → v * v + (U - eighth) * (U + eighth) ≤ 2 * U * v
 square-high v r = subst (λ t. t * t + (U - eighth) * (U + eighth) ≤ 2 * U * t) back (go (v - (U - eighth)) (omega arith))
   where
     back : v - (U - eighth) + (U - eighth) ≡ v
@@ -202,7 +202,7 @@ in-3 k v y h i p q l =
     at (U + o - h) k 3 v i (lift o h (omega arith) ∙ ap (λ z. pos U +ℤ z) (odd-of v y h p q))
 
 -- the odd part is small
-pub odd-small : (v h : ℕ) → InRange v → v * h ≤ (U + eighth) * h
+pub odd-small : (v h : ℕ) → In-range v → v * h ≤ (U + eighth) * h
 odd-small v h r = mul-le-mul-right h (r .high)
 
 -- ---- the whole, from q and v

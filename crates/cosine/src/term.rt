@@ -5,7 +5,7 @@ ghost use Prim.Native.Nat.{_+_, _*_, _/_, _%_, _<_, _≤_, _^_};
 ghost use lib.IntN.{pos, negℤ, natAbs, _+ℤ_, _-ℤ_, _*ℤ_};
 ghost use Rattle.integers.specs.Division.{rounded, modulo};
 ghost use Rattle.units.specs.Units.{U, millennium, turn, t-limit, a-limit, b-limit, c-limit};
-ghost use Rattle.cosine.specs.machine.Parity.{value-by-parity, InRange};
+ghost use Rattle.cosine.specs.machine.Parity.{value-by-parity, In-range};
 ghost use Rattle.cosine.specs.machine.Prepared.{base, combined-limit, Ready, Products};
 ghost use Rattle.cosine.specs.Terms.{term-angle, term-value};
 use crate::working::HALF_UNIT;
@@ -169,7 +169,7 @@ fn signed_amplitude(a: i64, k: u64) -> i64
 // A term with its angle reduced. Nothing here jumps on the quarter, which is as good as random from term to term.
 pub fn reduced_term(p: Prepared, a: i64, b: u64, c: i64) -> ReducedTerm
     requires { ⌜ Ready p × (natAbs a < a-limit) × (b < b-limit) × (natAbs c < c-limit) ⌝ }
-    ensures { λ r. ⌜ (value-by-parity (r .odd) (r .a) (r .v) ≡ term-value a b c (p .t)) × (natAbs (r .a) ≡ natAbs a) × (r .odd ≤ 1) × InRange (r .v) ⌝ }
+    ensures { λ r. ⌜ (value-by-parity (r .odd) (r .a) (r .v) ≡ term-value a b c (p .t)) × (natAbs (r .a) ≡ natAbs a) × (r .odd ≤ 1) × In-range (r .v) ⌝ }
 {
     let x = angle(p, b, c);
     let q = quarters(x);

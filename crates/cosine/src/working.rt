@@ -6,7 +6,7 @@ ghost use lib.IntN.{pos, negℤ, _+ℤ_, _-ℤ_, _*ℤ_};
 ghost use Rattle.integers.specs.Division.{rounded};
 ghost use Rattle.units.specs.Units.{U, quarter, angle-step};
 ghost use Rattle.cosine.specs.Cosine.{q-of, w-of, y-of, evens, odds, horner, even-part, odd-part, cosine-by, cosine, sine};
-ghost use Rattle.cosine.specs.machine.Parity.{InRange, y-limit, divisor-limit};
+ghost use Rattle.cosine.specs.machine.Parity.{In-range, y-limit, divisor-limit};
 use arith::signed::sub;
 use arith::signed::wide;
 use units::ANGLE_STEP;
@@ -66,14 +66,14 @@ pub fn quarters(x: u64) -> u64
 // v = w + U of the angle x, whose quarter is q.
 pub fn biased_angle(x: u64, q: u64) -> u64
     requires { ⌜ (x < 2 ^ 63) × (pos q ≡ q-of quarter (pos x)) ⌝ }
-    ensures { λ r. ⌜ (pos r ≡ pos U +ℤ w-of quarter angle-step (pos x)) × InRange r ⌝ }
+    ensures { λ r. ⌜ (pos r ≡ pos U +ℤ w-of quarter angle-step (pos x)) × In-range r ⌝ }
 {
     (x + ANGLE_BIAS - q * QUARTER) / ANGLE_STEP
 }
 
 // y of w = v - U, as w*w = v*v + U*U - U (2v).
 pub fn square(v: u64) -> u64
-    requires { ⌜ InRange v ⌝ }
+    requires { ⌜ In-range v ⌝ }
     ensures { λ r. ⌜ (pos r ≡ y-of (pos v -ℤ pos U)) × (r ≤ y-limit) ⌝ }
 {
     (v * v + SQUARE_BIAS) / U - 2 * v
@@ -129,7 +129,7 @@ pub fn difference(a: u64, b: u64) -> i64
 
 // U more than the cosine in the quarter k, from v and y. The odd part is the rounded v*h / U, less h.
 fn biased_cosine(k: u64, v: u64, y: u64) -> u64
-    requires { ⌜ (k < 4) × InRange v × (pos y ≡ y-of (pos v -ℤ pos U)) × (y ≤ y-limit) ⌝ }
+    requires { ⌜ (k < 4) × In-range v × (pos y ≡ y-of (pos v -ℤ pos U)) × (y ≤ y-limit) ⌝ }
     ensures { λ r. ⌜ (pos r ≡ pos U +ℤ cosine-by negℤ k (even-part (pos v -ℤ pos U)) (odd-part (pos v -ℤ pos U))) × (r ≤ 2 * U) ⌝ }
 {
     if k % 2 == 0 {

@@ -14,7 +14,7 @@ use Rattle.decimals.specs.Numerals.{Digits, value, Numeral}
 use Rattle.date_lines.specs.Lines.{space, digit-limit, fault-empty, fault-byte}
 use Rattle.date_lines.specs.Lines.{fault-space, fault-large, fault-few, fault-many}
 use Rattle.date_lines.specs.Lines.{waiting, fresh, faulty, greatest, ended, at-space, at-minus, at-digit, take, reading, read}
-use Rattle.date_lines.specs.Written.{ThreeNumbers}
+use Rattle.date_lines.specs.Written.{Three-numbers}
 use Rattle.date_lines.specs.declared.reader.Line.{Line}
 use Rattle.date_lines.specs.declared.reader.Reading.the-variants.{Three, Bad}
 
@@ -96,7 +96,7 @@ data Parted : List ℕ → Type 0 where
   before : {rest : List ℕ} → Parted (space ∷ rest)
 
 -- The digits of a number that are left, after the value v.
-record MoreDigits (count : ℕ) (year month : ℤ) (minus : Bool) (v : ℕ) (l : List ℕ) : Type 0 where
+record More-digits (count : ℕ) (year month : ℤ) (minus : Bool) (v : ℕ) (l : List ℕ) : Type 0 where
   ds : List ℕ
   rest : List ℕ
   digits : Digits ds
@@ -105,7 +105,7 @@ record MoreDigits (count : ℕ) (year month : ℤ) (minus : Bool) (v : ℕ) (l :
   comes : read (state count year month minus true v) l ≡ read (state count year month minus true (value v ds)) rest
 
 -- The digits of a number, after its sign.
-record AllDigits (count : ℕ) (year month : ℤ) (minus : Bool) (l : List ℕ) : Type 0 where
+record All-digits (count : ℕ) (year month : ℤ) (minus : Bool) (l : List ℕ) : Type 0 where
   first : ℕ
   more : List ℕ
   rest : List ℕ
@@ -115,7 +115,7 @@ record AllDigits (count : ℕ) (year month : ℤ) (minus : Bool) (l : List ℕ) 
   comes : read (state count year month minus false 0) l ≡ read (state count year month minus true (value 0 (first ∷ more))) rest
 
 module _ (count : ℕ) (year month : ℤ) (few : count ≤ 2) (Y M D : ℤ) (minus : Bool) where
-  more-digits : (l : List ℕ) (v : ℕ) → reading (read (state count year month minus true v) l) ≡ Three Y M D → MoreDigits count year month minus v l
+  more-digits : (l : List ℕ) (v : ℕ) → reading (read (state count year month minus true v) l) ≡ Three Y M D → More-digits count year month minus v l
   unfolding read value
   more-digits [] v e = record { ds = []; rest = []; digits = tt; line = refl; parted = at-end; comes = refl }
   more-digits (b ∷ l) v e =
@@ -127,9 +127,9 @@ module _ (count : ℕ) (year month : ℤ) (few : count ≤ 2) (Y M D : ℤ) (min
       part : b ≡ space → Parted (b ∷ l)
       part p = rw p before
 
-      go : ((v : ℕ) → reading (read (state count year month minus true v) l) ≡ Three Y M D → MoreDigits count year month minus v l)
+      go : ((v : ℕ) → reading (read (state count year month minus true v) l) ≡ Three Y M D → More-digits count year month minus v l)
           → Dec (b ≡ space) → Dec (b ≡ minus-sign) → Dec (zero-digit ≤ b) → Dec (b ≤ nine-digit) → Dec (v ≤ digit-limit)
-          → MoreDigits count year month minus v (b ∷ l)
+          → More-digits count year month minus v (b ∷ l)
       go r (yes p) q h k m = record { ds = []; rest = b ∷ l; digits = tt; line = refl; parted = part p; comes = refl }
       go r (no p) (yes q) h k m = absurd (spoiled Y M D fault-byte (λ z. omega (arith, z)) s b l (second-minus count year month few minus true v b p refl q) e)
       go r (no p) (no q) (no h) k m =
@@ -169,14 +169,14 @@ module _ (count : ℕ) (year month : ℤ) (few : count ≤ 2) (Y M D : ℤ) (min
       go false e = no-three Y M D fault-space (λ z. omega (arith, z)) l e
 
   all-digits : (b : ℕ) (l : List ℕ) → (b ≡ minus-sign → minus ≡ true) → reading (read (state count year month minus false 0) (b ∷ l)) ≡ Three Y M D
-      → AllDigits count year month minus (b ∷ l)
+      → All-digits count year month minus (b ∷ l)
   unfolding read value
   all-digits b l u e = go (ℕ-discrete b space) (ℕ-discrete b minus-sign) (decLe zero-digit b) (decLe b nine-digit)
     where
       s : Line
       s = state count year month minus false 0
 
-      go : Dec (b ≡ space) → Dec (b ≡ minus-sign) → Dec (zero-digit ≤ b) → Dec (b ≤ nine-digit) → AllDigits count year month minus (b ∷ l)
+      go : Dec (b ≡ space) → Dec (b ≡ minus-sign) → Dec (zero-digit ≤ b) → Dec (b ≤ nine-digit) → All-digits count year month minus (b ∷ l)
       go (yes p) q h k = absurd (early-space l (rw p at e))
       go (no p) (yes q) h k = absurd (spoiled Y M D fault-byte (λ z. omega (arith, z)) s b l (minus-minus count year month few minus false 0 b p (u q) q) e)
       go (no p) (no q) (no h) k =
@@ -216,7 +216,7 @@ module _ (count : ℕ) (year month : ℤ) (few : count ≤ 2) (Y M D : ℤ) wher
       minus-first : b ≡ minus-sign → take (state count year month false false 0) b ≡ state count year month true false 0
       minus-first p = rw p (minus-read count year month few)
 
-      rest-of : b ≡ minus-sign → (l : List ℕ) → reading (read (state count year month true false 0) l) ≡ Three Y M D → AllDigits count year month true l
+      rest-of : b ≡ minus-sign → (l : List ℕ) → reading (read (state count year month true false 0) l) ≡ Three Y M D → All-digits count year month true l
       rest-of p [] e = absurd (no-digit count year month few Y M D true e)
       rest-of p (c ∷ l) e = all-digits count year month few Y M D true c l (λ q. refl) e
 
@@ -268,16 +268,16 @@ module _ (count : ℕ) (year month : ℤ) (few : count ≤ 2) (Y M D : ℤ) wher
           let t : Three year month (sgn minus v) ≡ Three Y M D = rw (le-ltb (greatest minus) v l, le-ltb count 2 h) at e in
           record { small = l; two = h; year-is = cc; month-is = cc; day-is = cc }
 
-  record GoesOn (minus : Bool) (v : ℕ) (rest : List ℕ) : Type 0 where
+  record Runs-on (minus : Bool) (v : ℕ) (rest : List ℕ) : Type 0 where
     small : v ≤ greatest minus
     on : reading (read (ended (state count year month minus true v) (sgn minus v)) rest) ≡ Three Y M D
 
   at-parting : (minus : Bool) (v : ℕ) (rest : List ℕ) → reading (read (state count year month minus true v) (space ∷ rest)) ≡ Three Y M D
-      → GoesOn minus v rest
+      → Runs-on minus v rest
   unfolding read take at-space
   at-parting minus v rest e = go (decLe v (greatest minus))
     where
-      go : Dec (v ≤ greatest minus) → GoesOn minus v rest
+      go : Dec (v ≤ greatest minus) → Runs-on minus v rest
       go (no l) =
           let k : greatest minus < v = omega (arith, l) in
           absurd (no-three Y M D fault-large (λ z. omega (arith, z)) rest (rw (lt-ltb (greatest minus) v k) at e))
@@ -299,12 +299,12 @@ no-fourth year month Y M D (b ∷ l) e = go (ℕ-discrete b space)
     go (no p) = no-three Y M D fault-many (λ z. omega (arith, z)) l (rw (ne-eqb b space p) at e)
 
 -- The day, the month and the day, and all three.
-record DayAlone (year month Y M D : ℤ) (l : List ℕ) : Type 0 where
+record Day-alone (year month Y M D : ℤ) (l : List ℕ) : Type 0 where
   day : Numeral greatest l D
   year-is : year ≡ Y
   month-is : month ≡ M
 
-day-alone : (year month Y M D : ℤ) (l : List ℕ) → reading (read (waiting 2 year month) l) ≡ Three Y M D → DayAlone year month Y M D l
+day-alone : (year month Y M D : ℤ) (l : List ℕ) → reading (read (waiting 2 year month) l) ≡ Three Y M D → Day-alone year month Y M D l
 unfolding read
 day-alone year month Y M D l e = go (w .rest) (w .parted) (w .line) (rw (w .comes) at e)
   where
@@ -312,7 +312,7 @@ day-alone year month Y M D l e = go (w .rest) (w .parted) (w .line) (rw (w .come
     w = whole 2 year month (omega arith) Y M D l e
 
     go : (rest : List ℕ) → Parted rest → l ≡ written (w .minus) (w .first ∷ w .more) ++ rest
-        → reading (read (state 2 year month (w .minus) true (value 0 (w .first ∷ w .more))) rest) ≡ Three Y M D → DayAlone year month Y M D l
+        → reading (read (state 2 year month (w .minus) true (value 0 (w .first ∷ w .more))) rest) ≡ Three Y M D → Day-alone year month Y M D l
     go rest at-end i q =
         let n = at-last 2 year month (omega arith) Y M D (w .minus) (value 0 (w .first ∷ w .more)) q in
         let j : l ≡ written (w .minus) (w .first ∷ w .more) = i ∙ append-nil (written (w .minus) (w .first ∷ w .more)) in
@@ -326,7 +326,7 @@ day-alone year month Y M D l e = go (w .rest) (w .parted) (w .line) (rw (w .come
         let n = at-parting 2 year month (omega arith) Y M D (w .minus) (value 0 (w .first ∷ w .more)) t q in
         absurd (no-fourth year month Y M D t (n .on))
 
-record MonthAndDay (year Y M D : ℤ) (l : List ℕ) : Type 0 where
+record Month-and-day (year Y M D : ℤ) (l : List ℕ) : Type 0 where
   ms : List ℕ
   ds : List ℕ
   month : Numeral greatest ms M
@@ -334,7 +334,7 @@ record MonthAndDay (year Y M D : ℤ) (l : List ℕ) : Type 0 where
   line : l ≡ ms ++ (space ∷ ds)
   year-is : year ≡ Y
 
-month-and-day : (year Y M D : ℤ) (l : List ℕ) → reading (read (waiting 1 year (pos 0)) l) ≡ Three Y M D → MonthAndDay year Y M D l
+month-and-day : (year Y M D : ℤ) (l : List ℕ) → reading (read (waiting 1 year (pos 0)) l) ≡ Three Y M D → Month-and-day year Y M D l
 unfolding read
 month-and-day year Y M D l e = go (w .rest) (w .parted) (w .line) (rw (w .comes) at e)
   where
@@ -342,7 +342,7 @@ month-and-day year Y M D l e = go (w .rest) (w .parted) (w .line) (rw (w .comes)
     w = whole 1 year (pos 0) (omega arith) Y M D l e
 
     go : (rest : List ℕ) → Parted rest → l ≡ written (w .minus) (w .first ∷ w .more) ++ rest
-        → reading (read (state 1 year (pos 0) (w .minus) true (value 0 (w .first ∷ w .more))) rest) ≡ Three Y M D → MonthAndDay year Y M D l
+        → reading (read (state 1 year (pos 0) (w .minus) true (value 0 (w .first ∷ w .more))) rest) ≡ Three Y M D → Month-and-day year Y M D l
     go rest at-end i q =
         let n = at-last 1 year (pos 0) (omega arith) Y M D (w .minus) (value 0 (w .first ∷ w .more)) q in
         absurd (omega (arith, n .two))
@@ -359,7 +359,7 @@ month-and-day year Y M D l e = go (w .rest) (w .parted) (w .line) (rw (w .comes)
         }
 
 -- A line that is read as three numbers has these.
-pub only-three : (Y M D : ℤ) (l : List ℕ) → reading (read fresh l) ≡ Three Y M D → ThreeNumbers l Y M D
+pub only-three : (Y M D : ℤ) (l : List ℕ) → reading (read fresh l) ≡ Three Y M D → Three-numbers l Y M D
 unfolding read
 only-three Y M D l e = go (w .rest) (w .parted) (w .line) (rw (w .comes) at e)
   where
@@ -367,7 +367,7 @@ only-three Y M D l e = go (w .rest) (w .parted) (w .line) (rw (w .comes) at e)
     w = whole 0 (pos 0) (pos 0) (omega arith) Y M D l e
 
     go : (rest : List ℕ) → Parted rest → l ≡ written (w .minus) (w .first ∷ w .more) ++ rest
-        → reading (read (state 0 (pos 0) (pos 0) (w .minus) true (value 0 (w .first ∷ w .more))) rest) ≡ Three Y M D → ThreeNumbers l Y M D
+        → reading (read (state 0 (pos 0) (pos 0) (w .minus) true (value 0 (w .first ∷ w .more))) rest) ≡ Three Y M D → Three-numbers l Y M D
     go rest at-end i q =
         let n = at-last 0 (pos 0) (pos 0) (omega arith) Y M D (w .minus) (value 0 (w .first ∷ w .more)) q in
         absurd (omega (arith, n .two))

@@ -18,7 +18,7 @@ use Rattle.decimals.proofs.Numbers.{grows}
 use Rattle.date_lines.specs.Lines.{space, fresh, greatest, at-space, at-digit}
 use Rattle.date_lines.specs.Lines.{take, reading, read}
 use Rattle.date_lines.specs.Replies.{refused, day-text, reply, after, said, line-after, replies}
-use Rattle.date_lines.specs.Written.{NoFeed, ThreeNumbers, Decided, three, fault, example-lines, example-replies}
+use Rattle.date_lines.specs.Written.{No-feed, Three-numbers, Decided, three, fault, example-lines, example-replies}
 use Rattle.date_lines.specs.declared.reader.Line.{Line}
 use Rattle.date_lines.specs.declared.reader.Reading.{Reading}
 use Rattle.date_lines.specs.declared.reader.Reading.the-variants.{Three, Bad}
@@ -39,7 +39,7 @@ cut-replies s (b ∷ xs) ys =
     (append-assoc (said s b) (replies (after s b) xs) (replies (line-after (after s b) xs) ys))
 
 -- A line and its line feed: the reply to what it says, and a fresh line.
-pub one-line : (s : Line) (l rest : List ℕ) → NoFeed l → replies s (l ++ (line-feed ∷ rest)) ≡ reply (reading (read s l)) ++ replies fresh rest
+pub one-line : (s : Line) (l rest : List ℕ) → No-feed l → replies s (l ++ (line-feed ∷ rest)) ≡ reply (reading (read s l)) ++ replies fresh rest
 unfolding replies read after said
 one-line s [] rest h = refl
 one-line s (b ∷ l) rest h = rw (ne-eqb b line-feed (h .0)) (one-line (take s b) l rest (h .1))
@@ -99,7 +99,7 @@ three-numbers a b c f g h fs gs hs p q r =
     ∙ day-read c (value 0 (h ∷ hs)) (r .small) y m
 
 -- And only those: a line is read as three numbers exactly where it has these, and else as a fault.
-pub three-read : (l : List ℕ) (y m d : ℤ) → ThreeNumbers l y m d → reading (read fresh l) ≡ Three y m d
+pub three-read : (l : List ℕ) (y m d : ℤ) → Three-numbers l y m d → reading (read fresh l) ≡ Three y m d
 three-read l y m d t =
     let p = t .year in
     let q = t .month in
@@ -112,7 +112,7 @@ three-read l y m d t =
     (p .decimal) (q .decimal) (r .decimal)
     ∙ rw (← p .is, ← q .is, ← r .is)
 
-pub read-three : (l : List ℕ) (y m d : ℤ) → reading (read fresh l) ≡ Three y m d → ThreeNumbers l y m d
+pub read-three : (l : List ℕ) (y m d : ℤ) → reading (read fresh l) ≡ Three y m d → Three-numbers l y m d
 read-three l y m d e = only-three y m d l e
 
 pub every-line : (l : List ℕ) → Decided l (reading (read fresh l))

@@ -17,7 +17,7 @@ use Rattle.decimals.specs.Decimals.{most-digits, decimal}
 use Rattle.decimals.specs.Writing.{Put}
 use Rattle.decimals.proofs.Puts.{put-both, put-one}
 use Rattle.date_lines.specs.Lines.{fault-empty, fresh, take, reading}
-use Rattle.date_lines.specs.Replies.{refused, day-text, fault-text, reply, after, said, last-reply, AnsweredLast}
+use Rattle.date_lines.specs.Replies.{refused, day-text, fault-text, reply, after, said, last-reply, Answered-last}
 use Rattle.date_lines.specs.declared.reader.Line.{Line}
 use Rattle.date_lines.specs.declared.reader.Reading.{Reading}
 use Rattle.date_lines.specs.declared.reader.Reading.the-variants.{Three, Bad}
@@ -60,11 +60,11 @@ unfolding last-reply
 last-none s w f out e g h = rw (← e, g, eq-eqb f fault-empty h) (refl, refl)
 
 pub last-bad : (s : Line) (w : Reading) (f r : ℕ) (out result : List ℕ) → w ≡ reading s → w ≡ Bad f → (f ≡ fault-empty → ⊥)
-    → Put out 0 (fault-text f) r result → AnsweredLast s out r result
+    → Put out 0 (fault-text f) r result → Answered-last s out r result
 unfolding last-reply reply
 last-bad s w f r out result e g h q = rw (← e, g, ne-eqb f fault-empty h) (omega (arith, q .0), q .1)
 
 pub last-three : (s : Line) (w : Reading) (y m d : ℤ) (a : DayAnswer) (r : ℕ) (out result : List ℕ) → w ≡ reading s → w ≡ Three y m d → a ≡ day-of-date y m d
-    → Put out 0 (day-text a) r result → AnsweredLast s out r result
+    → Put out 0 (day-text a) r result → Answered-last s out r result
 unfolding last-reply reply
 last-three s w y m d a r out result e g f q = rw (← e, g, ← f) (omega (arith, q .0), q .1)

@@ -80,5 +80,5 @@ Answered s bs out r result =
     (r .line ≡ line-after s bs) × (r .at ≡ length (replies s bs)) × (result ≡ sets out 0 (replies s bs))
 
 -- What the end of the input leaves: the reply to the last line, from the start of the output.
-abbrev pub AnsweredLast : Line → List ℕ → ℕ → List ℕ → Type 0
-AnsweredLast s out r result = (r ≡ length (last-reply s)) × (result ≡ sets out 0 (last-reply s))
+abbrev pub Answered-last : Line → List ℕ → ℕ → List ℕ → Type 0
+Answered-last s out r result = (r ≡ length (last-reply s)) × (result ≡ sets out 0 (last-reply s))

@@ -10,12 +10,12 @@ use Rattle.date_lines.specs.declared.reader.Reading.{Reading}
 use Rattle.date_lines.specs.declared.reader.Reading.the-variants.{Three, Bad}
 
 -- Bytes without a line feed.
-abbrev pub NoFeed : List ℕ → Type 0
-NoFeed [] = Unit {0}
-NoFeed (b ∷ bs) = (b ≡ line-feed → ⊥) × NoFeed bs
+abbrev pub No-feed : List ℕ → Type 0
+No-feed [] = Unit {0}
+No-feed (b ∷ bs) = (b ≡ line-feed → ⊥) × No-feed bs
 
 -- A line of three numbers, parted by single spaces, and nothing else.
-pub record ThreeNumbers (line : List ℕ) (y m d : ℤ) : Type 0 where
+pub record Three-numbers (line : List ℕ) (y m d : ℤ) : Type 0 where
   pub ys : List ℕ
   pub ms : List ℕ
   pub ds : List ℕ
@@ -26,8 +26,8 @@ pub record ThreeNumbers (line : List ℕ) (y m d : ℤ) : Type 0 where
 
 -- Each line is decided: it has three numbers and is read as these, or it has not and is read as a fault.
 pub data Decided (line : List ℕ) (r : Reading) : Type 0 where
-  three : (y m d : ℤ) → ThreeNumbers line y m d → r ≡ Three y m d → Decided line r
-  fault : (f : ℕ) → ((y m d : ℤ) → ThreeNumbers line y m d → ⊥) → r ≡ Bad f → Decided line r
+  three : (y m d : ℤ) → Three-numbers line y m d → r ≡ Three y m d → Decided line r
+  fault : (f : ℕ) → ((y m d : ℤ) → Three-numbers line y m d → ⊥) → r ≡ Bad f → Decided line r
 
 -- The two lines of the rules, and their replies.
 abbrev pub example-lines : List ℕ

@@ -2,8 +2,8 @@
 // anywhere. Both calls are for the program `date`, which lends the room that they ask for.
 ghost use Prim.Native.Nat.{_+_, _*_, _≤_};
 ghost use lib.ListN.{length};
-ghost use Rattle.date_lines.specs.Replies.{reply-limit, Answered, AnsweredLast};
-ghost use Rattle.date_lines.specs.machine.Writing.{AnsweredByte};
+ghost use Rattle.date_lines.specs.Replies.{reply-limit, Answered, Answered-last};
+ghost use Rattle.date_lines.specs.machine.Writing.{Answered-byte};
 use crate::reader::Line;
 use crate::reader::Reading;
 use crate::reader::start;
@@ -42,7 +42,7 @@ pub struct Progress {
 // One byte of the input.
 fn answer_byte(line: Line, b: u8, out: &mut [u8], at: usize) -> Progress
     requires { ⌜ at + reply-limit ≤ length (now out) ⌝ }
-    ensures { λ r. ⌜ AnsweredByte line b (now (out .entry)) at r (now (out .exit)) ⌝ }
+    ensures { λ r. ⌜ Answered-byte line b (now (out .entry)) at r (now (out .exit)) ⌝ }
 {
     if b == LINE_FEED {
         let r = whole(line);
@@ -76,7 +76,7 @@ pub fn answer_piece(line: Line, piece: &[u8], out: &mut [u8]) -> Progress
 // The end of the input: the reply to a last line without its line feed.
 pub fn answer_last(line: Line, out: &mut [u8]) -> usize
     requires { ⌜ reply-limit ≤ length (now out) ⌝ }
-    ensures { λ r. ⌜ AnsweredLast line (now (out .entry)) r (now (out .exit)) ⌝ }
+    ensures { λ r. ⌜ Answered-last line (now (out .entry)) r (now (out .exit)) ⌝ }
 {
     let r = whole(line);
     match r {

@@ -28,12 +28,12 @@ digits-read v (b ∷ ds) d h =
     rw (le-ltb b zero-digit (d .0), le-ltb nine-digit b (d .1), lt-leb (too-great / 10) v k) (digits-read (10 * v + (b - zero-digit)) ds (d .2) h)
 
 -- Bytes that are read are digits, and their value is what they are.
-record AreDigits (v : ℕ) (bs : List ℕ) : Type 0 where
+record Are-digits (v : ℕ) (bs : List ℕ) : Type 0 where
   digits : Digits bs
   small : value v bs < too-great
   is : digits-after v bs ≡ value v bs
 
-only-digits : (v : ℕ) (bs : List ℕ) → v < too-great → (digits-after v bs ≡ too-great → ⊥) → AreDigits v bs
+only-digits : (v : ℕ) (bs : List ℕ) → v < too-great → (digits-after v bs ≡ too-great → ⊥) → Are-digits v bs
 unfolding value digits-after
 only-digits v [] h n = record { digits = tt; small = h; is = refl }
 only-digits v (b ∷ bs) h n = go (decLe zero-digit b) (decLe b nine-digit) (decLe (too-great / 10) v) (only-digits (10 * v + (b - zero-digit)) bs)
@@ -42,8 +42,8 @@ only-digits v (b ∷ bs) h n = go (decLe zero-digit b) (decLe b nine-digit) (dec
     u = 10 * v + (b - zero-digit)
 
     go : Dec (zero-digit ≤ b) → Dec (b ≤ nine-digit) → Dec (too-great / 10 ≤ v)
-        → (10 * v + (b - zero-digit) < too-great → (digits-after (10 * v + (b - zero-digit)) bs ≡ too-great → ⊥) → AreDigits (10 * v + (b - zero-digit)) bs)
-        → AreDigits v (b ∷ bs)
+        → (10 * v + (b - zero-digit) < too-great → (digits-after (10 * v + (b - zero-digit)) bs ≡ too-great → ⊥) → Are-digits (10 * v + (b - zero-digit)) bs)
+        → Are-digits v (b ∷ bs)
     go (no l) m k r = let x : b < zero-digit = omega (arith, l) in absurd (n (rw (lt-ltb b zero-digit x)))
     go (yes l) (no m) k r = let x : nine-digit < b = omega (arith, m) in absurd (n (rw (le-ltb b zero-digit l, lt-ltb nine-digit b x)))
     go (yes l) (yes m) (yes k) r = absurd (n (rw (le-ltb b zero-digit l, le-ltb nine-digit b m, le-leb (too-great / 10) v k)))

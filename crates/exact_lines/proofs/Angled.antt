@@ -8,7 +8,7 @@ use native.Mathlib.Omega.{arith}
 use lib.IntN.{ℤ, pos, natAbs, _*ℤ_}
 use lib.Signed.{leZ}
 use Rattle.integers.specs.Division.{rounded}
-use Rattle.integers.proofs.Root.{IsRoot, root-is}
+use Rattle.integers.proofs.Root.{Is-root, root-is}
 use Rattle.integers.proofs.Tests.{false-true}
 use Rattle.units.specs.Units.{U, t-limit}
 use Rattle.units.specs.declared.Coordinates.{Coordinates}
@@ -42,19 +42,19 @@ pub record Worked (t : ℤ) (planet earth : List (List Term)) : Type 0 where
   pub e-is : coordinates t earth ≡ e
   pub s-is : sun (place e) ≡ s
   pub g-is : geocentric (place p) (place e) ≡ g
-  pub s-root : IsRoot (natAbs (squared s)) s-length
-  pub g-root : IsRoot (natAbs (squared g)) g-length
+  pub s-root : Is-root (natAbs (squared s)) s-length
+  pub g-root : Is-root (natAbs (squared g)) g-length
   pub usable-is : usable (p .radius) (e .radius) g-length ≡ true
 
 -- The unit vector by a length.
 abbrev unit-by : Vector → ℕ → Vector
 unit-by v l = record { x = rounded (pos U *ℤ v .x) l; y = rounded (pos U *ℤ v .y) l; z = rounded (pos U *ℤ v .z) l }
 
-length-is : (v : Vector) (l : ℕ) → IsRoot (natAbs (squared v)) l → length v ≡ l
+length-is : (v : Vector) (l : ℕ) → Is-root (natAbs (squared v)) l → length v ≡ l
 unfolding length
 length-is v l i = sym (root-is (natAbs (squared v)) l i)
 
-unit-is : (v : Vector) (l : ℕ) → IsRoot (natAbs (squared v)) l → unit v ≡ unit-by v l
+unit-is : (v : Vector) (l : ℕ) → Is-root (natAbs (squared v)) l → unit v ≡ unit-by v l
 unfolding unit
 unit-is v l i = ap (unit-by v) (length-is v l i)
 

@@ -4,7 +4,7 @@ ghost use Prim.Native.Nat.{_<_, _≤_};
 ghost use lib.IntN.{natAbs};
 ghost use Rattle.units.specs.Units.{a-limit, b-limit, c-limit, t-limit};
 ghost use Rattle.cosine.specs.Terms.{term-angle, term-value};
-ghost use Rattle.cosine.specs.machine.Parity.{value-by-parity, InRange};
+ghost use Rattle.cosine.specs.machine.Parity.{value-by-parity, In-range};
 use crate::TermFigures;
 use cosine::term::ReducedTerm;
 use cosine::term::angle;
@@ -19,7 +19,7 @@ use units::U;
 
 // The value of a term whose angle is reduced, summed with a term of amplitude 0.
 fn value_of(w: ReducedTerm) -> i64
-    requires { ⌜ (natAbs (w .a) < a-limit) × (w .odd ≤ 1) × InRange (w .v) ⌝ }
+    requires { ⌜ (natAbs (w .a) < a-limit) × (w .odd ≤ 1) × In-range (w .v) ⌝ }
     ensures { λ r. ⌜ r ≡ value-by-parity (w .odd) (w .a) (w .v) ⌝ }
 {
     let v = Pair { one: w.v, two: U };

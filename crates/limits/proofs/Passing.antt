@@ -14,33 +14,33 @@ use Rattle.units.specs.Refusals.{over-limit, total-over-limit, too-coarse}
 use Rattle.limits.specs.Limits.{weight, count-fits, a-fits, b-fits, c-fits, total-fits, coarse-fits, term-may-come, numbers-fit, term-refusal}
 
 -- A count.
-pub record GoodCount (s : Tally) (n : ℕ) : Type 0 where
+pub record Good-count (s : Tally) (n : ℕ) : Type 0 where
   pub few : n ≤ block-limit
   pub fewer : s .terms + n ≤ series-limit
 
-pub count-passed : (s : Tally) (n : ℕ) → count-fits s n ≡ true → GoodCount s n
+pub count-passed : (s : Tally) (n : ℕ) → count-fits s n ≡ true → Good-count s n
 unfolding count-fits
 count-passed s n e =
     let b = both (leb n block-limit) (leb (s .terms + n) series-limit) e in
     record { few = leb-true _ _ (b .0); fewer = leb-true _ _ (b .1) }
 
-pub count-passes : (s : Tally) (n : ℕ) → GoodCount s n → count-fits s n ≡ true
+pub count-passes : (s : Tally) (n : ℕ) → Good-count s n → count-fits s n ≡ true
 unfolding count-fits
 count-passes s n g = rw (le-leb n block-limit (g .few), le-leb (s .terms + n) series-limit (g .fewer))
 
 -- A term, in a block with factor f after the tally s.
-pub record GoodA (s : Tally) (a : ℤ) : Type 0 where
+pub record Good-A (s : Tally) (a : ℤ) : Type 0 where
   pub small : natAbs a < a-limit
   pub total : s .total + natAbs a ≤ total-limit
 
-pub record GoodC (f : ℕ) (s : Tally) (a : ℤ) (b : ℕ) (c : ℤ) : Type 0 where
+pub record Good-C (f : ℕ) (s : Tally) (a : ℤ) (b : ℕ) (c : ℤ) : Type 0 where
   pub small : natAbs c < c-limit
   pub coarse : s .coarse + weight f a b c ≤ coarse-limit
 
-pub record GoodTerm (f : ℕ) (s : Tally) (t : Term) : Type 0 where
-  pub good-a : GoodA s (t .a)
+pub record Good-term (f : ℕ) (s : Tally) (t : Term) : Type 0 where
+  pub good-a : Good-A s (t .a)
   pub good-b : t .b < b-limit
-  pub good-c : GoodC f s (t .a) (t .b) (t .c)
+  pub good-c : Good-C f s (t .a) (t .b) (t .c)
 
 -- The tests that it passes.
 pub record Passes (f : ℕ) (s : Tally) (t : Term) : Type 0 where
@@ -51,7 +51,7 @@ pub record Passes (f : ℕ) (s : Tally) (t : Term) : Type 0 where
   pub coarse : coarse-fits f s (t .a) (t .b) (t .c) ≡ true
 
 module _ (f : ℕ) (s : Tally) (t : Term) where
-  pub good-of : Passes f s t → GoodTerm f s t
+  pub good-of : Passes f s t → Good-term f s t
   unfolding a-fits b-fits c-fits total-fits coarse-fits
   good-of p =
       record {
@@ -60,7 +60,7 @@ module _ (f : ℕ) (s : Tally) (t : Term) where
         good-c = record { small = ltb-true _ _ (p .c); coarse = leb-true _ _ (p .coarse) };
       }
 
-  pub passes-of : GoodTerm f s t → Passes f s t
+  pub passes-of : Good-term f s t → Passes f s t
   unfolding a-fits b-fits c-fits total-fits coarse-fits
   passes-of g =
       record {

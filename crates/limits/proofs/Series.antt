@@ -8,20 +8,20 @@ use Rattle.units.specs.Units.{block-limit, series-limit, total-limit, block-cou
 use Rattle.limits.specs.declared.Term.{Term}
 use Rattle.limits.specs.declared.Tally.{Tally}
 use Rattle.limits.specs.Limits.{factor, opened, after-block, no-tally}
-use Rattle.limits.specs.Allowed.{term-count, total-of, BlockFits, Allowed}
-use Rattle.limits.proofs.Terms.{burden, GoodTerms, terms-fit, terms-total, terms-coarse, terms-good, summed-terms, summed-coarse}
+use Rattle.limits.specs.Allowed.{term-count, total-of, Block-fits, Allowed}
+use Rattle.limits.proofs.Terms.{burden, Good-terms, terms-fit, terms-total, terms-coarse, terms-good, summed-terms, summed-coarse}
 use Rattle.limits.proofs.Coarseness.{start, start-within, Coarse, no-blocks, a-block, coarse-coordinate, coarse-blocks}
 
 -- A block is good after the tally s: its count, and each of its terms.
-pub record GoodBlock (k : ℕ) (s : Tally) (ts : List Term) : Type 0 where
+pub record Good-block (k : ℕ) (s : Tally) (ts : List Term) : Type 0 where
   pub few : length ts ≤ block-limit
   pub fewer : s .terms + length ts ≤ series-limit
-  pub terms : GoodTerms (factor k) (opened k (length ts) s) ts
+  pub terms : Good-terms (factor k) (opened k (length ts) s) ts
 
-pub data GoodBlocks : ℕ → Tally → List (List Term) → Type 0 where
-  none : {k : ℕ} {s : Tally} → GoodBlocks k s []
+pub data Good-blocks : ℕ → Tally → List (List Term) → Type 0 where
+  none : {k : ℕ} {s : Tally} → Good-blocks k s []
   more : {k : ℕ} {s : Tally} {ts : List Term} {bs : List (List Term)}
-      → GoodBlock k s ts → GoodBlocks (k + 1) (after-block k s ts) bs → GoodBlocks k s (ts ∷ bs)
+      → Good-block k s ts → Good-blocks (k + 1) (after-block k s ts) bs → Good-blocks k s (ts ∷ bs)
 
 -- The tally before and after a block's terms.
 opened-total : (k n : ℕ) (s : Tally) → opened k n s .total ≡ 0
@@ -41,7 +41,7 @@ unfolding after-block
 after-coarse k s ts = rw (← opened-coarse k (length ts) s) (summed-coarse (factor k) (opened k (length ts) s) ts)
 
 -- What one good block tells.
-fits-of : (k : ℕ) (s : Tally) (ts : List Term) → GoodBlock k s ts → BlockFits ts
+fits-of : (k : ℕ) (s : Tally) (ts : List Term) → Good-block k s ts → Block-fits ts
 fits-of k s ts g =
     let z = opened-total k (length ts) s in
     let t : opened k (length ts) s .total + total-of ts ≤ total-limit = terms-total (g .terms) (rw z (omega arith)) in
@@ -49,18 +49,18 @@ fits-of k s ts g =
     record { few = g .few; terms = terms-fit (g .terms); total = omega arith }
 
 coarse-of : (k : ℕ) (s : Tally) (ts : List Term)
-    → s .coarse ≤ coarse-limit → GoodBlock k s ts → start k (s .coarse) + burden (factor k) ts ≤ coarse-limit
+    → s .coarse ≤ coarse-limit → Good-block k s ts → start k (s .coarse) + burden (factor k) ts ≤ coarse-limit
 coarse-of k s ts h g =
     let o = opened-coarse k (length ts) s in
     rw (← o) (terms-coarse (g .terms) (rw o (start-within k (s .coarse) h)))
 
 -- What good blocks tell.
-blocks-fit : {k : ℕ} {s : Tally} {bs : List (List Term)} → GoodBlocks k s bs → (j : ℕ) → j < length bs → BlockFits (getD bs j [])
+blocks-fit : {k : ℕ} {s : Tally} {bs : List (List Term)} → Good-blocks k s bs → (j : ℕ) → j < length bs → Block-fits (getD bs j [])
 blocks-fit none j h = absurd (omega arith)
 blocks-fit {k} {s} {bs = ts ∷ bs} (more g r) zero h = fits-of k s ts g
 blocks-fit {bs = ts ∷ bs} (more g r) (suc j) h = blocks-fit r j (omega arith)
 
-blocks-few : {k : ℕ} {s : Tally} {bs : List (List Term)} → GoodBlocks k s bs → s .terms ≤ series-limit → s .terms + term-count bs ≤ series-limit
+blocks-few : {k : ℕ} {s : Tally} {bs : List (List Term)} → Good-blocks k s bs → s .terms ≤ series-limit → s .terms + term-count bs ≤ series-limit
 unfolding term-count
 blocks-few none h = omega arith
 blocks-few {k} {s} {bs = ts ∷ bs} (more g r) h =
@@ -69,7 +69,7 @@ blocks-few {k} {s} {bs = ts ∷ bs} (more g r) h =
     let m : s .terms + length ts + term-count bs ≤ series-limit = rw e at i in
     omega arith
 
-blocks-coarse : {k : ℕ} {s : Tally} {bs : List (List Term)} → GoodBlocks k s bs → s .coarse ≤ coarse-limit → Coarse k (s .coarse) bs
+blocks-coarse : {k : ℕ} {s : Tally} {bs : List (List Term)} → Good-blocks k s bs → s .coarse ≤ coarse-limit → Coarse k (s .coarse) bs
 blocks-coarse none h = no-blocks
 blocks-coarse {k} {s} {bs = ts ∷ bs} (more g r) h =
     let e = after-coarse k s ts in
@@ -77,7 +77,7 @@ blocks-coarse {k} {s} {bs = ts ∷ bs} (more g r) h =
     a-block w (rw e at (blocks-coarse r (rw e w)))
 
 -- Good blocks, 18 of them, are a series within the limits, and back.
-pub good-allowed : (bs : List (List Term)) → length bs ≡ block-count → GoodBlocks 0 no-tally bs → Allowed bs
+pub good-allowed : (bs : List (List Term)) → length bs ≡ block-count → Good-blocks 0 no-tally bs → Allowed bs
 good-allowed bs e g =
     record {
       eighteen = e;
@@ -87,8 +87,8 @@ good-allowed bs e g =
     }
 
 blocks-good : (k : ℕ) (s : Tally) (bs : List (List Term))
-    → ((j : ℕ) → j < length bs → BlockFits (getD bs j [])) → s .terms + term-count bs ≤ series-limit → Coarse k (s .coarse) bs
-    → GoodBlocks k s bs
+    → ((j : ℕ) → j < length bs → Block-fits (getD bs j [])) → s .terms + term-count bs ≤ series-limit → Coarse k (s .coarse) bs
+    → Good-blocks k s bs
 unfolding term-count
 blocks-good k s [] f h c = none
 blocks-good k s (ts ∷ bs) f h (a-block w r) =
@@ -100,7 +100,7 @@ blocks-good k s (ts ∷ bs) f h (a-block w r) =
     (blocks-good (k + 1) (after-block k s ts) bs
     (λ (j : ℕ) (l : j < length bs). f (suc j) (omega arith)) (rw (after-terms k s ts) (omega arith)) (rw (after-coarse k s ts) r))
 
-pub allowed-good : (bs : List (List Term)) → Allowed bs → GoodBlocks 0 no-tally bs
+pub allowed-good : (bs : List (List Term)) → Allowed bs → Good-blocks 0 no-tally bs
 allowed-good bs a =
     blocks-good 0 no-tally bs (λ (j : ℕ) (l : j < length bs). a .fits j (rw (a .eighteen) at l)) (omega (arith, a .few))
     (coarse-blocks coarse-base bs (a .eighteen) (a .coarse))

@@ -10,8 +10,8 @@ use Rattle.units.specs.Units.{U, total-limit, coarse-share, coarse-limit}
 use Rattle.limits.specs.declared.Term.{Term}
 use Rattle.limits.specs.declared.Tally.{Tally}
 use Rattle.limits.specs.Limits.{constant, weight, added, summed}
-use Rattle.limits.specs.Allowed.{AllFit, none, more, total-of, moving-total, moving-count}
-use Rattle.limits.proofs.Passing.{GoodTerm}
+use Rattle.limits.specs.Allowed.{All-fit, none, more, total-of, moving-total, moving-count}
+use Rattle.limits.proofs.Passing.{Good-term}
 
 -- What a block adds to the coarseness sum, at factor f.
 unfoldable pub burden : ℕ → List Term → ℕ
@@ -28,11 +28,11 @@ burden-more f t ts = go (constant (t .b) (t .c))
     go false = omega (arith, mul-add f (coarse-share * natAbs (t .a) + U) (coarse-share * moving-total ts + U * moving-count ts))
 
 -- Each term is good after the tally of those before it.
-pub data GoodTerms (f : ℕ) : Tally → List Term → Type 0 where
-  good-none : {s : Tally} → GoodTerms f s []
-  good-term : {s : Tally} {t : Term} {ts : List Term} → GoodTerm f s t → GoodTerms f (added f s t) ts → GoodTerms f s (t ∷ ts)
+pub data Good-terms (f : ℕ) : Tally → List Term → Type 0 where
+  good-none : {s : Tally} → Good-terms f s []
+  good-term : {s : Tally} {t : Term} {ts : List Term} → Good-term f s t → Good-terms f (added f s t) ts → Good-terms f s (t ∷ ts)
 
-pub terms-fit : {f : ℕ} {s : Tally} {ts : List Term} → GoodTerms f s ts → AllFit ts
+pub terms-fit : {f : ℕ} {s : Tally} {ts : List Term} → Good-terms f s ts → All-fit ts
 terms-fit good-none = none
 terms-fit (good-term g h) = more (record { a-below = g .good-a .small; b-below = g .good-b; c-below = g .good-c .small }) (terms-fit h)
 
@@ -47,20 +47,20 @@ unfolding summed added
 summed-coarse f s [] = unfold burden moving-total moving-count in omega arith
 summed-coarse f s (t ∷ ts) = rw (burden-more f t ts) (summed-coarse f (added f s t) ts ∙ omega arith)
 
-pub terms-total : {f : ℕ} {s : Tally} {ts : List Term} → GoodTerms f s ts → s .total ≤ total-limit → s .total + total-of ts ≤ total-limit
+pub terms-total : {f : ℕ} {s : Tally} {ts : List Term} → Good-terms f s ts → s .total ≤ total-limit → s .total + total-of ts ≤ total-limit
 unfolding added total-of
 terms-total good-none h = omega arith
 terms-total (good-term g k) h = let r = terms-total k (g .good-a .total) in omega arith
 
 pub terms-coarse : {f : ℕ} {s : Tally} {ts : List Term}
-    → GoodTerms f s ts → s .coarse ≤ coarse-limit → s .coarse + burden f ts ≤ coarse-limit
+    → Good-terms f s ts → s .coarse ≤ coarse-limit → s .coarse + burden f ts ≤ coarse-limit
 unfolding added
 terms-coarse good-none h = unfold burden moving-total moving-count in omega arith
 terms-coarse {f} {s} {ts = t ∷ ts} (good-term g k) h = let r = terms-coarse k (g .good-c .coarse) in rw (burden-more f t ts) (omega arith)
 
 -- And back: terms that fit, with a total and a coarseness that fit, are good one by one.
 pub terms-good : (f : ℕ) (s : Tally) (ts : List Term)
-    → AllFit ts → s .total + total-of ts ≤ total-limit → s .coarse + burden f ts ≤ coarse-limit → GoodTerms f s ts
+    → All-fit ts → s .total + total-of ts ≤ total-limit → s .coarse + burden f ts ≤ coarse-limit → Good-terms f s ts
 unfolding added total-of
 terms-good f s [] none p q = good-none
 terms-good f s (t ∷ ts) (more w h) p q =

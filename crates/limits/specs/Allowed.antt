@@ -11,14 +11,14 @@ use Rattle.limits.specs.declared.Term.{Term}
 use Rattle.limits.specs.Limits.{constant}
 
 -- The limits of a term.
-pub record TermFits (t : Term) : Type 0 where
+pub record Term-fits (t : Term) : Type 0 where
   pub a-below : natAbs (t .a) < a-limit
   pub b-below : t .b < b-limit
   pub c-below : natAbs (t .c) < c-limit
 
-pub data AllFit : List Term → Type 0 where
-  none : AllFit []
-  more : {t : Term} {ts : List Term} → TermFits t → AllFit ts → AllFit (t ∷ ts)
+pub data All-fit : List Term → Type 0 where
+  none : All-fit []
+  more : {t : Term} {ts : List Term} → Term-fits t → All-fit ts → All-fit (t ∷ ts)
 
 -- The total |a| of a block; A_i and n_i, the total |a| and the number of its terms that are not constant.
 unfoldable pub total-of : List Term → ℕ
@@ -34,9 +34,9 @@ moving-count [] = 0
 moving-count (t ∷ ts) = cond (constant (t .b) (t .c)) 0 1 + moving-count ts
 
 -- The limits of a block.
-pub record BlockFits (ts : List Term) : Type 0 where
+pub record Block-fits (ts : List Term) : Type 0 where
   pub few : length ts ≤ block-limit
-  pub terms : AllFit ts
+  pub terms : All-fit ts
   pub total : total-of ts ≤ total-limit
 
 -- The coarseness sum over blocks, the first of which has power i: each block's share of A_i and U for each of its n_i terms, times the
@@ -58,5 +58,5 @@ term-count (ts ∷ blocks) = length ts + term-count blocks
 pub record Allowed (blocks : List (List Term)) : Type 0 where
   pub eighteen : length blocks ≡ block-count
   pub few : term-count blocks ≤ series-limit
-  pub fits : (k : ℕ) → k < block-count → BlockFits (getD blocks k [])
+  pub fits : (k : ℕ) → k < block-count → Block-fits (getD blocks k [])
   pub coarse : (q : ℕ) → q < 3 → coarseness 0 (coordinate q blocks) + coarse-base ≤ coarse-limit

@@ -52,11 +52,11 @@ polynomial-scale k hk n d h (c ∷ cs) =
     ∙ ap (λ t. c +ℤ t) (rounded-scale k (polynomial n d cs *ℤ n) d hk h)
 
 -- ---- from the highest coefficient down: v is worked out of those from i on
-pub record WorkedDown (n : ℤ) (d : ℕ) (cs : List ℤ) (v : ℤ) (i : ℕ) : Type 0 where
+pub record Worked-down (n : ℤ) (d : ℕ) (cs : List ℤ) (v : ℤ) (i : ℕ) : Type 0 where
   pub within : i ≤ length cs
   pub value : v ≡ polynomial n d (drop i cs)
 
-pub worked-none : (n : ℤ) (d : ℕ) (cs : List ℤ) → WorkedDown n d cs (pos 0) (length cs)
+pub worked-none : (n : ℤ) (d : ℕ) (cs : List ℤ) → Worked-down n d cs (pos 0) (length cs)
 unfolding polynomial
 worked-none n d cs = record { within = omega arith; value = ap (λ l. polynomial n d l) (sym (drop-length cs)) }
 
@@ -66,15 +66,15 @@ from-one-less cs i h l =
     let back : suc (i - 1) ≡ i = omega arith in
     drop-cons cs (i - 1) (pos 0) (omega arith) ∙ ap (λ (k : ℕ). getD cs (i - 1) (pos 0) ∷ drop k cs) back
 
-pub worked-more : (n : ℤ) (d : ℕ) (cs : List ℤ) (v r : ℤ) (i : ℕ) → 0 < i → WorkedDown n d cs v i → r ≡ getD cs (i - 1) (pos 0) +ℤ rounded (v *ℤ n) d
-    → WorkedDown n d cs r (i - 1)
+pub worked-more : (n : ℤ) (d : ℕ) (cs : List ℤ) (v r : ℤ) (i : ℕ) → 0 < i → Worked-down n d cs v i → r ≡ getD cs (i - 1) (pos 0) +ℤ rounded (v *ℤ n) d
+    → Worked-down n d cs r (i - 1)
 unfolding polynomial
 worked-more n d cs v r i h w e = record {
   within = omega (arith, w .within);
   value = e ∙ ap (λ t. getD cs (i - 1) (pos 0) +ℤ rounded (t *ℤ n) d) (w .value) ∙ ap (λ l. polynomial n d l) (sym (from-one-less cs i h (w .within)));
 }
 
-pub worked-all : (n : ℤ) (d : ℕ) (cs : List ℤ) (v : ℤ) (i : ℕ) → i ≤ 0 → WorkedDown n d cs v i → v ≡ polynomial n d cs
+pub worked-all : (n : ℤ) (d : ℕ) (cs : List ℤ) (v : ℤ) (i : ℕ) → i ≤ 0 → Worked-down n d cs v i → v ≡ polynomial n d cs
 worked-all n d cs v i h w = let none : i ≡ 0 = omega arith in w .value ∙ ap (λ (k : ℕ). polynomial n d (drop k cs)) none
 
 -- what the next step asks for
@@ -84,7 +84,7 @@ reach-drop cs zero = omega arith
 reach-drop [] (suc i) = omega arith
 reach-drop (c ∷ cs) (suc i) = omega (arith, reach-drop cs i)
 
-pub worked-asks : (n : ℤ) (d : ℕ) (cs : List ℤ) (v : ℤ) (i : ℕ) → By n d → reach cs < 2 ^ 63 - 1 → 0 < i → WorkedDown n d cs v i
+pub worked-asks : (n : ℤ) (d : ℕ) (cs : List ℤ) (v : ℤ) (i : ℕ) → By n d → reach cs < 2 ^ 63 - 1 → 0 < i → Worked-down n d cs v i
     → natAbs (getD cs (i - 1) (pos 0)) + centuries * natAbs v < 2 ^ 63 - 1
 unfolding reach
 worked-asks n d cs v i b h g w =

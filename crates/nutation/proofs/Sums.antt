@@ -15,7 +15,7 @@ use Rattle.nutation_table.specs.Table.{rows, no-row}
 use Rattle.nutation_table.specs.machine.Small.{row-count, Small}
 use Rattle.nutation.specs.declared.Nutation.{Nutation}
 use Rattle.nutation.specs.Nutation.{longitude-term, obliquity-term, add-up, longitude-nutation, obliquity-nutation}
-use Rattle.nutation.specs.machine.Reduced.{NutationAt, coefficient-limit, sum-limit}
+use Rattle.nutation.specs.machine.Reduced.{Nutation-at, coefficient-limit, sum-limit}
 use Rattle.nutation.proofs.Terms.{longitude-small, obliquity-small}
 
 pub record Summed (t : ℤ) (sum : Nutation) (i : ℕ) : Type 0 where
@@ -66,7 +66,7 @@ summed-room t sum i s = (room _ i (s .within) (s .longitude-size), room _ i (s .
     room : (n i : ℕ) → i ≤ row-count → n ≤ i * coefficient-limit → n ≤ sum-limit
     room n i h k = omega arith
 
-pub summed-all : (t : ℤ) (sum : Nutation) (i : ℕ) → Summed t sum i → row-count ≤ i → NutationAt t sum
+pub summed-all : (t : ℤ) (sum : Nutation) (i : ℕ) → Summed t sum i → row-count ≤ i → Nutation-at t sum
 summed-all t sum i s h = record {
   longitude-is = all (longitude-term t) (sum .longitude) ∙ s .longitude-left;
   obliquity-is = all (obliquity-term t) (sum .obliquity) ∙ s .obliquity-left;

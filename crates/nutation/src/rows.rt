@@ -8,7 +8,7 @@ ghost use Rattle.cosine.specs.Cosine.{cosine, sine};
 ghost use Rattle.direction.specs.Angles.{units-angle};
 ghost use Rattle.nutation_table.specs.machine.Small.{figure-limit, rate-limit, multiplier-limit, Small};
 ghost use Rattle.nutation.specs.Nutation.{argument-turn, row-angle, coefficient, longitude-term, obliquity-term};
-ghost use Rattle.nutation.specs.machine.Reduced.{At, NutationAt, combined, coefficient-limit, sum-limit};
+ghost use Rattle.nutation.specs.machine.Reduced.{At, Nutation-at, combined, coefficient-limit, sum-limit};
 use crate::ARGUMENT_TURN;
 use crate::Arguments;
 use crate::CENTURY;
@@ -107,7 +107,7 @@ fn add_row(sum: Nutation, t: i64, r: Row, a: Arguments) -> Nutation
 // The nutation at t milliseconds: the terms of the rows in their order.
 pub fn nutation_at(t: i64) -> Nutation
     requires { ⌜ natAbs t ≤ t-limit ⌝ }
-    ensures { λ n. ⌜ NutationAt t n ⌝ }
+    ensures { λ n. ⌜ Nutation-at t n ⌝ }
 {
     let a = arguments_at(t);
     let mut sum = Nutation {

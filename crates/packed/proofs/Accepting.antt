@@ -63,16 +63,16 @@ pub record Accepted (P : Type 0) (at : ℕ) (x : List ℕ) (v to : ℕ) (rest : 
   pub good : P
 
 -- The tests that a and c pass.
-pub record PassedA (s : Tally) (a : ℤ) : Type 0 where
+pub record Passed-A (s : Tally) (a : ℤ) : Type 0 where
   pub fits : a-fits a ≡ true
   pub total : total-fits s a ≡ true
 
-record PassedC (f : ℕ) (s : Tally) (a : ℤ) (b : ℕ) (c : ℤ) : Type 0 where
+record Passed-C (f : ℕ) (s : Tally) (a : ℤ) (b : ℕ) (c : ℤ) : Type 0 where
   fits : c-fits c ≡ true
   coarse : coarse-fits f s a b c ≡ true
 
 pub a-accepted : (s : Tally) (at : ℕ) (x : List ℕ) {a : ℤ} {to : ℕ} {rest : List ℕ}
-    → read-a s at x ≡ got a to rest → Accepted (PassedA s a) at x (folded a) to rest
+    → read-a s at x ≡ got a to rest → Accepted (Passed-A s a) at x (folded a) to rest
 unfolding read-a
 a-accepted s at x {a} e =
     let n = next-got (number at x) _ e in
@@ -95,7 +95,7 @@ b-accepted at x {b} e =
     record { read = read-as plain plain v at x (λ n. refl) (n .first) (p .is); good = rw i at (p .passed) }
 
 c-accepted : (f : ℕ) (s : Tally) (a : ℤ) (b at : ℕ) (x : List ℕ) {c : ℤ} {to : ℕ} {rest : List ℕ}
-    → read-c f s a b at x ≡ got c to rest → Accepted (PassedC f s a b c) at x (folded c) to rest
+    → read-c f s a b at x ≡ got c to rest → Accepted (Passed-C f s a b c) at x (folded c) to rest
 unfolding read-c
 c-accepted f s a b at x {c} e =
     let n = next-got (number at x) _ e in
@@ -112,7 +112,7 @@ abbrev whole : ℤ → ℕ → ℤ → Term
 whole a b c = record { a = a; b = b; c = c }
 
 -- A term that was read: its three numbers, and that it is within the limits.
-pub record TermAt (f : ℕ) (s : Tally) (at : ℕ) (x : List ℕ) (t : Term) (to : ℕ) (rest : List ℕ) : Type 0 where
+pub record Term-at (f : ℕ) (s : Tally) (at : ℕ) (x : List ℕ) (t : Term) (to : ℕ) (rest : List ℕ) : Type 0 where
   pub at-b : ℕ
   pub from-b : List ℕ
   pub at-c : ℕ
@@ -123,7 +123,7 @@ pub record TermAt (f : ℕ) (s : Tally) (at : ℕ) (x : List ℕ) (t : Term) (to
   pub passes : Passes f s t
 
 pub term-accepted : (f : ℕ) (s : Tally) (at : ℕ) (x : List ℕ) {t : Term} {to : ℕ} {rest : List ℕ} → read-term f s at x ≡ got t to rest
-    → TermAt f s at x t to rest
+    → Term-at f s at x t to rest
 unfolding read-term
 term-accepted f s at x {t} {to} {rest} e =
     let ra = next-got (read-a s at x) _ e in
@@ -135,7 +135,7 @@ term-accepted f s at x {t} {to} {rest} e =
     let pa = a-accepted s at x (ra .first) in
     let pb = b-accepted (ra .at) (ra .rest) (rb .first) in
     let pc = c-accepted f s (ra .x) (rb .x) (rb .at) (rb .rest) (rc .first) in
-    subst (λ (t : Term). TermAt f s at x t to rest) i
+    subst (λ (t : Term). Term-at f s at x t to rest) i
     (record {
       at-b = ra .at;
       from-b = ra .rest;
@@ -162,7 +162,7 @@ term-accepted f s at x {t} {to} {rest} e =
 
 -- And back: three numbers within the limits are read as a term.
 pub term-made : (f : ℕ) (s : Tally) (at : ℕ) (x : List ℕ) (t : Term) (to : ℕ) (rest : List ℕ)
-    → TermAt f s at x t to rest → read-term f s at x ≡ got t to rest
+    → Term-at f s at x t to rest → read-term f s at x ≡ got t to rest
 unfolding read-term next
 term-made f s at x t to rest h =
     let p = h .passes in

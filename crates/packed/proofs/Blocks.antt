@@ -58,13 +58,13 @@ block-after s k tally at =
     up n = omega arith
 
 -- The terms that were read, one after the other.
-pub data TermsAt (f : ℕ) : ℕ → Tally → ℕ → List ℕ → List Term → ℕ → List ℕ → Type 0 where
-  no-terms : {s : Tally} {at : ℕ} {x : List ℕ} → TermsAt f 0 s at x [] at x
+pub data Terms-at (f : ℕ) : ℕ → Tally → ℕ → List ℕ → List Term → ℕ → List ℕ → Type 0 where
+  no-terms : {s : Tally} {at : ℕ} {x : List ℕ} → Terms-at f 0 s at x [] at x
   a-term : {n : ℕ} {s : Tally} {at : ℕ} {x : List ℕ} {t : Term} {mid : ℕ} {y : List ℕ} {ts : List Term} {to : ℕ} {rest : List ℕ}
-      → read-term f s at x ≡ got t mid y → TermsAt f n (added f s t) mid y ts to rest → TermsAt f (suc n) s at x (t ∷ ts) to rest
+      → read-term f s at x ≡ got t mid y → Terms-at f n (added f s t) mid y ts to rest → Terms-at f (suc n) s at x (t ∷ ts) to rest
 
 carry : {f n : ℕ} {s : Tally} {at : ℕ} {x : List ℕ} {y ts : List Term} {i to : ℕ} {l rest : List ℕ} → got y i l ≡ got ts to rest
-    → TermsAt f n s at x y i l → TermsAt f n s at x ts to rest
+    → Terms-at f n s at x y i l → Terms-at f n s at x ts to rest
 carry {y = y} {ts = ts} {i = i} {to = to} {l = l} {rest = rest} e h =
     let p : y ≡ ts = cc in
     let q : i ≡ to = cc in
@@ -72,7 +72,7 @@ carry {y = y} {ts = ts} {i = i} {to = to} {l = l} {rest = rest} e h =
     rw (p, q, r) at h
 
 pub terms-accepted : (n f : ℕ) (s : Tally) (at : ℕ) (x : List ℕ) (ts : List Term) (to : ℕ) (rest : List ℕ) → read-terms n f s at x ≡ got ts to rest
-    → TermsAt f n s at x ts to rest
+    → Terms-at f n s at x ts to rest
 unfolding read-terms
 terms-accepted zero f s at x ts to rest e = carry e no-terms
 terms-accepted (suc n) f s at x ts to rest e =
@@ -80,20 +80,20 @@ terms-accepted (suc n) f s at x ts to rest e =
     let b = next-got (read-terms n f (added f s (a .x)) (a .at) (a .rest)) _ (a .second) in
     carry (b .second) (a-term (a .first) (terms-accepted n f (added f s (a .x)) (a .at) (a .rest) (b .x) (b .at) (b .rest) (b .first)))
 
-pub terms-length : {f n : ℕ} {s : Tally} {at : ℕ} {x : List ℕ} {ts : List Term} {to : ℕ} {rest : List ℕ} → TermsAt f n s at x ts to rest → length ts ≡ n
+pub terms-length : {f n : ℕ} {s : Tally} {at : ℕ} {x : List ℕ} {ts : List Term} {to : ℕ} {rest : List ℕ} → Terms-at f n s at x ts to rest → length ts ≡ n
 terms-length no-terms = refl
 terms-length (a-term e h) = ap suc (terms-length h)
 
 -- A block that was read: its count and its terms.
-pub record BlockAt (k : ℕ) (s : Tally) (at : ℕ) (x : List ℕ) (ts : List Term) (to : ℕ) (rest : List ℕ) : Type 0 where
+pub record Block-at (k : ℕ) (s : Tally) (at : ℕ) (x : List ℕ) (ts : List Term) (to : ℕ) (rest : List ℕ) : Type 0 where
   pub at-terms : ℕ
   pub from-terms : List ℕ
   pub count : number at x ≡ got (length ts) at-terms from-terms
   pub fits : count-fits s (length ts) ≡ true
-  pub terms : TermsAt (factor k) (length ts) (opened k (length ts) s) at-terms from-terms ts to rest
+  pub terms : Terms-at (factor k) (length ts) (opened k (length ts) s) at-terms from-terms ts to rest
 
 pub block-accepted : (k : ℕ) (s : Tally) (at : ℕ) (x : List ℕ) (ts : List Term) (to : ℕ) (rest : List ℕ)
-    → read-block k s at x ≡ got ts to rest → BlockAt k s at x ts to rest
+    → read-block k s at x ≡ got ts to rest → Block-at k s at x ts to rest
 unfolding read-block
 block-accepted k s at x ts to rest e =
     let a = next-got (number at x) _ e in
@@ -110,11 +110,11 @@ block-accepted k s at x ts to rest e =
     }
 
 -- The terms so far, after a block.
-pub record AfterBlock (k : ℕ) (s : Tally) (ts : List Term) : Type 0 where
+pub record After-block (k : ℕ) (s : Tally) (ts : List Term) : Type 0 where
   pub terms : after-block k s ts .terms ≡ s .terms + length ts
   pub few : after-block k s ts .terms ≤ series-limit
 
-pub block-sums : (k : ℕ) (s : Tally) (ts : List Term) → count-fits s (length ts) ≡ true → AfterBlock k s ts
+pub block-sums : (k : ℕ) (s : Tally) (ts : List Term) → count-fits s (length ts) ≡ true → After-block k s ts
 unfolding after-block opened
 block-sums k s ts h =
     let e : after-block k s ts .terms ≡ s .terms + length ts = summed-terms (factor k) (opened k (length ts) s) ts in

@@ -8,7 +8,7 @@ use native.Mathlib.Omega.{arith}
 use borrow.Author.Tests.{lt-ltb, le-ltb, lt-leb, le-leb, eq-eqb, ne-eqb}
 use lib.ListN.{length}
 use Rattle.units.specs.declared.Refusal.the-variants.{OverLimit, NotShortest}
-pub use Rattle.packed_numbers.specs.Numbers.{AllBytes}
+pub use Rattle.packed_numbers.specs.Numbers.{All-bytes}
 use Rattle.packed_numbers.specs.Numbers.{got, bad, closed, groups-from, number, groups, encode}
 use Rattle.packed_numbers.proofs.Decode.{power-next}
 
@@ -38,18 +38,18 @@ abbrev with-group : ℕ → ℕ → ℕ → ℕ
 with-group k acc b = acc + (b - 128) * 128 ^ k
 
 -- The groups of x after k groups of value acc are read as what they come to, where g of them are enough for x.
-abbrev ReadBack : (f k acc at x : ℕ) → List ℕ → Type 0
-ReadBack f k acc at x rest =
+abbrev Read-back : (f k acc at x : ℕ) → List ℕ → Type 0
+Read-back f k acc at x rest =
     (g : ℕ) → x < 128 ^ g → g ≤ f → k + g ≤ 9 → 0 < f → (k ≡ 0 → acc ≡ 0) → (x ≡ 0 → k ≡ 0)
     → groups-from k acc at (groups f x ++ rest) ≡ got (acc + x * 128 ^ k) (at + length (groups f x)) rest
 
-read-groups : (f k acc at x : ℕ) (rest : List ℕ) → ReadBack f k acc at x rest
+read-groups : (f k acc at x : ℕ) (rest : List ℕ) → Read-back f k acc at x rest
 unfolding groups-from groups
 read-groups zero k acc at x rest g h l m z p q = absurd (omega arith)
 read-groups (suc f) k acc at x rest g h l m z p q =
     go (read-groups f (k + 1) (with-group k acc (x % 128 + 128)) (at + 1) (x / 128) rest) (decLe 128 x) g h l m
   where
-    go : ReadBack f (k + 1) (with-group k acc (x % 128 + 128)) (at + 1) (x / 128) rest
+    go : Read-back f (k + 1) (with-group k acc (x % 128 + 128)) (at + 1) (x / 128) rest
         → Dec (128 ≤ x) → (g : ℕ) → x < 128 ^ g → g ≤ suc f → k + g ≤ 9
         → groups-from k acc at (groups (suc f) x ++ rest) ≡ got (acc + x * 128 ^ k) (at + length (groups (suc f) x)) rest
     go r (no n) g h l m = let u : x < 128 = omega arith in rw (lt-ltb x 128 u, lt-ltb x 128 u) (closed-value k acc at x rest p q)
@@ -76,21 +76,21 @@ number-encoded v at rest h =
     read-groups 10 0 0 at v rest 9 h (omega arith) (omega arith) (omega arith) (λ e. refl) (λ e. refl)
     ∙ ap (λ (n : ℕ). got n (at + length (groups 10 v)) rest) (omega arith)
 
-pub bytes-append : (s t : List ℕ) → AllBytes s → AllBytes t → AllBytes (s ++ t)
+pub bytes-append : (s t : List ℕ) → All-bytes s → All-bytes t → All-bytes (s ++ t)
 bytes-append [] t a b = b
 bytes-append (x ∷ s) t a b = (a .0, bytes-append s t (a .1) b)
 
 -- A packed number is bytes.
-groups-bytes : (n v : ℕ) → AllBytes (groups n v)
+groups-bytes : (n v : ℕ) → All-bytes (groups n v)
 unfolding groups
 groups-bytes zero v = tt
 groups-bytes (suc n) v = go (decLe 128 v) (groups-bytes n (v / 128))
   where
-    go : Dec (128 ≤ v) → AllBytes (groups n (v / 128)) → AllBytes (groups (suc n) v)
+    go : Dec (128 ≤ v) → All-bytes (groups n (v / 128)) → All-bytes (groups (suc n) v)
     go (yes h) a = rw (le-ltb v 128 h) (omega arith, a)
     go (no h) a = let l : v < 128 = omega (arith, h) in rw (lt-ltb v 128 l) (omega arith, tt)
 
-pub encode-bytes : (v : ℕ) → AllBytes (encode v)
+pub encode-bytes : (v : ℕ) → All-bytes (encode v)
 unfolding encode
 encode-bytes v = groups-bytes 10 v
 
@@ -101,9 +101,9 @@ record Form (f k acc at v to : ℕ) (rest s : List ℕ) : Type 0 where
   form : s ≡ groups f x ++ rest
   past : to ≡ at + length (groups f x)
   short : x ≡ 0 → k ≡ 0
-  left : AllBytes rest
+  left : All-bytes rest
 
-last-form : (f k acc at v to b : ℕ) (rest s : List ℕ) → AllBytes s → (k ≡ 0 → acc ≡ 0) → b < 128 → closed k acc at b s ≡ got v to rest
+last-form : (f k acc at v to b : ℕ) (rest s : List ℕ) → All-bytes s → (k ≡ 0 → acc ≡ 0) → b < 128 → closed k acc at b s ≡ got v to rest
     → Form (suc f) k acc at v to rest (b ∷ s)
 unfolding closed groups
 last-form f k acc at v to b rest s a z h = go (ℕ-discrete b 0) (ℕ-discrete k 0)
@@ -158,18 +158,18 @@ more-form f k acc at v to b rest s h l r =
     one-more a n = omega arith
 
 -- What is read from s after k groups of value acc has the form of groups.
-abbrev HasForm : (f k acc at v to : ℕ) → List ℕ → List ℕ → Type 0
-HasForm f k acc at v to rest s =
+abbrev Has-form : (f k acc at v to : ℕ) → List ℕ → List ℕ → Type 0
+Has-form f k acc at v to rest s =
     (k ≡ 0 → acc ≡ 0) → 9 ≤ k + f → groups-from k acc at s ≡ got v to rest → k ≤ 8 → Form f k acc at v to rest s
 
-groups-form : (f k acc at v to : ℕ) (rest s : List ℕ) → AllBytes s → HasForm f k acc at v to rest s
+groups-form : (f k acc at v to : ℕ) (rest s : List ℕ) → All-bytes s → Has-form f k acc at v to rest s
 unfolding groups-from
 groups-form f k acc at v to rest [] a z m e l = let n : _≡_ {A = ℕ} 0 1 = cc in absurd (omega arith)
 groups-form zero k acc at v to rest (b ∷ s) a z m e l = absurd (omega arith)
 groups-form (suc f) k acc at v to rest (b ∷ s) a z m e l =
     go (groups-form f (k + 1) (with-group k acc b) (at + 1) v to rest s (a .1)) (decLe 128 b) (decLe 8 k) e
   where
-    go : HasForm f (k + 1) (with-group k acc b) (at + 1) v to rest s
+    go : Has-form f (k + 1) (with-group k acc b) (at + 1) v to rest s
         → Dec (128 ≤ b) → Dec (8 ≤ k) → groups-from k acc at (b ∷ s) ≡ got v to rest → Form (suc f) k acc at v to rest (b ∷ s)
     go r (no h) q e = let t : b < 128 = omega (arith, h) in last-form f k acc at v to b rest s (a .1) z t (rw (lt-ltb b 128 t) at e)
     go r (yes h) (yes q) e =
@@ -185,9 +185,9 @@ groups-form (suc f) k acc at v to rest (b ∷ s) a z m e l =
 pub record Encoded (at : ℕ) (s : List ℕ) (v to : ℕ) (rest : List ℕ) : Type 0 where
   pub form : s ≡ encode v ++ rest
   pub past : to ≡ at + length (encode v)
-  pub left : AllBytes rest
+  pub left : All-bytes rest
 
-pub number-encodes : (at v to : ℕ) (rest s : List ℕ) → AllBytes s → number at s ≡ got v to rest → Encoded at s v to rest
+pub number-encodes : (at v to : ℕ) (rest s : List ℕ) → All-bytes s → number at s ≡ got v to rest → Encoded at s v to rest
 unfolding number encode
 number-encodes at v to rest s a e =
     let r = groups-form 10 0 0 at v to rest s a (λ _. refl) (omega arith) e (omega arith) in

@@ -16,9 +16,9 @@ abbrev pub group-limit : ℕ
 group-limit = 9
 
 -- Each is a byte.
-abbrev pub AllBytes : List ℕ → Type 0
-AllBytes [] = Unit {0}
-AllBytes (b ∷ s) = (b < 256) × AllBytes s
+abbrev pub All-bytes : List ℕ → Type 0
+All-bytes [] = Unit {0}
+All-bytes (b ∷ s) = (b < 256) × All-bytes s
 
 -- What a reader answers: what it has read, the offset past it and the bytes from there; or a refusal.
 pub data Read (A : Type 0) : Type 0 where

@@ -6,7 +6,7 @@ ghost use mathlib.Core.Bool.{true};
 ghost use lib.ListN.{length, getD};
 ghost use Prim.Native.Nat.{_+_, _<_, _≤_, _^_};
 ghost use Rattle.packed_numbers.specs.Numbers.{group};
-ghost use Rattle.packed_numbers.specs.machine.Usual.{usual-groups, tops, Begun, Usual, UsualTerm};
+ghost use Rattle.packed_numbers.specs.machine.Usual.{usual-groups, tops, Begun, Usual, Usual-term};
 
 // What the bytes of the first groups come to, with their top bits; or that a group is the last.
 struct Groups {
@@ -183,7 +183,7 @@ fn quick_c(s: &[u8], at: usize) -> Quick
 
 // The term at an offset, where its numbers have the usual lengths and the bytes of a usual term are left.
 pub fn quick_term(s: &[u8], at: usize) -> QuickTerm
-    ensures { λ r. ⌜ (r .usual ≡ true → UsualTerm (now (s .entry)) at (r .a) (r .b) (r .c) (r .to)) ⌝ }
+    ensures { λ r. ⌜ (r .usual ≡ true → Usual-term (now (s .entry)) at (r .a) (r .b) (r .c) (r .to)) ⌝ }
 {
     if s.len() < USUAL_TERM {
         return NO_TERM;

@@ -9,30 +9,30 @@ use lib.ListN.{length}
 use Rattle.units.specs.Units.{c-limit}
 use Rattle.packed_numbers.specs.Numbers.{Read, got, next, number, encode, folded}
 use Rattle.packed_numbers.proofs.Folding.{folded-natAbs}
-use Rattle.packed_numbers.proofs.Shortest.{AllBytes, bytes-append, encode-bytes, number-encoded, number-encodes}
+use Rattle.packed_numbers.proofs.Shortest.{All-bytes, bytes-append, encode-bytes, number-encoded, number-encodes}
 use Rattle.limits.specs.declared.Term.{Term}
 use Rattle.limits.specs.declared.Tally.{Tally}
 use Rattle.limits.specs.Limits.{after-block}
-use Rattle.limits.proofs.Passing.{GoodTerm, good-of, passes-of, count-passed, count-passes}
-use Rattle.limits.proofs.Terms.{GoodTerms, good-none, good-term}
-use Rattle.limits.proofs.Series.{GoodBlock, GoodBlocks, none, more}
+use Rattle.limits.proofs.Passing.{Good-term, good-of, passes-of, count-passed, count-passes}
+use Rattle.limits.proofs.Terms.{Good-terms, good-none, good-term}
+use Rattle.limits.proofs.Series.{Good-block, Good-blocks, none, more}
 use Rattle.packed.specs.Series.{read-term, read-terms, read-block, read-blocks, pack-term, pack-terms, pack-block, pack}
 use Rattle.packed.proofs.Accepting.{term-accepted, term-made, next-got}
-use Rattle.packed.proofs.Blocks.{TermsAt, no-terms, a-term, block-accepted, block-got}
+use Rattle.packed.proofs.Blocks.{Terms-at, no-terms, a-term, block-accepted, block-got}
 
 -- Bytes that begin with a packed form, and what is left.
 pub record Begins (p x rest : List ℕ) : Type 0 where
   pub form : x ≡ p ++ rest
-  pub left : AllBytes rest
+  pub left : All-bytes rest
 
 both : {p q x y rest : List ℕ} → Begins p x y → Begins q y rest → Begins (p ++ q) x rest
 both {p} {q} {rest = rest} f g = record { form = f .form ∙ rw (g .form) (sym (append-assoc p q rest)); left = g .left }
 
-number-begins : (at : ℕ) {v to : ℕ} {x rest : List ℕ} → AllBytes x → number at x ≡ got v to rest → Begins (encode v) x rest
+number-begins : (at : ℕ) {v to : ℕ} {x rest : List ℕ} → All-bytes x → number at x ≡ got v to rest → Begins (encode v) x rest
 number-begins at {v} {to} {x} {rest} a e = let n = number-encodes at v to rest x a e in record { form = n .form; left = n .left }
 
 -- A packed series is bytes.
-terms-bytes : (ts : List Term) → AllBytes (pack-terms ts)
+terms-bytes : (ts : List Term) → All-bytes (pack-terms ts)
 unfolding pack-terms pack-term
 terms-bytes [] = tt
 terms-bytes (t ∷ ts) =
@@ -41,7 +41,7 @@ terms-bytes (t ∷ ts) =
     let ab = bytes-append (encode a) (encode (t .b)) (encode-bytes a) (encode-bytes (t .b)) in
     bytes-append (pack-term t) (pack-terms ts) (bytes-append (encode a ++ encode (t .b)) (encode c) ab (encode-bytes c)) (terms-bytes ts)
 
-pub pack-bytes : (blocks : List (List Term)) → AllBytes (pack blocks)
+pub pack-bytes : (blocks : List (List Term)) → All-bytes (pack blocks)
 unfolding pack pack-block
 pack-bytes [] = tt
 pack-bytes (ts ∷ blocks) =
@@ -49,7 +49,7 @@ pack-bytes (ts ∷ blocks) =
     bytes-append (pack-block ts) (pack blocks) b (pack-bytes blocks)
 
 -- What was read is the packed form.
-term-begins : (f : ℕ) (s : Tally) (at : ℕ) (x : List ℕ) (t : Term) (to : ℕ) (rest : List ℕ) → AllBytes x → read-term f s at x ≡ got t to rest
+term-begins : (f : ℕ) (s : Tally) (at : ℕ) (x : List ℕ) (t : Term) (to : ℕ) (rest : List ℕ) → All-bytes x → read-term f s at x ≡ got t to rest
     → Begins (pack-term t) x rest
 unfolding pack-term
 term-begins f s at x t to rest a e =
@@ -59,7 +59,7 @@ term-begins f s at x t to rest a e =
     let r = number-begins (h .at-c) (q .left) (h .number-c) in
     both (both p q) r
 
-terms-begin : {f n : ℕ} {s : Tally} {at : ℕ} {x : List ℕ} {ts : List Term} {to : ℕ} {rest : List ℕ} → AllBytes x → TermsAt f n s at x ts to rest
+terms-begin : {f n : ℕ} {s : Tally} {at : ℕ} {x : List ℕ} {ts : List Term} {to : ℕ} {rest : List ℕ} → All-bytes x → Terms-at f n s at x ts to rest
     → Begins (pack-terms ts) x rest
 unfolding pack-terms
 terms-begin a no-terms = record { form = refl; left = a }
@@ -67,7 +67,7 @@ terms-begin {f} {s = s} {at = at} {x = x} a (a-term {t = t} {mid = mid} {y = y} 
     let p = term-begins f s at x t mid y a e in
     both p (terms-begin (p .left) h)
 
-block-begins : (k : ℕ) (s : Tally) (at : ℕ) (x : List ℕ) (ts : List Term) (to : ℕ) (rest : List ℕ) → AllBytes x → read-block k s at x ≡ got ts to rest
+block-begins : (k : ℕ) (s : Tally) (at : ℕ) (x : List ℕ) (ts : List Term) (to : ℕ) (rest : List ℕ) → All-bytes x → read-block k s at x ≡ got ts to rest
     → Begins (pack-block ts) x rest
 unfolding pack-block
 block-begins k s at x ts to rest a e =
@@ -81,7 +81,7 @@ carry {y = y} {z = z} {l = l} {m = m} P h w =
     let q : l ≡ m = cc in
     rw (p, q) at w
 
-pub blocks-begin : (n k : ℕ) (s : Tally) (at : ℕ) (x : List ℕ) (bs : List (List Term)) (to : ℕ) (rest : List ℕ) → AllBytes x
+pub blocks-begin : (n k : ℕ) (s : Tally) (at : ℕ) (x : List ℕ) (bs : List (List Term)) (to : ℕ) (rest : List ℕ) → All-bytes x
     → read-blocks n k s at x ≡ got bs to rest → Begins (pack bs) x rest
 unfolding read-blocks pack
 blocks-begin zero k s at x bs to rest a e = carry (λ (l : List (List Term)) (r : List ℕ). Begins (pack l) x r) e (record { form = refl; left = a })
@@ -93,13 +93,13 @@ blocks-begin (suc n) k s at x bs to rest a e =
     (both f (blocks-begin n (k + 1) (after-block k s (u .x)) (u .at) (u .rest) (v .x) (v .at) (v .rest) (f .left) (v .first)))
 
 -- What was read is good, one by one.
-terms-are-good : {f n : ℕ} {s : Tally} {at : ℕ} {x : List ℕ} {ts : List Term} {to : ℕ} {rest : List ℕ} → TermsAt f n s at x ts to rest → GoodTerms f s ts
+terms-are-good : {f n : ℕ} {s : Tally} {at : ℕ} {x : List ℕ} {ts : List Term} {to : ℕ} {rest : List ℕ} → Terms-at f n s at x ts to rest → Good-terms f s ts
 terms-are-good no-terms = good-none
 terms-are-good {f} {s = s} {at = at} {x = x} (a-term e h) = good-term (good-of f s _ (term-accepted f s at x e .passes)) (terms-are-good h)
 
 pub record Blocks-are (n k : ℕ) (s : Tally) (bs : List (List Term)) : Type 0 where
   pub many : length bs ≡ n
-  pub good : GoodBlocks k s bs
+  pub good : Good-blocks k s bs
 
 pub blocks-are-good : (n k : ℕ) (s : Tally) (at : ℕ) (x : List ℕ) (bs : List (List Term)) (to : ℕ) (rest : List ℕ)
     → read-blocks n k s at x ≡ got bs to rest → Blocks-are n k s bs
@@ -118,7 +118,7 @@ blocks-are-good (suc n) k s at x bs to rest e =
 small : (v : ℕ) (z : ℤ) → natAbs z < c-limit → folded z < 2 ^ 63
 small v z h = omega (arith, folded-natAbs z)
 
-term-packed : (f : ℕ) (s : Tally) (at : ℕ) (t : Term) (rest : List ℕ) → GoodTerm f s t
+term-packed : (f : ℕ) (s : Tally) (at : ℕ) (t : Term) (rest : List ℕ) → Good-term f s t
     → read-term f s at (pack-term t ++ rest) ≡ got t (at + length (encode (folded (t .a))) + length (encode (t .b)) + length (encode (folded (t .c)))) rest
 unfolding pack-term
 term-packed f s at t rest g =
@@ -144,7 +144,7 @@ pub record Comes {A : Type 0} (r : Read A) (x : A) (rest : List ℕ) : Type 0 wh
   pub to : ℕ
   pub is : r ≡ got x to rest
 
-terms-packed : {f : ℕ} {s : Tally} {ts : List Term} (at : ℕ) (rest : List ℕ) → GoodTerms f s ts
+terms-packed : {f : ℕ} {s : Tally} {ts : List Term} (at : ℕ) (rest : List ℕ) → Good-terms f s ts
     → Comes (read-terms (length ts) f s at (pack-terms ts ++ rest)) ts rest
 unfolding read-terms pack-terms next
 terms-packed at rest good-none = record { to = at; is = refl }
@@ -153,7 +153,7 @@ terms-packed {f} {s} {ts = t ∷ ts} at rest (good-term g h) =
     let i = terms-packed (at + length (encode (folded (t .a))) + length (encode (t .b)) + length (encode (folded (t .c)))) rest h in
     record { to = i .to; is = rw (append-assoc (pack-term t) (pack-terms ts) rest, p, i .is) }
 
-block-packed : (k : ℕ) (s : Tally) (ts : List Term) (at : ℕ) (rest : List ℕ) → GoodBlock k s ts → Comes (read-block k s at (pack-block ts ++ rest)) ts rest
+block-packed : (k : ℕ) (s : Tally) (ts : List Term) (at : ℕ) (rest : List ℕ) → Good-block k s ts → Comes (read-block k s at (pack-block ts ++ rest)) ts rest
 unfolding pack-block
 block-packed k s ts at rest g =
     let n = length ts in
@@ -163,7 +163,7 @@ block-packed k s ts at rest g =
     let b = block-got k s at (encode n ++ (pack-terms ts ++ rest)) n (at + length (encode n)) (pack-terms ts ++ rest) c f in
     record { to = i .to; is = rw (append-assoc (encode n) (pack-terms ts) rest) (b ∙ i .is) }
 
-pub blocks-packed : {k : ℕ} {s : Tally} {bs : List (List Term)} (at : ℕ) (rest : List ℕ) → GoodBlocks k s bs
+pub blocks-packed : {k : ℕ} {s : Tally} {bs : List (List Term)} (at : ℕ) (rest : List ℕ) → Good-blocks k s bs
     → Comes (read-blocks (length bs) k s at (pack bs ++ rest)) bs rest
 unfolding read-blocks pack next
 blocks-packed at rest none = record { to = at; is = refl }

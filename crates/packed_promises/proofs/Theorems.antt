@@ -8,7 +8,7 @@ use Rattle.units.specs.Refusals as refusals
 use Rattle.units.specs.declared.Refusal.{Refusal}
 use Rattle.units.specs.declared.Refusal.the-variants.{EndedEarly, ByteAfterEnd, NotShortest}
 use Rattle.packed_numbers.specs.Numbers.{Read, got, bad, next, closed, groups-from, number, groups, encode}
-use Rattle.packed_numbers.proofs.Shortest.{AllBytes}
+use Rattle.packed_numbers.proofs.Shortest.{All-bytes}
 use Rattle.units.specs.Units.{block-count}
 use Rattle.limits.specs.declared.Term.{Term}
 use Rattle.limits.specs.Limits.{no-tally, opened, summed, after-block, count-fits}
@@ -22,15 +22,15 @@ use Rattle.packed_promises.proofs.Longest.{Bounded, within, stopped, By
 use Rattle.packed_promises.proofs.Packing.{blocks-begin, blocks-are-good, blocks-packed}
 
 -- An accepted series was read to the end of its bytes.
-record ToEnd (x : List ℕ) (blocks : List (List Term)) : Type 0 where
+record To-end (x : List ℕ) (blocks : List (List Term)) : Type 0 where
   at : ℕ
   is : read-blocks block-count 0 no-tally 0 x ≡ got blocks at []
 
-to-end : (x : List ℕ) (blocks : List (List Term)) → parse x ≡ accepted blocks → ToEnd x blocks
+to-end : (x : List ℕ) (blocks : List (List Term)) → parse x ≡ accepted blocks → To-end x blocks
 unfolding parse read-series
 to-end x blocks e = go (read-blocks block-count 0 no-tally 0 x) refl e
   where
-    go : (r : Read (List (List Term))) → read-blocks block-count 0 no-tally 0 x ≡ r → ended r ≡ accepted blocks → ToEnd x blocks
+    go : (r : Read (List (List Term))) → read-blocks block-count 0 no-tally 0 x ≡ r → ended r ≡ accepted blocks → To-end x blocks
     go (got bs at []) p q = unfold ended in let w : bs ≡ blocks = cc in record { at = at; is = rw w at p }
     go (got bs at (b ∷ rest)) p q = unfold ended in let z : _≡_ {A = ℕ} 0 1 = cc in absurd (omega arith)
     go (bad r) p q = unfold ended in let z : _≡_ {A = ℕ} 0 1 = cc in absurd (omega arith)
@@ -117,7 +117,7 @@ pub longest-packed : (blocks : List (List Term)) → Allowed blocks → length (
 longest-packed blocks a = longest-series (pack blocks) blocks (pack-parse blocks a)
 
 -- The bytes of an accepted series are the packed form of its blocks: no other bytes are accepted for them.
-pub parse-pack : (x : List ℕ) (blocks : List (List Term)) → AllBytes x → parse x ≡ accepted blocks → x ≡ pack blocks
+pub parse-pack : (x : List ℕ) (blocks : List (List Term)) → All-bytes x → parse x ≡ accepted blocks → x ≡ pack blocks
 parse-pack x blocks b e =
     let t = to-end x blocks e in
     blocks-begin block-count 0 no-tally 0 x blocks (t .at) [] b (t .is) .form ∙ append-nil (pack blocks)

@@ -12,7 +12,7 @@ use Rattle.packed_promises.proofs.Theorems.{longest-packed}
 use Rattle.series_lines.specs.declared.Outcome.the-variants.{Accepted}
 use Rattle.series_lines.specs.Reader.{last-offset, told}
 use Rattle.text.specs.Reader.{whole}
-use Rattle.series_lines.specs.Grammar.{Block, blocks-bytes, blocks-of-lines, GoodText, InLimits}
+use Rattle.series_lines.specs.Grammar.{Block, blocks-bytes, blocks-of-lines, Good-text, In-limits}
 use Rattle.text_promises.proofs.Theorems.{read-text, accepted-text, accepted-elsewhere}
 use Rattle.text_promises.proofs.Series.{text-allowed}
 use Rattle.published.specs.Reader as published
@@ -20,7 +20,7 @@ use Rattle.published_promises.specs.HandCut.{cut-text}
 use Rattle.published_promises.proofs.Acceptance.{accepted-counted}
 use Rattle.published_promises.proofs.SameAsCut.{accepted-cut, accepted-file}
 
-pub always-room : (ks : List Block) (out : List ℕ) → GoodText ks → InLimits ks → length (blocks-bytes ks) ≤ last-offset → packed-limit ≤ length out
+pub always-room : (ks : List Block) (out : List ℕ) → Good-text ks → In-limits ks → length (blocks-bytes ks) ≤ last-offset → packed-limit ≤ length out
     → (told (whole (blocks-bytes ks) out .reader) ≡ Accepted (length (pack (blocks-of-lines ks))))
     × (whole (blocks-bytes ks) out .out ≡ sets out 0 (pack (blocks-of-lines ks)))
 always-room ks out g l c h = read-text ks out g l c (le-trans (longest-packed (blocks-of-lines ks) (text-allowed ks g l)) h)

@@ -5,7 +5,7 @@ ghost use lib.IntN.{pos, natAbs, _+ℤ_, _-ℤ_, _*ℤ_};
 ghost use Rattle.integers.specs.Division.{rounded};
 ghost use Rattle.units.specs.Units.{U, a-limit};
 ghost use Rattle.cosine.specs.Cosine.{y-of, evens, odds, horner, even-part, odd-part};
-ghost use Rattle.cosine.specs.machine.Parity.{even-value, odd-value, InRange, y-limit, divisor-limit};
+ghost use Rattle.cosine.specs.machine.Parity.{even-value, odd-value, In-range, y-limit, divisor-limit};
 use arith::signed::add;
 use cosine::term::times_cosine;
 use cosine::working::EVEN_1;
@@ -33,7 +33,7 @@ pub struct Pair {
 }
 
 fn square_pair(v: Pair) -> Pair
-    requires { ⌜ InRange (v .one) × InRange (v .two) ⌝ }
+    requires { ⌜ In-range (v .one) × In-range (v .two) ⌝ }
     ensures { λ r. ⌜ (pos (r .one) ≡ y-of (pos (v .one) -ℤ pos U)) × (pos (r .two) ≡ y-of (pos (v .two) -ℤ pos U)) × (r .one ≤ y-limit) × (r .two ≤ y-limit) ⌝ }
 {
     Pair {
@@ -90,7 +90,7 @@ fn horner_odds_pair(y: Pair) -> Pair
 
 // U more than the even parts, the cosines at quarter 0; the sign of quarter 2 is on the amplitude.
 fn even_pair(v: Pair) -> Pair
-    requires { ⌜ InRange (v .one) × InRange (v .two) ⌝ }
+    requires { ⌜ In-range (v .one) × In-range (v .two) ⌝ }
     ensures { λ r. ⌜ (pos (r .one) ≡ pos U +ℤ even-part (pos (v .one) -ℤ pos U)) × (pos (r .two) ≡ pos U +ℤ even-part (pos (v .two) -ℤ pos U))
         × (r .one ≤ 2 * U) × (r .two ≤ 2 * U) ⌝ }
 {
@@ -103,7 +103,7 @@ fn even_pair(v: Pair) -> Pair
 
 // U less the odd part, which is the rounded v*h / U, less h.
 fn odd_lifted(v: u64, h: u64) -> u64
-    requires { ⌜ InRange v × (pos h ≡ horner (y-of (pos v -ℤ pos U)) odds) × (h ≤ U) ⌝ }
+    requires { ⌜ In-range v × (pos h ≡ horner (y-of (pos v -ℤ pos U)) odds) × (h ≤ U) ⌝ }
     ensures { λ r. ⌜ (pos r ≡ pos U -ℤ odd-part (pos v -ℤ pos U)) × (r ≤ 2 * U) ⌝ }
 {
     U + h - (v * h + HALF_UNIT) / U
@@ -111,7 +111,7 @@ fn odd_lifted(v: u64, h: u64) -> u64
 
 // U less the odd parts, U more than the cosines at quarter 1; the sign of quarter 3 is on the amplitude.
 fn odd_pair(v: Pair) -> Pair
-    requires { ⌜ InRange (v .one) × InRange (v .two) ⌝ }
+    requires { ⌜ In-range (v .one) × In-range (v .two) ⌝ }
     ensures { λ r. ⌜ (pos (r .one) ≡ pos U -ℤ odd-part (pos (v .one) -ℤ pos U)) × (pos (r .two) ≡ pos U -ℤ odd-part (pos (v .two) -ℤ pos U))
         × (r .one ≤ 2 * U) × (r .two ≤ 2 * U) ⌝ }
 {
@@ -132,7 +132,7 @@ fn scaled_pair(a1: i64, a2: i64, c: Pair) -> i64
 
 // The sum of two terms' values, both at an even quarter.
 pub fn even_values(a1: i64, a2: i64, v: Pair) -> i64
-    requires { ⌜ (natAbs a1 < a-limit) × (natAbs a2 < a-limit) × InRange (v .one) × InRange (v .two) ⌝ }
+    requires { ⌜ (natAbs a1 < a-limit) × (natAbs a2 < a-limit) × In-range (v .one) × In-range (v .two) ⌝ }
     ensures { λ r. ⌜ r ≡ even-value a1 (v .one) +ℤ even-value a2 (v .two) ⌝ }
 {
     scaled_pair(a1, a2, even_pair(v))
@@ -140,7 +140,7 @@ pub fn even_values(a1: i64, a2: i64, v: Pair) -> i64
 
 // The same, both at an odd quarter.
 pub fn odd_values(a1: i64, a2: i64, v: Pair) -> i64
-    requires { ⌜ (natAbs a1 < a-limit) × (natAbs a2 < a-limit) × InRange (v .one) × InRange (v .two) ⌝ }
+    requires { ⌜ (natAbs a1 < a-limit) × (natAbs a2 < a-limit) × In-range (v .one) × In-range (v .two) ⌝ }
     ensures { λ r. ⌜ r ≡ odd-value a1 (v .one) +ℤ odd-value a2 (v .two) ⌝ }
 {
     scaled_pair(a1, a2, odd_pair(v))

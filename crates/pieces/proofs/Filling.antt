@@ -13,7 +13,7 @@ use mir.Val.{SFits}
 use Rattle.integers.proofs.Order.{natAbs-+}
 use Rattle.arith.proofs.Cells.{Cell, cell}
 use Rattle.units.specs.Units.{a-limit}
-use Rattle.cosine.specs.machine.Parity.{InRange}
+use Rattle.cosine.specs.machine.Parity.{In-range}
 use Rattle.pieces.specs.machine.Parted.{room, half-sum, Small, Half, Closed}
 use Rattle.pieces.proofs.Adding.{cells-fit, cells-are}
 
@@ -141,7 +141,7 @@ module _ (f : ℤ → ℕ → ℤ) (la : List ℤ) (lv : List ℕ) (i : ℕ) (p 
   b-cell : Cell b ≡ b
   b-cell = cell b (let s = second .a-below in omega arith)
 
-  pub two-asks : (natAbs (Cell a) < a-limit) × (natAbs (Cell b) < a-limit) × InRange v × InRange w
+  pub two-asks : (natAbs (Cell a) < a-limit) × (natAbs (Cell b) < a-limit) × In-range v × In-range w
   two-asks = rw (a-cell, b-cell) (first .a-below, second .a-below, first .v-within, second .v-within)
 
   module _ (sum z : ℤ) (es : sum ≡ half-sum f la lv i) (ez : z ≡ f (Cell a) v +ℤ f (Cell b) w) where

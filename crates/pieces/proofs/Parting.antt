@@ -17,7 +17,7 @@ use Rattle.limits.specs.declared.Term.{Term}
 use Rattle.packed.specs.machine.Table.{term-at, terms-at}
 use Rattle.pieces.specs.declared.Counts.{Counts}
 use Rattle.pieces.specs.Sums.{block-sum}
-use Rattle.pieces.specs.machine.Parted.{piece-limit, room, half-sum, WorkedFor, Piece, Rooms, PutInBoth, Small, Half, Parted}
+use Rattle.pieces.specs.machine.Parted.{piece-limit, room, half-sum, Worked-for, Piece, Rooms, Put-in-both, Small, Half, Parted}
 use Rattle.pieces.proofs.Adding.{cells-fit, cells-are}
 use Rattle.pieces.proofs.Filling.{sum-same, half-none, half-less, half-same, sum-stored, half-more, half-closed, half-below}
 use Rattle.pieces.proofs.Sizes.{no-share}
@@ -120,7 +120,7 @@ module _ {t : ℤ} {rows : List (List ℕ)} {from to : ℕ} {ea : List ℤ} {ev 
     pub odds-free : n .odds < room
     odds-free = let m = p .many in let s = p .short in let w = p .summed .within in omega arith
 
-    module _ (h : i < to) (w : ReducedTerm) (k : WorkedFor t (term-at rows i) w) where
+    module _ (h : i < to) (w : ReducedTerm) (k : Worked-for t (term-at rows i) w) where
       small : Small (value-by-parity (w .odd)) (w .a) (w .v)
       small = record {
         a-below = let l = term-fits (p .summed) h .a-below in let e = k .size in omega arith;
@@ -138,7 +138,7 @@ module _ {t : ℤ} {rows : List (List ℕ)} {from to : ℕ} {ea : List ℤ} {ev 
         short = p .short;
       }
 
-      pub partly-more : {ea′ : List ℤ} {ev′ : List ℕ} {oa′ : List ℤ} {ov′ : List ℕ} {r : Counts} → PutInBoth w n ea ev oa ov ea′ ev′ oa′ ov′ r →
+      pub partly-more : {ea′ : List ℤ} {ev′ : List ℕ} {oa′ : List ℤ} {ov′ : List ℕ} {r : Counts} → Put-in-both w n ea ev oa ov ea′ ev′ oa′ ov′ r →
           Partly t rows from to ea′ ev′ oa′ ov′ r (i + 1)
       partly-more q = rw (q .evens-a, q .evens-v, q .odds-a, q .odds-v, q .count) moved
 
@@ -152,7 +152,7 @@ module _ {t : ℤ} {rows : List (List ℕ)} {from to : ℕ} {ea : List ℤ} {ev 
     }
 
     pub partly-all : to ≤ i → {ea′ : List ℤ} {ev′ : List ℕ} {oa′ : List ℤ} {ov′ : List ℕ} {r : Counts} →
-        PutInBoth (record { a = pos 0; v = U; odd = 0 }) n ea ev oa ov ea′ ev′ oa′ ov′ r → Parted t (terms-at rows from (to - from)) ea′ ev′ oa′ ov′ n
+        Put-in-both (record { a = pos 0; v = U; odd = 0 }) n ea ev oa ov ea′ ev′ oa′ ov′ r → Parted t (terms-at rows from (to - from)) ea′ ev′ oa′ ov′ n
     partly-all h q = rw (q .evens-a, q .evens-v, q .odds-a, q .odds-v) (ended h)
 
 -- ---- the sum of both tables

@@ -8,17 +8,17 @@ use Rattle.arith.proofs.Cells.{Cell, cell}
 use Rattle.units.specs.Units.{a-limit, b-limit, c-limit}
 use Rattle.packed_numbers.specs.Numbers.{unfolded}
 use Rattle.cosine.specs.Terms.{term-value}
-use Rattle.cosine.specs.machine.Parity.{value-by-parity, InRange}
+use Rattle.cosine.specs.machine.Parity.{value-by-parity, In-range}
 use Rattle.cosine.specs.declared.term.ReducedTerm.{ReducedTerm}
-use Rattle.limits.specs.Allowed.{TermFits}
+use Rattle.limits.specs.Allowed.{Term-fits}
 use Rattle.packed.specs.machine.Table.{number-at, term-at}
-use Rattle.pieces.specs.machine.Parted.{WorkedFor}
+use Rattle.pieces.specs.machine.Parted.{Worked-for}
 
 -- z is x, of which little is known but its size
 held-as : (z x : ℤ) → z ≡ x → natAbs x < 2 ^ 63 → Cell z ≡ x
 held-as z x e h = ap Cell e ∙ cell x h
 
-module _ (rows : List (List ℕ)) (i : ℕ) (f : TermFits (term-at rows i)) (a c : ℤ)
+module _ (rows : List (List ℕ)) (i : ℕ) (f : Term-fits (term-at rows i)) (a c : ℤ)
     (ea : a ≡ unfolded (number-at rows i 0)) (ec : c ≡ unfolded (number-at rows i 2)) where
   a-is : Cell a ≡ term-at rows i .a
   unfolding term-at
@@ -33,7 +33,7 @@ module _ (rows : List (List ℕ)) (i : ℕ) (f : TermFits (term-at rows i)) (a c
   row-asks = rw (a-is, c-is) (f .a-below, f .b-below, f .c-below)
 
   pub row-worked : (t : ℤ) (w : ReducedTerm) → value-by-parity (w .odd) (w .a) (w .v) ≡ term-value (Cell a) (number-at rows i 1) (Cell c) t
-      → natAbs (w .a) ≡ natAbs (Cell a) → w .odd ≤ 1 → InRange (w .v) → WorkedFor t (term-at rows i) w
+      → natAbs (w .a) ≡ natAbs (Cell a) → w .odd ≤ 1 → In-range (w .v) → Worked-for t (term-at rows i) w
   unfolding term-at
   row-worked t w e h o v = record {
     value = e ∙ ap₂ (λ (x y : ℤ). term-value x (number-at rows i 1) y t) a-is c-is;

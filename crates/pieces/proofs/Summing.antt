@@ -9,7 +9,7 @@ use Rattle.integers.proofs.Order.{natAbs-+}
 use Rattle.units.specs.Units.{a-limit, total-limit, series-limit}
 use Rattle.cosine.specs.Terms.{term-value}
 use Rattle.limits.specs.declared.Term.{Term}
-use Rattle.limits.specs.Allowed.{TermFits, AllFit, none, more, BlockFits, total-of}
+use Rattle.limits.specs.Allowed.{Term-fits, All-fit, none, more, Block-fits, total-of}
 use Rattle.packed.specs.machine.Table.{term-at, terms-at}
 use Rattle.pieces.specs.Sums.{block-sum}
 use Rattle.pieces.specs.machine.Parted.{piece-limit}
@@ -29,11 +29,11 @@ unfolding total-of
 total-append [] ys = omega arith
 total-append (x ∷ xs) ys = let e = total-append xs ys in omega arith
 
-first-fit : (xs ys : List Term) → AllFit (xs ++ ys) → AllFit xs
+first-fit : (xs ys : List Term) → All-fit (xs ++ ys) → All-fit xs
 first-fit [] ys h = none
 first-fit (x ∷ xs) ys (more h k) = more h (first-fit xs ys k)
 
-rest-fit : (xs ys : List Term) → AllFit (xs ++ ys) → AllFit ys
+rest-fit : (xs ys : List Term) → All-fit (xs ++ ys) → All-fit ys
 rest-fit [] ys h = h
 rest-fit (x ∷ xs) ys (more h k) = rest-fit xs ys k
 
@@ -61,12 +61,12 @@ module _ (rows : List (List ℕ)) where
 pub record Summed (t : ℤ) (rows : List (List ℕ)) (from to : ℕ) (sum : ℤ) (i : ℕ) : Type 0 where
   pub within : i ≤ to
   pub space : to ≤ series-limit
-  pub limits : AllFit (terms-at rows i (to - i))
+  pub limits : All-fit (terms-at rows i (to - i))
   pub small : natAbs sum + total-of (terms-at rows i (to - i)) ≤ total-limit
   pub left : sum +ℤ block-sum t (terms-at rows i (to - i)) ≡ block-sum t (terms-at rows from (to - from))
 
 module _ {t : ℤ} {rows : List (List ℕ)} {from to : ℕ} where
-  pub summed-none : from ≤ to → to ≤ series-limit → BlockFits (terms-at rows from (to - from)) → Summed t rows from to (pos 0) from
+  pub summed-none : from ≤ to → to ≤ series-limit → Block-fits (terms-at rows from (to - from)) → Summed t rows from to (pos 0) from
   summed-none h k b = record {
     within = h;
     space = k;
@@ -94,10 +94,10 @@ module _ {t : ℤ} {rows : List (List ℕ)} {from to : ℕ} where
     sizes : natAbs sum + (total-of piece + total-of rest) ≤ total-limit
     sizes = let l = subst (λ (xs : List Term). natAbs sum + total-of xs ≤ total-limit) cut (s .small) in let e = total-append piece rest in omega arith
 
-    pub piece-fits : j ≤ i + piece-limit → BlockFits piece
+    pub piece-fits : j ≤ i + piece-limit → Block-fits piece
     piece-fits l = record {
       few = let e = terms-length rows (j - i) i in omega arith;
-      terms = first-fit piece rest (subst AllFit cut (s .limits));
+      terms = first-fit piece rest (subst All-fit cut (s .limits));
       total = let z = sizes in omega arith;
     }
 
@@ -112,7 +112,7 @@ module _ {t : ℤ} {rows : List (List ℕ)} {from to : ℕ} where
       summed-piece = record {
         within = k;
         space = s .space;
-        limits = rest-fit piece rest (subst AllFit cut (s .limits));
+        limits = rest-fit piece rest (subst All-fit cut (s .limits));
         small = let l = size in let n = natAbs-+ sum v in omega arith;
         left =
             ap (λ (x : ℤ). sum +ℤ x +ℤ block-sum t rest) e
@@ -125,10 +125,10 @@ module _ {t : ℤ} {rows : List (List ℕ)} {from to : ℕ} where
     abbrev x : Term
     x = term-at rows i
 
-    pub term-fits : TermFits x
-    term-fits = only (subst AllFit (one-term rows i) (piece-fits s (i + 1) (omega arith) (omega arith) (omega arith) .terms))
+    pub term-fits : Term-fits x
+    term-fits = only (subst All-fit (one-term rows i) (piece-fits s (i + 1) (omega arith) (omega arith) (omega arith) .terms))
       where
-        only : {x : Term} → AllFit (x ∷ []) → TermFits x
+        only : {x : Term} → All-fit (x ∷ []) → Term-fits x
         only (more h k) = h
 
     pub value-below : natAbs (term-value (x .a) (x .b) (x .c) t) < a-limit

@@ -9,9 +9,9 @@ ghost use Rattle.cosine.specs.machine.Parity.{even-value, odd-value};
 ghost use Rattle.cosine.specs.machine.Prepared.{Ready};
 ghost use Rattle.units.specs.Units.{series-limit};
 ghost use Rattle.packed.specs.machine.Table.{Sized, term-at, terms-at};
-ghost use Rattle.limits.specs.Allowed.{TermFits, BlockFits};
+ghost use Rattle.limits.specs.Allowed.{Term-fits, Block-fits};
 ghost use Rattle.pieces.specs.Sums.{block-sum};
-ghost use Rattle.pieces.specs.machine.Parted.{piece-limit, room, half-sum, WorkedFor, Piece, Rooms, PutInBoth, Half, Closed, Parted};
+ghost use Rattle.pieces.specs.machine.Parted.{piece-limit, room, half-sum, Worked-for, Piece, Rooms, Put-in-both, Half, Closed, Parted};
 use arith::signed::add;
 use cosine::term::Prepared;
 use cosine::term::ReducedTerm;
@@ -44,7 +44,7 @@ fn put_term(
     ov: &mut [u64; ROOM],
 ) -> Counts
     requires { ⌜ (w .odd ≤ 1) × (n .evens < room) × (n .odds < room) ⌝ }
-    ensures { λ r. ⌜ PutInBoth w n (now (ea .entry)) (now (ev .entry)) (now (oa .entry)) (now (ov .entry))
+    ensures { λ r. ⌜ Put-in-both w n (now (ea .entry)) (now (ev .entry)) (now (oa .entry)) (now (ov .entry))
         (now (ea .exit)) (now (ev .exit)) (now (oa .exit)) (now (ov .exit)) r ⌝ }
 {
     let evens = n.evens;
@@ -63,8 +63,8 @@ fn put_term(
 
 // The term at place i of the table, with its angle worked out.
 fn worked_at(p: Prepared, table: &Table, i: usize) -> ReducedTerm
-    requires { ⌜ Ready p × Sized (now table) × (i < series-limit) × TermFits (term-at (now table) i) ⌝ }
-    ensures { λ r. ⌜ WorkedFor (p .t) (term-at (now (table .entry)) i) r ⌝ }
+    requires { ⌜ Ready p × Sized (now table) × (i < series-limit) × Term-fits (term-at (now table) i) ⌝ }
+    ensures { λ r. ⌜ Worked-for (p .t) (term-at (now (table .entry)) i) r ⌝ }
 {
     let row = table[i];
     reduced_term(p, unfold_number(row[0]), row[1], unfold_number(row[2]))
@@ -181,7 +181,7 @@ fn piece_end(i: usize, to: usize) -> usize
 
 // The sum of the terms from place from up to place to.
 pub fn sum_terms(p: Prepared, table: &Table, from: usize, to: usize) -> i64
-    requires { ⌜ Ready p × Sized (now table) × (from ≤ to) × (to ≤ series-limit) × BlockFits (terms-at (now table) from (to - from)) ⌝ }
+    requires { ⌜ Ready p × Sized (now table) × (from ≤ to) × (to ≤ series-limit) × Block-fits (terms-at (now table) from (to - from)) ⌝ }
     ensures { λ r. ⌜ r ≡ block-sum (p .t) (terms-at (now (table .entry)) from (to - from)) ⌝ }
 {
     let mut ea = [0i64; ROOM];

@@ -13,7 +13,7 @@ use Rattle.units.specs.Units.{block-count, series-limit}
 use Rattle.units.specs.declared.Refusal.the-variants.{NoRoom}
 use Rattle.limits.specs.declared.Term.{Term}
 use Rattle.packed.specs.Series.{Parsed, accepted, refused}
-use Rattle.series_lines.specs.Grammar.{count-digits, part-digits, Decimal, CountLine, TermLine, Block, blocks-bytes}
+use Rattle.series_lines.specs.Grammar.{count-digits, part-digits, Decimal, Count-line, Term-line, Block, blocks-bytes}
 use Rattle.printer.specs.declared.Printed.{Printed}
 use Rattle.printer.specs.declared.Printed.the-variants.{Length, NoText}
 
@@ -48,10 +48,10 @@ plain-decimal minus v =
     }
 
 -- A count, a term, a block, each as its lines: no leading space, and none beside the one that parts two decimals.
-unfoldable pub plain-count : ℕ → CountLine
+unfoldable pub plain-count : ℕ → Count-line
 plain-count n = record { first = first-digit n; more = rest-digits n }
 
-unfoldable pub plain-term : Term → TermLine
+unfoldable pub plain-term : Term → Term-line
 plain-term t =
     record {
       lead = 0;

@@ -9,7 +9,7 @@ use native.Mathlib.Omega.{arith, by-contra}
 use borrow.Author.Tests.{lt-ltb, le-ltb}
 use lib.Dec.{ltb, lit<}
 use lib.ListN.{length}
-use Rattle.series_lines.specs.Grammar.{AllDigits, numeral, Natural}
+use Rattle.series_lines.specs.Grammar.{All-digits, numeral, Natural}
 use Rattle.printer.specs.Printer.{last-digits, further, further-digits, first-digit, rest-digits}
 use Rattle.printer.proofs.DigitsWritten.{div-power, first-small, further-bound, last-first, length-last}
 
@@ -25,13 +25,13 @@ numeral-last zero v = omega arith
 numeral-last (suc n) v =
     rw (← div-power n v, numeral-append (v / 10 / 10 ^ n) (last-digits n (v / 10)) (v % 10), numeral-last n (v / 10)) (omega arith)
 
-all-append : (xs : List ℕ) (d : ℕ) → AllDigits xs → d < 10 → AllDigits (xs ++ d ∷ [])
-unfolding AllDigits
+all-append : (xs : List ℕ) (d : ℕ) → All-digits xs → d < 10 → All-digits (xs ++ d ∷ [])
+unfolding All-digits
 all-append [] d a h = (h, tt)
 all-append (x ∷ xs) d a h = (a .0, all-append xs d (a .1) h)
 
-pub all-last : (n v : ℕ) → AllDigits (last-digits n v)
-unfolding AllDigits last-digits
+pub all-last : (n v : ℕ) → All-digits (last-digits n v)
+unfolding All-digits last-digits
 all-last zero v = tt
 all-last (suc n) v = all-append (last-digits n (v / 10)) (v % 10) (all-last n (v / 10)) (omega arith)
 
@@ -87,8 +87,8 @@ pub record Written (ds : List ℕ) (v : ℕ) : Type 0 where
   pub before : numeral v ds / 10 ^ length ds ≡ v
   pub last : last-digits (length ds) (numeral v ds) ≡ ds
 
-pub written : (ds : List ℕ) (v : ℕ) → AllDigits ds → Written ds v
-unfolding numeral AllDigits
+pub written : (ds : List ℕ) (v : ℕ) → All-digits ds → Written ds v
+unfolding numeral All-digits
 written [] v a = record { before = omega arith; last = unfold last-digits in refl }
 written (d ∷ ds) v a =
     let w = written ds (10 * v + d) (a .1) in

@@ -11,7 +11,7 @@ use Rattle.units.specs.Units.{parts}
 use Rattle.limits.specs.declared.Term.{Term}
 use Rattle.limits.specs.declared.Tally.{Tally}
 use Rattle.limits.specs.Allowed.{term-count}
-use Rattle.limits.proofs.Passing.{GoodTerm}
+use Rattle.limits.proofs.Passing.{Good-term}
 use Rattle.limits.proofs.Terms as limits
 use Rattle.limits.proofs.Series as judged
 use Rattle.series_lines.specs.Grammar.{feed, part-digits, sign, count-bytes, decimal}
@@ -28,7 +28,7 @@ whole-short n v h = omega (arith, whole-length v, further-few n v h)
 decimal-short : (minus : Bool) (n v : ℕ) → v / parts < 10 ^ suc n → length (decimal (plain-decimal minus v)) ≤ length (sign minus) + suc n + (1 + part-digits)
 decimal-short minus n v h = omega (arith, decimal-size minus v, whole-short n (v / parts) h)
 
-line-short : (f : ℕ) (s : Tally) (t : Term) → GoodTerm f s t → length (line-text t) ≤ term-line-limit
+line-short : (f : ℕ) (s : Tally) (t : Term) → Good-term f s t → length (line-text t) ≤ term-line-limit
 unfolding sign
 line-short f s t g =
     let a = decimal-short (negative (t .a)) 4 (natAbs (t .a)) (omega (arith, g .good-a .small)) in
@@ -39,19 +39,19 @@ line-short f s t g =
     let l = line-length t _ _ _ _ (signed (t .a) _ _ refl refl) (signed (t .c) _ _ refl refl) _ _ _ refl refl refl in
     omega arith
 
-lines-short : {f : ℕ} {s : Tally} {ts : List Term} → limits.GoodTerms f s ts → length (lines-text ts) ≤ term-line-limit * length ts
+lines-short : {f : ℕ} {s : Tally} {ts : List Term} → limits.Good-terms f s ts → length (lines-text ts) ≤ term-line-limit * length ts
 lines-short limits.good-none = rw lines-none (omega arith)
 lines-short {f} {s} {ts = t ∷ ts} (limits.good-term g h) =
     rw (lines-cons t ts) (omega (arith, length-append (line-text t) (lines-text ts), line-short f s t g, lines-short h))
 
-block-short : (k : ℕ) (s : Tally) (ts : List Term) → judged.GoodBlock k s ts → length (block-text ts) ≤ count-line-limit + term-line-limit * length ts
+block-short : (k : ℕ) (s : Tally) (ts : List Term) → judged.Good-block k s ts → length (block-text ts) ≤ count-line-limit + term-line-limit * length ts
 unfolding block-text count-bytes plain-count
 block-short k s ts g =
     let w = whole-short 3 (length ts) (omega (arith, g .few)) in
     let e : count-bytes (plain-count (length ts)) ≡ whole-text (length ts) = unfold whole-text in refl in
     omega (arith, ap length e, length-append (count-bytes (plain-count (length ts))) (feed ∷ lines-text ts), lines-short (g .terms))
 
-pub text-short : {k : ℕ} {s : Tally} {bs : List (List Term)} → judged.GoodBlocks k s bs → length (plain-text bs) ≤ count-line-limit * length bs + term-line-limit * term-count bs
+pub text-short : {k : ℕ} {s : Tally} {bs : List (List Term)} → judged.Good-blocks k s bs → length (plain-text bs) ≤ count-line-limit * length bs + term-line-limit * term-count bs
 unfolding term-count
 text-short judged.none = rw text-none (omega arith)
 text-short {k} {s} {bs = ts ∷ bs} (judged.more g h) =

@@ -9,10 +9,10 @@ use Rattle.integers.proofs.Division.{sgn-natAbs}
 use Rattle.integers.proofs.Order.{natAbs-sgn}
 use Rattle.units.specs.Units as units
 use Rattle.limits.specs.declared.Term.{Term}
-use Rattle.series_lines.specs.Grammar.{part-digits, numeral, Decimal, size, value, GoodDecimal, CountLine, count, GoodCount, TermLine, GoodTerm, term-of-line}
+use Rattle.series_lines.specs.Grammar.{part-digits, numeral, Decimal, size, value, Good-decimal, Count-line, count, Good-count, Term-line, Good-term, term-of-line}
 use Rattle.printer.specs.Printer.{last-digits, plain-decimal, plain-count, plain-term}
 use Rattle.printer.proofs.DigitsWritten.{length-last}
-use Rattle.printer_promises.proofs.Spacing.{PlainLine}
+use Rattle.printer_promises.proofs.Spacing.{Plain-line}
 use Rattle.printer_promises.proofs.DigitsAndNumbers.{all-last, numeral-last, natural-good, natural-value, natural-unique, written}
 
 -- A decimal and its number.
@@ -20,7 +20,7 @@ pub size-plain : (minus : Bool) (v : ℕ) → size (plain-decimal minus v) ≡ v
 unfolding size plain-decimal
 size-plain minus v = rw (natural-value (v / units.parts)) (numeral-last part-digits v)
 
-pub decimal-good : (minus : Bool) (v : ℕ) → v < 1000000 * units.parts → (minus ≡ true → 0 < v) → GoodDecimal (plain-decimal minus v)
+pub decimal-good : (minus : Bool) (v : ℕ) → v < 1000000 * units.parts → (minus ≡ true → 0 < v) → Good-decimal (plain-decimal minus v)
 unfolding plain-decimal
 decimal-good minus v h z =
     record {
@@ -39,11 +39,11 @@ unfolding negative
 above-zero (pos n) e = let q : _≡_ {A = ℕ} 0 1 = cc in absurd (omega arith)
 above-zero (negsuc n) e = omega arith
 
-pub number-good : (z : ℤ) → natAbs z < 1000000 * units.parts → GoodDecimal (plain-decimal (negative z) (natAbs z))
+pub number-good : (z : ℤ) → natAbs z < 1000000 * units.parts → Good-decimal (plain-decimal (negative z) (natAbs z))
 number-good z h = decimal-good (negative z) (natAbs z) h (above-zero z)
 
 -- And back.
-pub decimal-unique : (d : Decimal) → GoodDecimal d → plain-decimal (d .minus) (size d) ≡ d
+pub decimal-unique : (d : Decimal) → Good-decimal d → plain-decimal (d .minus) (size d) ≡ d
 unfolding plain-decimal size
 decimal-unique d g =
     let n = numeral (d .first) (d .more) in
@@ -59,7 +59,7 @@ negative-sgn false v h = refl
 negative-sgn true zero h = absurd (omega (arith, h refl))
 negative-sgn true (suc v) h = refl
 
-pub value-unique : (d : Decimal) → GoodDecimal d → plain-decimal (negative (value d)) (natAbs (value d)) ≡ d
+pub value-unique : (d : Decimal) → Good-decimal d → plain-decimal (negative (value d)) (natAbs (value d)) ≡ d
 unfolding value
 value-unique d g = rw (natAbs-sgn (d .minus) (size d), negative-sgn (d .minus) (size d) (g .zero)) (decimal-unique d g)
 
@@ -68,11 +68,11 @@ pub count-plain : (n : ℕ) → count (plain-count n) ≡ n
 unfolding count plain-count
 count-plain n = natural-value n
 
-pub count-good : (n : ℕ) → n < 10000 → GoodCount (plain-count n)
+pub count-good : (n : ℕ) → n < 10000 → Good-count (plain-count n)
 unfolding plain-count
 count-good n h = natural-good 3 n (omega arith) (omega arith)
 
-pub count-unique : (k : CountLine) → GoodCount k → plain-count (count k) ≡ k
+pub count-unique : (k : Count-line) → Good-count k → plain-count (count k) ≡ k
 unfolding plain-count count
 count-unique k g = let u = natural-unique 4 (k .first) (k .more) g (omega arith) in rw (u .one, u .rest)
 
@@ -84,11 +84,11 @@ pub term-plain : (t : Term) → term-of-line (plain-term t) ≡ t
 unfolding plain-term
 term-plain t = whole-is t (sym (value-plain (t .a))) (sym (size-plain false (t .b))) (sym (value-plain (t .c)))
 
-line-is : (l : TermLine) {x y z : ℕ} → l .lead ≡ x → l .after-a ≡ y → l .after-b ≡ z
+line-is : (l : Term-line) {x y z : ℕ} → l .lead ≡ x → l .after-a ≡ y → l .after-b ≡ z
     → record { lead = x; a = l .a; after-a = y; b = l .b; after-b = z; c = l .c } ≡ l
 line-is l p q r = rw (← p, ← q, ← r)
 
-pub term-unique : (l : TermLine) → GoodTerm l → PlainLine l → l .b .minus ≡ false → plain-term (term-of-line l) ≡ l
+pub term-unique : (l : Term-line) → Good-term l → Plain-line l → l .b .minus ≡ false → plain-term (term-of-line l) ≡ l
 unfolding plain-term
 term-unique l g p m =
     let b : plain-decimal false (size (l .b)) ≡ l .b = ap (λ (x : Bool). plain-decimal x (size (l .b))) (sym m) ∙ decimal-unique (l .b) (g .b) in

@@ -11,7 +11,7 @@ use Rattle.units.specs.Units.{parts}
 use Rattle.limits.specs.declared.Term.{Term}
 use Rattle.series_lines.specs.Grammar.{feed, part-digits, sign, point, digits, decimal, count-bytes}
 use Rattle.printer.specs.Printer.{last-digits, first-digit, rest-digits, plain-decimal, plain-count, plain-text}
-use Rattle.printer_promises.specs.Plain.{Spaced, PlainText}
+use Rattle.printer_promises.specs.Plain.{Spaced, Plain-text}
 use Rattle.printer.specs.machine.Writing.{line-text, lines-text, block-text}
 use Rattle.printer.proofs.PieceByPiece.{joined}
 use Rattle.printer.proofs.LinePieces.{line-pieces, signed}
@@ -22,20 +22,20 @@ record Solid (b : ℕ) : Type 0 where
   no-space : b ≡ 32 → ⊥
   no-feed : b ≡ feed → ⊥
 
-abbrev AllSolid : List ℕ → Type 0
-AllSolid [] = Unit {0}
-AllSolid (b ∷ bs) = Solid b × AllSolid bs
+abbrev All-solid : List ℕ → Type 0
+All-solid [] = Unit {0}
+All-solid (b ∷ bs) = Solid b × All-solid bs
 
-solid-append : (xs ys : List ℕ) → AllSolid xs → AllSolid ys → AllSolid (xs ++ ys)
+solid-append : (xs ys : List ℕ) → All-solid xs → All-solid ys → All-solid (xs ++ ys)
 solid-append [] ys a b = b
 solid-append (x ∷ xs) ys a b = (a .0, solid-append xs ys (a .1) b)
 
-solid-digits : (ds : List ℕ) → AllSolid (digits ds)
+solid-digits : (ds : List ℕ) → All-solid (digits ds)
 unfolding digits
 solid-digits [] = tt
 solid-digits (d ∷ ds) = (record { no-space = λ e. omega (arith, e); no-feed = λ e. omega (arith, e) }, solid-digits ds)
 
-solid-sign : (m : Bool) → AllSolid (sign m)
+solid-sign : (m : Bool) → All-solid (sign m)
 unfolding sign
 solid-sign true = (record { no-space = λ e. omega (arith, e); no-feed = λ e. omega (arith, e) }, tt)
 solid-sign false = tt
@@ -44,7 +44,7 @@ solid-sign false = tt
 abbrev solid-tail : ℕ → List ℕ
 solid-tail v = digits (rest-digits (v / parts)) ++ (point ∷ digits (last-digits part-digits v))
 
-solid-end : (v : ℕ) → AllSolid (solid-tail v)
+solid-end : (v : ℕ) → All-solid (solid-tail v)
 solid-end v =
     solid-append (digits (rest-digits (v / parts))) (point ∷ digits (last-digits part-digits v)) (solid-digits (rest-digits (v / parts)))
     (record { no-space = λ e. omega (arith, e); no-feed = λ e. omega (arith, e) }, solid-digits (last-digits part-digits v))
@@ -53,7 +53,7 @@ solid-end v =
 abbrev Next : List ℕ → Type 0
 Next ys = (q : ℕ) → Solid q → Spaced q ys
 
-solid-then : (p x : ℕ) (xs ys : List ℕ) → Solid x → AllSolid xs → Next ys → Spaced p ((x ∷ xs) ++ ys)
+solid-then : (p x : ℕ) (xs ys : List ℕ) → Solid x → All-solid xs → Next ys → Spaced p ((x ∷ xs) ++ ys)
 unfolding Spaced
 solid-then p x [] ys s a k = (λ e. absurd (s .no-space e), k x s)
 solid-then p x (y ∷ xs) ys s a k = (λ e. absurd (s .no-space e), solid-then x y xs ys (a .0) (a .1) k)
@@ -100,6 +100,6 @@ block-then ts ys h =
     (solid-then feed (48 + first-digit (length ts)) (digits (rest-digits (length ts))) (feed ∷ (lines-text ts ++ ys))
     (digit-solid (first-digit (length ts))) (solid-digits (rest-digits (length ts))) (λ q s. feed-then q (lines-text ts ++ ys) (lines-then ts ys h)))
 
-pub text-spaced : (blocks : List (List Term)) → PlainText (plain-text blocks)
+pub text-spaced : (blocks : List (List Term)) → Plain-text (plain-text blocks)
 text-spaced [] = rw text-none (unfold Spaced in tt)
 text-spaced (ts ∷ blocks) = rw (text-cons ts blocks) (block-then ts (plain-text blocks) (text-spaced blocks))

@@ -2,21 +2,21 @@
 use mathlib.Core.Path.{_≡_, refl}
 use mathlib.Core.List.{List, [], _∷_, _++_, append-assoc}
 use Prim.Native.Nat.{ℕ, zero, suc}
-use Rattle.series_lines.specs.Grammar.{feed, spaces, decimal, count-bytes, TermLine, term-bytes, lines-bytes, Block, blocks-bytes}
-use Rattle.printer_promises.specs.Plain.{Spaced, PlainText}
+use Rattle.series_lines.specs.Grammar.{feed, spaces, decimal, count-bytes, Term-line, term-bytes, lines-bytes, Block, blocks-bytes}
+use Rattle.printer_promises.specs.Plain.{Spaced, Plain-text}
 
-pub record PlainLine (l : TermLine) : Type 0 where
+pub record Plain-line (l : Term-line) : Type 0 where
   pub lead : l .lead ≡ 0
   pub after-a : l .after-a ≡ 0
   pub after-b : l .after-b ≡ 0
 
-unfoldable pub PlainLines : List TermLine → Type 0
-PlainLines [] = Unit {0}
-PlainLines (l ∷ ls) = PlainLine l × PlainLines ls
+unfoldable pub Plain-lines : List Term-line → Type 0
+Plain-lines [] = Unit {0}
+Plain-lines (l ∷ ls) = Plain-line l × Plain-lines ls
 
 unfoldable pub Plain : List Block → Type 0
 Plain [] = Unit {0}
-Plain (k ∷ ks) = PlainLines (k .lines) × Plain ks
+Plain (k ∷ ks) = Plain-lines (k .lines) × Plain ks
 
 -- The front of a spaced list, and what follows it.
 record After (xs : List ℕ) : Type 0 where
@@ -44,7 +44,7 @@ unfolding Spaced spaces
 no-more p zero ys h = refl
 no-more p (suc n) ys h = absurd (h .1 .0 refl .0 refl)
 
-line-plain : (l : TermLine) → Spaced feed (term-bytes l) → PlainLine l
+line-plain : (l : Term-line) → Spaced feed (term-bytes l) → Plain-line l
 unfolding term-bytes
 line-plain l h =
     let e = decimal (l .c) in
@@ -65,15 +65,15 @@ fed : (p : ℕ) (xs ys : List ℕ) → Spaced p (xs ++ (feed ∷ ys)) → Spaced
 unfolding Spaced
 fed p xs ys h = past p xs (feed ∷ ys) h .is .1
 
-lines-plain : (ls : List TermLine) (ys : List ℕ) → Spaced feed (lines-bytes ls ++ ys) → PlainLines ls × Spaced feed ys
-unfolding lines-bytes PlainLines
+lines-plain : (ls : List Term-line) (ys : List ℕ) → Spaced feed (lines-bytes ls ++ ys) → Plain-lines ls × Spaced feed ys
+unfolding lines-bytes Plain-lines
 lines-plain [] ys h = (tt, h)
 lines-plain (l ∷ ls) ys h =
     let k : Spaced feed (term-bytes l ++ (feed ∷ (lines-bytes ls ++ ys))) = rw (append-assoc (term-bytes l) (feed ∷ lines-bytes ls) ys) at h in
     let r = lines-plain ls ys (fed feed (term-bytes l) (lines-bytes ls ++ ys) k) in
     ((line-plain l (front feed (term-bytes l) (feed ∷ (lines-bytes ls ++ ys)) k), r .0), r .1)
 
-pub text-plain : (ks : List Block) → PlainText (blocks-bytes ks) → Plain ks
+pub text-plain : (ks : List Block) → Plain-text (blocks-bytes ks) → Plain ks
 unfolding blocks-bytes Plain
 text-plain [] h = tt
 text-plain (k ∷ ks) h =

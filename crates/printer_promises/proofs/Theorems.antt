@@ -6,7 +6,7 @@ use native.Mathlib.Omega.{arith}
 use borrow.Author.Tests.{le-leb}
 use lib.ListN.{length, take, replicate, length-replicate, length-map}
 use lib.Seq.{sets}
-use Rattle.packed_numbers.proofs.Shortest.{AllBytes}
+use Rattle.packed_numbers.proofs.Shortest.{All-bytes}
 use Rattle.limits.specs.declared.Term.{Term}
 use Rattle.limits.specs.Limits.{no-tally}
 use Rattle.packed.specs.Series.{accepted, parse, pack}
@@ -15,12 +15,12 @@ use Rattle.packed_promises.proofs.Theorems.{accepted-allowed, pack-parse, parse
 use Rattle.series_lines.specs.declared.Outcome.the-variants.{Accepted}
 use Rattle.series_lines.specs.Reader.{told}
 use Rattle.text.specs.Reader.{whole}
-use Rattle.series_lines.specs.Grammar.{Block, blocks-bytes, blocks-of-lines, GoodText, InLimits}
+use Rattle.series_lines.specs.Grammar.{Block, blocks-bytes, blocks-of-lines, Good-text, In-limits}
 use Rattle.text_promises.proofs.Theorems.{read-text, accepted-text}
 use Rattle.text_promises.proofs.Series.{front, text-allowed, reads-packed}
 use Rattle.printer.specs.declared.Printed.the-variants.{Length}
 use Rattle.printer.specs.Printer.{plain-block, plain-text, text-limit, text-fits, printed, printed-out}
-use Rattle.printer_promises.specs.Plain.{PlainText}
+use Rattle.printer_promises.specs.Plain.{Plain-text}
 use Rattle.printer_promises.proofs.Spacing.{text-plain}
 use Rattle.printer_promises.proofs.PlainSeries.{blocks-plain, series-in, blocks-good, blocks-unique}
 use Rattle.printer_promises.proofs.PrintedSpacing.{text-spaced}
@@ -34,8 +34,8 @@ longest x blocks e =
 
 -- The lines that are printed of an accepted series follow the grammar, stand within the limits and have the numbers of the series.
 pub record Follows (ks : List Block) (blocks : List (List Term)) : Type 0 where
-  pub good : GoodText ks
-  pub limits : InLimits ks
+  pub good : Good-text ks
+  pub limits : In-limits ks
   pub numbers : blocks-of-lines ks ≡ blocks
 
 pub follows : (x : List ℕ) (blocks : List (List Term)) → parse x ≡ accepted blocks → Follows (map plain-block blocks) blocks
@@ -49,11 +49,11 @@ follows x blocks e =
     }
 
 -- What is printed has single spaces, none leading.
-pub prints-plain : (blocks : List (List Term)) → PlainText (plain-text blocks)
+pub prints-plain : (blocks : List (List Term)) → Plain-text (plain-text blocks)
 prints-plain = text-spaced
 
 -- Reading the printed text of a packed series gives its bytes back.
-pub print-read : (x out : List ℕ) (blocks : List (List Term)) → AllBytes x → parse x ≡ accepted blocks → length x ≤ length out
+pub print-read : (x out : List ℕ) (blocks : List (List Term)) → All-bytes x → parse x ≡ accepted blocks → length x ≤ length out
     → (told (whole (plain-text blocks) out .reader) ≡ Accepted (length x)) × (whole (plain-text blocks) out .out ≡ sets out 0 x)
 unfolding plain-text
 print-read x out blocks b e h =
@@ -64,7 +64,7 @@ print-read x out blocks b e h =
     (rw p at (r .0), rw p at (r .1))
 
 -- A plain text, as the reader takes it, is printed back as it was, from the bytes that the reader gives for it.
-pub read-print : (ks : List Block) (out : List ℕ) → GoodText ks → InLimits ks → PlainText (blocks-bytes ks) → length (blocks-bytes ks) ≤ length out
+pub read-print : (ks : List Block) (out : List ℕ) → Good-text ks → In-limits ks → Plain-text (blocks-bytes ks) → length (blocks-bytes ks) ≤ length out
     → (printed (parse (pack (blocks-of-lines ks))) out ≡ Length (length (blocks-bytes ks)))
     × (printed-out (parse (pack (blocks-of-lines ks))) out ≡ sets out 0 (blocks-bytes ks))
 unfolding printed printed-out text-fits plain-text
@@ -74,7 +74,7 @@ read-print ks out g l p h =
     rw (pack-parse (blocks-of-lines ks) a, u, le-leb (length (blocks-bytes ks)) (length out) h) (refl, refl)
 
 -- So an accepted plain text is printed back as it was, from the bytes that the reader wrote.
-pub accepted-printed : (text buffer out : List ℕ) (n : ℕ) → told (whole text buffer .reader) ≡ Accepted n → PlainText text → length text ≤ length out
+pub accepted-printed : (text buffer out : List ℕ) (n : ℕ) → told (whole text buffer .reader) ≡ Accepted n → Plain-text text → length text ≤ length out
     → (printed (parse (take n (whole text buffer .out))) out ≡ Length (length text))
     × (printed-out (parse (take n (whole text buffer .out))) out ≡ sets out 0 text)
 accepted-printed text buffer out n e p h =
@@ -86,7 +86,7 @@ accepted-printed text buffer out n e p h =
     )
 
 -- Two packed series with the same plain text are equal.
-pub same-text : (x y : List ℕ) (xs ys : List (List Term)) → AllBytes x → AllBytes y → parse x ≡ accepted xs → parse y ≡ accepted ys
+pub same-text : (x y : List ℕ) (xs ys : List (List Term)) → All-bytes x → All-bytes y → parse x ≡ accepted xs → parse y ≡ accepted ys
     → plain-text xs ≡ plain-text ys → x ≡ y
 same-text x y xs ys a b e f p =
     let out : List ℕ = replicate (length x + length y) 0 in

@@ -10,5 +10,5 @@ Spaced before [] = Unit {0}
 Spaced before (b ∷ bs) = (b ≡ space → (before ≡ space → ⊥) × (before ≡ feed → ⊥)) × Spaced b bs
 
 -- Of a whole text: its first byte stands at the start of a line, as those after a line feed do.
-abbrev pub PlainText : List ℕ → Type 0
-PlainText text = Spaced feed text
+abbrev pub Plain-text : List ℕ → Type 0
+Plain-text text = Spaced feed text

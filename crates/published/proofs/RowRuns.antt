@@ -12,7 +12,7 @@ use Rattle.series_lines.specs.Reader.{in-line}
 use Rattle.series_lines.specs.Calls as calls-of
 use Rattle.published_records.specs.declared.Row.{Row}
 use Rattle.published_records.specs.Rows.{lex-row, lex-rows}
-use Rattle.published_records.specs.machine.Runs.{between, GoesOn, Takes}
+use Rattle.published_records.specs.machine.Runs.{between, Runs-on, Takes}
 use Rattle.published.specs.declared.Published.{Published}
 use Rattle.published.specs.Reader.{at-heading, further, complete, step, step-out, run}
 use Rattle.published.specs.machine.Rows.{Counts, Goes-on}
@@ -73,9 +73,9 @@ one-less p row n k = record { reads = refl; unplaced = refl; goes-on = still p r
 
 -- Some bytes with which it goes on.
 rows-run : (bytes rest : List ℕ) (heading : Bool) (p : Published) (out : List ℕ) → at-heading p ≡ heading → Counts p (length bytes)
-    → GoesOn heading (p .row) bytes
+    → Runs-on heading (p .row) bytes
     → run (onward p (length bytes) (lex-rows heading (p .row) bytes)) out rest ≡ run p out (bytes ++ rest)
-unfolding GoesOn lex-rows
+unfolding Runs-on lex-rows
 rows-run [] rest heading p out e k g =
     ap (λ (q : Published). run q out rest)
     (rebuilt p (p .reader .at + 0) 0 0 (omega arith) (sym (k .reads)) (sym (k .unplaced)))

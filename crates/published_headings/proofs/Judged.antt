@@ -33,14 +33,14 @@ number-some last number h =
 -- ---- Headings.
 
 -- A heading in its order.
-pub record InOrder (done coordinate power : ℕ) : Type 0 where
+pub record In-order (done coordinate power : ℕ) : Type 0 where
   pub some : 1 ≤ coordinate
   pub few : coordinate ≤ coordinate-count
   pub low : power < powers
   pub onward : done ≤ block-of coordinate power
   pub inside : block-of coordinate power < block-count
 
-pub orderly : (done version coordinate power : ℕ) → in-order done version coordinate power ≡ true → InOrder done coordinate power
+pub orderly : (done version coordinate power : ℕ) → in-order done version coordinate power ≡ true → In-order done coordinate power
 unfolding in-order block-of
 orderly done version coordinate power e =
     let a = both (eqb version theory-version) _ e in
@@ -54,7 +54,7 @@ orderly done version coordinate power e =
 
 -- One that is not refused.
 pub unrefused : (done : ℕ) (s : Tally) (version coordinate power n : ℕ) → heading-refusal done s version coordinate power n ≡ 0
-    → InOrder done coordinate power × (count-fits s n ≡ true)
+    → In-order done coordinate power × (count-fits s n ≡ true)
 unfolding heading-refusal
 unrefused done s version coordinate power n e =
     by-cases (in-order done version coordinate power)

@@ -28,39 +28,39 @@ use Rattle.published_promises.proofs.Lines.{run-none, run-one}
 use Rattle.published_promises.proofs.Counted.{counted}
 
 -- No refusal has the number 1, which says that a file was accepted.
-abbrev NotOne : ℕ → Type 0
-NotOne n = n ≡ 1 → ⊥
+abbrev Not-one : ℕ → Type 0
+Not-one n = n ≡ 1 → ⊥
 
-heading-not-one : (k : ℕ) (s : Tally) (v c p n : ℕ) → NotOne (heading-refusal k s v c p n)
+heading-not-one : (k : ℕ) (s : Tally) (v c p n : ℕ) → Not-one (heading-refusal k s v c p n)
 unfolding heading-refusal
 heading-not-one k s v c p n = go (in-order k v c p) (count-fits s n)
   where
-    go : (b d : Bool) → NotOne (cond b (cond d 0 over-limit) bad-heading)
+    go : (b d : Bool) → Not-one (cond b (cond d 0 over-limit) bad-heading)
     go true true e = omega (arith, e)
     go true false e = omega (arith, e)
     go false d e = omega (arith, e)
 
-record-not-one : (last number f : ℕ) (s : Tally) (m : ℕ) (t : Term) → NotOne (record-refusal last number f s m t)
+record-not-one : (last number f : ℕ) (s : Tally) (m : ℕ) (t : Term) → Not-one (record-refusal last number f s m t)
 unfolding record-refusal
 record-not-one last number f s m t = go (eqb number (last + 1))
   where
-    go : (b : Bool) → NotOne (cond b (term-line-refusal f s m t) bad-number)
-    go true = term-among NotOne (λ e. omega (arith, e)) (λ e. omega (arith, e)) (λ e. omega (arith, e)) (λ e. omega (arith, e)) f s m t
+    go : (b : Bool) → Not-one (cond b (term-line-refusal f s m t) bad-number)
+    go true = term-among Not-one (λ e. omega (arith, e)) (λ e. omega (arith, e)) (λ e. omega (arith, e)) (λ e. omega (arith, e)) f s m t
     go false = λ e. omega (arith, e)
 
-verdict-not-one : (p : Published) → NotOne (verdict p .refusal)
+verdict-not-one : (p : Published) → Not-one (verdict p .refusal)
 unfolding verdict
 verdict-not-one p =
     by-cases (whole-row (at-heading p) (p .row))
     (λ w. by-cases (at-heading p) (λ h. rw (w, h) (heading-not-one _ _ _ _ _ _)) (λ h. rw (w, h) (record-not-one _ _ _ _ _ _)))
     (λ w. rw w (λ e. omega (arith, e)))
 
-other-not-one : (p : Published) (byte : ℕ) → NotOne (other p byte .reader .status)
+other-not-one : (p : Published) (byte : ℕ) → Not-one (other p byte .reader .status)
 unfolding other
 other-not-one p byte =
     by-cases (eqb (lex-row (at-heading p) (p .row) byte .line .spot) spot-bad) (λ z. rw z (λ e. omega (arith, e))) (λ z. rw z (λ e. omega (arith, e)))
 
-step-not-one : (p : Published) (out : List ℕ) (byte : ℕ) → NotOne (p .reader .status) → NotOne (step p out byte .reader .status)
+step-not-one : (p : Published) (out : List ℕ) (byte : ℕ) → Not-one (p .reader .status) → Not-one (step p out byte .reader .status)
 unfolding step
 step-not-one p out byte h =
     by-cases (eqb (p .reader .status) 0)
@@ -71,7 +71,7 @@ step-not-one p out byte h =
     (λ v. rw (z, q, u, v) (other-not-one p byte)))))
     (λ z. rw z h)
 
-run-not-one : (xs : List ℕ) (p : Published) (out : List ℕ) → NotOne (p .reader .status) → NotOne (run p out xs .reader .reader .status)
+run-not-one : (xs : List ℕ) (p : Published) (out : List ℕ) → Not-one (p .reader .status) → Not-one (run p out xs .reader .reader .status)
 run-not-one [] p out h e = h (ap (λ (x : Run Published). x .reader .reader .status) (sym (run-none p out)) ∙ e)
 run-not-one (x ∷ xs) p out h e =
     run-not-one xs (step p out x) (step-out p out x) (step-not-one p out x h)

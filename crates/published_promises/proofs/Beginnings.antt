@@ -10,14 +10,14 @@ use lib.ListN.{length, length-append}
 use lib.Seq.{sets, length-sets}
 use Rattle.units.specs.Units.{block-count, powers}
 use Rattle.limits.specs.declared.Tally.{Tally}
-use Rattle.series_lines.specs.Grammar.{feed, AnyLine, any-packed}
+use Rattle.series_lines.specs.Grammar.{feed, Any-line, any-packed}
 use Rattle.series_lines.specs.Reader.{last-offset, next-spot}
 use Rattle.series_lines.proofs.WrittenTerm.{sets-append}
-use Rattle.published_records.specs.Layout.{Heading, heading-bytes, TermRecord, record-bytes}
+use Rattle.published_records.specs.Layout.{Heading, heading-bytes, Term-record, record-bytes}
 use Rattle.published_headings.specs.Judge.{theory-version, coordinate-count, block-of, in-order}
 use Rattle.published.specs.declared.Published.{Published}
 use Rattle.published.specs.Reader.{begun-file, run}
-use Rattle.published_promises.specs.HandCut.{AnyRecord, a-heading, a-record, any-record-bytes, file-bytes, cut-one, blocks-with}
+use Rattle.published_promises.specs.HandCut.{Any-record, a-heading, a-record, any-record-bytes, file-bytes, cut-one, blocks-with}
 use Rattle.published_promises.specs.HandCut.{cut-records, blocks-of}
 use Rattle.published_promises.specs.Decided.{Beginning, empty, with-heading, with-record, packed-so-far}
 use Rattle.integers.proofs.Tests.{both}
@@ -27,7 +27,7 @@ use Rattle.published_promises.proofs.Judged.{heading-zero, record-zero,
 
 -- ---- With one record more.
 
-pub bytes-more : (rs : List AnyRecord) (r : AnyRecord) (rest : List ℕ)
+pub bytes-more : (rs : List Any-record) (r : Any-record) (rest : List ℕ)
     → file-bytes (rs ++ (r ∷ [])) ++ rest ≡ file-bytes rs ++ (any-record-bytes r ++ (feed ∷ rest))
 unfolding file-bytes
 bytes-more [] r rest = append-assoc (any-record-bytes r) (feed ∷ []) rest
@@ -36,7 +36,7 @@ bytes-more (q ∷ rs) r rest =
     ∙ ap (λ (y : List ℕ). any-record-bytes q ++ (feed ∷ y)) (bytes-more rs r rest)
     ∙ sym (append-assoc (any-record-bytes q) (feed ∷ file-bytes rs) (any-record-bytes r ++ (feed ∷ rest)))
 
-pub bytes-length : (rs : List AnyRecord) (r : AnyRecord) → length (file-bytes (rs ++ (r ∷ []))) ≡ length (file-bytes rs) + length (any-record-bytes r) + 1
+pub bytes-length : (rs : List Any-record) (r : Any-record) → length (file-bytes (rs ++ (r ∷ []))) ≡ length (file-bytes rs) + length (any-record-bytes r) + 1
 bytes-length rs r =
     omega (
       arith,
@@ -45,19 +45,19 @@ bytes-length rs r =
       length-append (any-record-bytes r) (feed ∷ []),
     )
 
-pub cut-more : (k : ℕ) (rs : List AnyRecord) (r : AnyRecord) → cut-records k (rs ++ (r ∷ [])) ≡ cut-records k rs ++ cut-one (blocks-of k rs) r
+pub cut-more : (k : ℕ) (rs : List Any-record) (r : Any-record) → cut-records k (rs ++ (r ∷ [])) ≡ cut-records k rs ++ cut-one (blocks-of k rs) r
 unfolding cut-records blocks-of
 cut-more k [] r = append-nil (cut-one k r)
 cut-more k (q ∷ rs) r =
-    ap (λ (y : List AnyLine). cut-one k q ++ y) (cut-more (blocks-with k q) rs r)
+    ap (λ (y : List Any-line). cut-one k q ++ y) (cut-more (blocks-with k q) rs r)
     ∙ sym (append-assoc (cut-one k q) (cut-records (blocks-with k q) rs) (cut-one (blocks-of (blocks-with k q) rs) r))
 
-pub blocks-more : (k : ℕ) (rs : List AnyRecord) (r : AnyRecord) → blocks-of k (rs ++ (r ∷ [])) ≡ blocks-with (blocks-of k rs) r
+pub blocks-more : (k : ℕ) (rs : List Any-record) (r : Any-record) → blocks-of k (rs ++ (r ∷ [])) ≡ blocks-with (blocks-of k rs) r
 unfolding blocks-of
 blocks-more k [] r = refl
 blocks-more k (q ∷ rs) r = blocks-more (blocks-with k q) rs r
 
-pub blocks-are : {rs : List AnyRecord} {k n m : ℕ} {s : Tally} → Beginning rs k n m s → blocks-of 0 rs ≡ k
+pub blocks-are : {rs : List Any-record} {k n m : ℕ} {s : Tally} → Beginning rs k n m s → blocks-of 0 rs ≡ k
 unfolding blocks-with
 blocks-are empty = unfold blocks-of in refl
 blocks-are (with-heading {rs} {k} {m} {s} h b g i f) = blocks-more 0 rs (a-heading h)
@@ -68,7 +68,7 @@ sets-more out xs ys =
     let z : 0 + length xs ≡ length xs = omega arith in
     ap (λ (i : ℕ). sets (sets out 0 xs) i ys) (sym z) ∙ sym (sets-append xs ys out 0)
 
-module _ {rs : List AnyRecord} {k n m : ℕ} {s : Tally} (b : Beginning rs k n m s) (r : AnyRecord) where
+module _ {rs : List Any-record} {k n m : ℕ} {s : Tally} (b : Beginning rs k n m s) (r : Any-record) where
   pub packed-more : packed-so-far (rs ++ (r ∷ [])) ≡ packed-so-far rs ++ any-packed (cut-one k r)
   packed-more =
       ap any-packed (cut-more 0 rs r)
@@ -84,11 +84,11 @@ module _ {rs : List AnyRecord} {k n m : ℕ} {s : Tally} (b : Beginning rs k n m
 
 -- ---- A heading that is in its order: it has a block, and not an earlier one.
 
-pub record InOrder (k b : ℕ) : Type 0 where
+pub record In-order (k b : ℕ) : Type 0 where
   pub later : k ≤ b
   pub block : b < block-count
 
-pub in-order-facts : (k v c p : ℕ) → in-order k v c p ≡ true → InOrder k (block-of c p)
+pub in-order-facts : (k v c p : ℕ) → in-order k v c p ≡ true → In-order k (block-of c p)
 unfolding in-order block-of
 in-order-facts k v c p e =
     let first = both (eqb v theory-version) _ e .1 in
@@ -101,7 +101,7 @@ in-order-facts k v c p e =
     record { later = leb-true _ _ (power .1); block = omega (arith, l, h, w) }
 
 -- A beginning has no more blocks than a series.
-pub few : {rs : List AnyRecord} {k n m : ℕ} {s : Tally} → Beginning rs k n m s → k ≤ block-count
+pub few : {rs : List Any-record} {k n m : ℕ} {s : Tally} → Beginning rs k n m s → k ≤ block-count
 few empty = omega arith
 few (with-heading {k = k} h b g i f) = omega (arith, in-order-facts k (h .version) (h .coordinate) (h .power) i .block)
 few (with-record t b g i f) = few b
@@ -113,11 +113,11 @@ same-state : (k n m : ℕ) (s : Tally) (rest : List ℕ) (a b w v : ℕ) (o p : 
 same-state k n m s rest a b w v o p e f g = rw (e, f, g)
 
 -- The reader after the records of a good beginning.
-abbrev pub after : List AnyRecord → ℕ → ℕ → ℕ → Tally → Published
+abbrev pub after : List Any-record → ℕ → ℕ → ℕ → Tally → Published
 after rs k n m s = st (length (file-bytes rs)) (length (packed-so-far rs)) k n m s
 
 -- A run to one record more.
-module _ {rs : List AnyRecord} {k n m : ℕ} {s : Tally} (b : Beginning rs k n m s) (r : AnyRecord) (out rest xs : List ℕ) (is : any-record-bytes r ≡ xs) where
+module _ {rs : List Any-record} {k n m : ℕ} {s : Tally} (b : Beginning rs k n m s) (r : Any-record) (out rest xs : List ℕ) (is : any-record-bytes r ≡ xs) where
   runs-more : (blocks left last : ℕ) (next : Tally)
       → run begun-file out (file-bytes rs ++ (xs ++ (feed ∷ rest))) ≡ run (after rs k n m s) (sets out 0 (packed-so-far rs)) (xs ++ (feed ∷ rest))
       → run (after rs k n m s) (sets out 0 (packed-so-far rs)) (xs ++ (feed ∷ rest))
@@ -132,7 +132,7 @@ module _ {rs : List AnyRecord} {k n m : ℕ} {s : Tally} (b : Beginning rs k n m
       ∙ same-state blocks left last next rest _ _ _ _ _ _ (sym (bytes-length rs r ∙ ap (λ (t : List ℕ). length (file-bytes rs) + length t + 1) is))
       (sym (packed-length b r)) (packed-sets b r out)
 
-pub runs : {rs : List AnyRecord} {k n m : ℕ} {s : Tally} → Beginning rs k n m s → (out rest : List ℕ)
+pub runs : {rs : List Any-record} {k n m : ℕ} {s : Tally} → Beginning rs k n m s → (out rest : List ℕ)
     → length (file-bytes rs) ≤ last-offset → length (packed-so-far rs) ≤ length out
     → run begun-file out (file-bytes rs ++ rest) ≡ run (after rs k n m s) (sets out 0 (packed-so-far rs)) rest
 runs empty out rest c h = unfold file-bytes cut-records any-packed next-spot in refl
@@ -169,5 +169,5 @@ runs (with-record {rs} {k} {n} {m} {s} t b g i f) out rest c d =
     (no-feed (suc n) (record-bytes t) v) (live (suc n) (record-bytes t) v) (record-says (at + length (record-bytes t)) w k m s n t g)
     (record-zero k m s t i f) (omega (arith, ap length u)) (omega arith) rest)
   where
-    record-is : (t : TermRecord) → any-record-bytes (a-record t) ≡ record-bytes t
+    record-is : (t : Term-record) → any-record-bytes (a-record t) ≡ record-bytes t
     record-is t = unfold any-record-bytes in refl

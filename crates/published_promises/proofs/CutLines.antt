@@ -17,14 +17,14 @@ use Rattle.limits.specs.declared.Tally.{Tally}
 use Rattle.limits.specs.Limits.{opened, added, count-fits}
 use Rattle.limits.proofs.Passing.{count-passed, count-passes}
 use Rattle.series_lines.specs.declared.Outcome.the-variants.{Refused}
-use Rattle.series_lines.specs.Grammar.{feed, spaces, digit-0, digits, AllDigits, numeral, decimal, count, count-bytes, GoodCount, CountLine, term-bytes}
-use Rattle.series_lines.specs.Grammar.{AnyLine, a-count, a-term, line-bytes, line-packed, any-bytes, any-packed}
-use Rattle.published_records.specs.Layout.{Heading, heading-bytes, GoodHeading, TermRecord, record-bytes, GoodRecord, cut-term}
+use Rattle.series_lines.specs.Grammar.{feed, spaces, digit-0, digits, All-digits, numeral, decimal, count, count-bytes, Good-count, Count-line, term-bytes}
+use Rattle.series_lines.specs.Grammar.{Any-line, a-count, a-term, line-bytes, line-packed, any-bytes, any-packed}
+use Rattle.published_records.specs.Layout.{Heading, heading-bytes, Good-heading, Term-record, record-bytes, Good-record, cut-term}
 use Rattle.published_headings.specs.Judge.{skipped}
 use Rattle.integers.proofs.Tests.{by-cases}
 use Rattle.text_promises.specs.Decided as text
 use Rattle.text_promises.proofs.Beginnings.{bytes-more, bytes-length, packed-length}
-use Rattle.published_promises.specs.HandCut.{AnyRecord, a-heading, a-record, any-record-bytes, file-bytes, heading-block}
+use Rattle.published_promises.specs.HandCut.{Any-record, a-heading, a-record, any-record-bytes, file-bytes, heading-block}
 use Rattle.published_promises.specs.HandCut.{zero-line, zero-lines, cut-one, blocks-with, cut-records, blocks-of, cut-text}
 use Rattle.published_promises.specs.SameAsCut.{Ordered, none, next-heading, next-record}
 use Rattle.published_promises.proofs.Judged.{packed-append}
@@ -32,33 +32,33 @@ use Rattle.published_promises.proofs.Beginnings.{cut-more, blocks-more,
 
 -- ---- Lines, one after the other.
 
-pub bytes-append : (ls ms : List AnyLine) → any-bytes (ls ++ ms) ≡ any-bytes ls ++ any-bytes ms
+pub bytes-append : (ls ms : List Any-line) → any-bytes (ls ++ ms) ≡ any-bytes ls ++ any-bytes ms
 unfolding any-bytes
 bytes-append [] ms = refl
 bytes-append (l ∷ ls) ms =
     ap (λ (y : List ℕ). line-bytes l ++ (feed ∷ y)) (bytes-append ls ms) ∙ sym (append-assoc (line-bytes l) (feed ∷ any-bytes ls) (any-bytes ms))
 
-pub bytes-grow : (ls ms : List AnyLine) → length (any-bytes (ls ++ ms)) ≡ length (any-bytes ls) + length (any-bytes ms)
+pub bytes-grow : (ls ms : List Any-line) → length (any-bytes (ls ++ ms)) ≡ length (any-bytes ls) + length (any-bytes ms)
 bytes-grow ls ms = ap length (bytes-append ls ms) ∙ length-append (any-bytes ls) (any-bytes ms)
 
-pub packed-grow : (ls ms : List AnyLine) → length (any-packed (ls ++ ms)) ≡ length (any-packed ls) + length (any-packed ms)
+pub packed-grow : (ls ms : List Any-line) → length (any-packed (ls ++ ms)) ≡ length (any-packed ls) + length (any-packed ms)
 packed-grow ls ms = ap length (packed-append ls ms) ∙ length-append (any-packed ls) (any-packed ms)
 
 -- ---- Records in order.
 
-pub ordered-blocks : {rs : List AnyRecord} {k n m : ℕ} → Ordered rs k n m → blocks-of 0 rs ≡ k
+pub ordered-blocks : {rs : List Any-record} {k n m : ℕ} → Ordered rs k n m → blocks-of 0 rs ≡ k
 unfolding blocks-of blocks-with
 ordered-blocks none = refl
 ordered-blocks (next-heading {rs} h o g i) = blocks-more 0 rs (a-heading h)
 ordered-blocks (next-record {rs} t o g e) = blocks-more 0 rs (a-record t) ∙ ordered-blocks o
 
-pub ordered-few : {rs : List AnyRecord} {k n m : ℕ} → Ordered rs k n m → k ≤ block-count
+pub ordered-few : {rs : List Any-record} {k n m : ℕ} → Ordered rs k n m → k ≤ block-count
 ordered-few none = omega arith
 ordered-few (next-heading {k = k} h o g i) = omega (arith, in-order-facts k (h .version) (h .coordinate) (h .power) i .block)
 ordered-few (next-record t o g e) = ordered-few o
 
 -- What is cut out of a record in order.
-pub cut-heading : {rs : List AnyRecord} {k n m : ℕ} → Ordered rs k n m → (h : Heading)
+pub cut-heading : {rs : List Any-record} {k n m : ℕ} → Ordered rs k n m → (h : Heading)
     → cut-records 0 (rs ++ (a-heading h ∷ [])) ≡ (cut-records 0 rs ++ zero-lines (heading-block h - k)) ++ (a-count (h .count) ∷ [])
 unfolding cut-one
 cut-heading {rs} {k} o h =
@@ -66,7 +66,7 @@ cut-heading {rs} {k} o h =
     ∙ ap (λ (b : ℕ). cut-records 0 rs ++ (zero-lines (heading-block h - b) ++ (a-count (h .count) ∷ []))) (ordered-blocks o)
     ∙ sym (append-assoc (cut-records 0 rs) (zero-lines (heading-block h - k)) (a-count (h .count) ∷ []))
 
-pub cut-record : (rs : List AnyRecord) (t : TermRecord) → cut-records 0 (rs ++ (a-record t ∷ [])) ≡ cut-records 0 rs ++ (a-term (cut-term t) ∷ [])
+pub cut-record : (rs : List Any-record) (t : Term-record) → cut-records 0 (rs ++ (a-record t ∷ [])) ≡ cut-records 0 rs ++ (a-term (cut-term t) ∷ [])
 unfolding cut-one
 cut-record rs t = cut-more 0 rs (a-record t)
 
@@ -77,7 +77,7 @@ unfolding any-bytes zero-lines line-bytes count-bytes digits
 zeros-bytes zero = refl
 zeros-bytes (suc n) = omega (arith, zeros-bytes n)
 
-heading-long : (h : Heading) → GoodHeading h → 60 + length (count-bytes (h .count)) ≤ length (heading-bytes h)
+heading-long : (h : Heading) → Good-heading h → 60 + length (count-bytes (h .count)) ≤ length (heading-bytes h)
 unfolding heading-bytes
 heading-long h g =
     let tail = count-bytes (h .count) ++ h .after in
@@ -96,7 +96,7 @@ heading-long h g =
       length-append (count-bytes (h .count)) (h .after),
     )
 
-record-long : (t : TermRecord) → GoodRecord t → 60 + length (term-bytes (cut-term t)) ≤ length (record-bytes t)
+record-long : (t : Term-record) → Good-record t → 60 + length (term-bytes (cut-term t)) ≤ length (record-bytes t)
 unfolding record-bytes term-bytes spaces
 record-long t g =
     let c = decimal (t .c) ++ spaces (t .after) in
@@ -122,7 +122,7 @@ record-long t g =
     )
 
 -- Its length with one record more.
-heading-cut : {rs : List AnyRecord} {k n m : ℕ} → Ordered rs k n m → (h : Heading)
+heading-cut : {rs : List Any-record} {k n m : ℕ} → Ordered rs k n m → (h : Heading)
     → length (any-bytes (cut-records 0 (rs ++ (a-heading h ∷ []))))
     ≡ length (any-bytes (cut-records 0 rs)) + 2 * (heading-block h - k) + length (count-bytes (h .count)) + 1
 unfolding line-bytes
@@ -131,20 +131,20 @@ heading-cut {rs} {k} o h =
     let zs = zero-lines (heading-block h - k) in
     omega (
       arith,
-      ap (λ (ms : List AnyLine). length (any-bytes ms)) (cut-heading o h),
+      ap (λ (ms : List Any-line). length (any-bytes ms)) (cut-heading o h),
       bytes-length (ls ++ zs) (a-count (h .count)),
       bytes-grow ls zs,
       zeros-bytes (heading-block h - k),
     )
 
-pub record-cut : (rs : List AnyRecord) (t : TermRecord)
+pub record-cut : (rs : List Any-record) (t : Term-record)
     → length (any-bytes (cut-records 0 (rs ++ (a-record t ∷ [])))) ≡ length (any-bytes (cut-records 0 rs)) + length (term-bytes (cut-term t)) + 1
 unfolding line-bytes
 record-cut rs t =
-    ap (λ (ms : List AnyLine). length (any-bytes ms)) (cut-record rs t) ∙ bytes-length (cut-records 0 rs) (a-term (cut-term t))
+    ap (λ (ms : List Any-line). length (any-bytes ms)) (cut-record rs t) ∙ bytes-length (cut-records 0 rs) (a-term (cut-term t))
 
 -- With the lines `0` that are still to come.
-counted-by : {rs : List AnyRecord} {k n m : ℕ} → Ordered rs k n m → (x : ℕ) → 2 * block-count ≤ x → length (file-bytes rs) ≤ x
+counted-by : {rs : List Any-record} {k n m : ℕ} → Ordered rs k n m → (x : ℕ) → 2 * block-count ≤ x → length (file-bytes rs) ≤ x
     → length (any-bytes (cut-records 0 rs)) + 2 * (block-count - k) ≤ x
 unfolding cut-records any-bytes any-record-bytes
 counted-by none x low c = omega arith
@@ -158,7 +158,7 @@ counted-by (next-record {rs} t o g e) x low c =
     let b = counted-by o (x - length (term-bytes (cut-term t)) - 1) (omega arith) (omega arith) in
     omega (arith, b, record-cut rs t)
 
-pub cut-counted : {rs : List AnyRecord} {k n m : ℕ} → Ordered rs k n m → (x : ℕ) → 2 * block-count ≤ x → length (file-bytes rs) ≤ x
+pub cut-counted : {rs : List Any-record} {k n m : ℕ} → Ordered rs k n m → (x : ℕ) → 2 * block-count ≤ x → length (file-bytes rs) ≤ x
     → length (cut-text rs) ≤ x
 cut-counted {rs} {k} o x low c =
     omega (
@@ -172,24 +172,24 @@ cut-counted {rs} {k} o x low c =
 -- ---- A good beginning of the text, and lines `0` after it.
 
 -- It has no more terms than a series.
-terms-few : {ls : List AnyLine} {k n : ℕ} {s : Tally} → text.Beginning ls k n s → s .terms ≤ series-limit
+terms-few : {ls : List Any-line} {k n : ℕ} {s : Tally} → text.Beginning ls k n s → s .terms ≤ series-limit
 unfolding opened added
 terms-few text.empty = omega arith
 terms-few (text.with-count {s = s} l b i g f) = count-passed s (count l) f .fewer
 terms-few (text.with-term l b g f) = terms-few b
 
 -- So a count 0 may come.
-zero-fits : {ls : List AnyLine} {k n : ℕ} {s : Tally} → text.Beginning ls k n s → count-fits s 0 ≡ true
+zero-fits : {ls : List Any-line} {k n : ℕ} {s : Tally} → text.Beginning ls k n s → count-fits s 0 ≡ true
 zero-fits {s = s} b = count-passes s 0 (record { few = omega arith; fewer = omega (arith, terms-few b) })
 
-abbrev count-0 : CountLine
+abbrev count-0 : Count-line
 count-0 = record { first = 0; more = [] }
 
-zero-good : GoodCount count-0
-unfolding AllDigits
+zero-good : Good-count count-0
+unfolding All-digits
 zero-good = record { digit = omega arith; digits = tt; few = omega arith; leading = λ e. refl }
 
-with-zero : {ls : List AnyLine} {k : ℕ} {s : Tally} → text.Beginning ls k 0 s → k < block-count
+with-zero : {ls : List Any-line} {k : ℕ} {s : Tally} → text.Beginning ls k 0 s → k < block-count
     → text.Beginning (ls ++ (zero-line ∷ [])) (k + 1) 0 (opened k 0 s)
 unfolding count numeral
 with-zero b i = text.with-count count-0 b i zero-good (zero-fits b)
@@ -206,37 +206,37 @@ skipped-fits n k s c = rw (skipped-terms n k s)
 
 -- ---- A text that is refused, whatever comes after some lines.
 
-abbrev pub TextStops : List ℕ → List AnyLine → Refusal → List ℕ → Type 0
-TextStops out ls f left = (rest : List ℕ) → text.Answers (any-bytes ls ++ rest) out (Refused f) left
+abbrev pub Text-stops : List ℕ → List Any-line → Refusal → List ℕ → Type 0
+Text-stops out ls f left = (rest : List ℕ) → text.Answers (any-bytes ls ++ rest) out (Refused f) left
 
-pub text-later : (out : List ℕ) (ls ms : List AnyLine) (f : Refusal) (left : List ℕ) → TextStops out ls f left → TextStops out (ls ++ ms) f left
+pub text-later : (out : List ℕ) (ls ms : List Any-line) (f : Refusal) (left : List ℕ) → Text-stops out ls f left → Text-stops out (ls ++ ms) f left
 text-later out ls ms f left h rest =
     let e : any-bytes ls ++ (any-bytes ms ++ rest) ≡ any-bytes (ls ++ ms) ++ rest =
     sym (ap (λ (y : List ℕ). y ++ rest) (bytes-append ls ms) ∙ append-assoc (any-bytes ls) (any-bytes ms) rest) in
     subst (λ (y : List ℕ). text.Answers y out (Refused f) left) e (h (any-bytes ms ++ rest))
 
 -- After a good beginning that fits, by its next line.
-pub text-stops : {ls : List AnyLine} {k n : ℕ} {s : Tally} (out : List ℕ) → text.Beginning ls k n s → length (any-packed ls) ≤ length out
-    → (l : AnyLine) (f : Refusal)
+pub text-stops : {ls : List Any-line} {k n : ℕ} {s : Tally} (out : List ℕ) → text.Beginning ls k n s → length (any-packed ls) ≤ length out
+    → (l : Any-line) (f : Refusal)
     → ((more : List ℕ) → text.Refuses (length (any-bytes ls)) s (length out - length (any-packed ls)) k n (line-bytes l ++ (feed ∷ more)) f)
-    → TextStops out (ls ++ (l ∷ [])) f (sets out 0 (any-packed ls))
+    → Text-stops out (ls ++ (l ∷ [])) f (sets out 0 (any-packed ls))
 text-stops {ls} out b h l f r rest =
     let w : length (any-packed ls) + (length out - length (any-packed ls)) ≡ length out = omega arith in
     text.refuses (record { beginning = b; is = bytes-more ls l rest; fits = w }) (r rest)
 
 -- Lines `0` have room, or the text is refused in one of them.
-pub data Zeros (out : List ℕ) (ls ms : List AnyLine) (k : ℕ) (s : Tally) : Type 0 where
+pub data Zeros (out : List ℕ) (ls ms : List Any-line) (k : ℕ) (s : Tally) : Type 0 where
   with-room : text.Beginning ms k 0 s → length (any-packed ms) ≤ length out → Zeros out ls ms k s
   without : (place : ℕ) (left : List ℕ) → length (any-bytes ls) ≤ place → place < length (any-bytes ms) → length out < length (any-packed ms)
-      → TextStops out ms (NoRoom place) left → Zeros out ls ms k s
+      → Text-stops out ms (NoRoom place) left → Zeros out ls ms k s
 
-widened : {out : List ℕ} {ls ms : List AnyLine} {k : ℕ} {s : Tally} (l : AnyLine) → Zeros out (ls ++ (l ∷ [])) ms k s → Zeros out ls ms k s
+widened : {out : List ℕ} {ls ms : List Any-line} {k : ℕ} {s : Tally} (l : Any-line) → Zeros out (ls ++ (l ∷ [])) ms k s → Zeros out ls ms k s
 widened l (with-room b h) = with-room b h
 widened {ls = ls} l (without place left low high f t) = without place left (omega (arith, low, bytes-length ls l)) high f t
 
 -- The first of them has none.
-zero-stops : (out : List ℕ) (ls : List AnyLine) (k : ℕ) (s : Tally) → text.Beginning ls k 0 s → k < block-count
-    → length (any-packed ls) ≤ length out → length out < length (any-packed (ls ++ (zero-line ∷ []))) → (ms : List AnyLine) (j : ℕ) (t : Tally)
+zero-stops : (out : List ℕ) (ls : List Any-line) (k : ℕ) (s : Tally) → text.Beginning ls k 0 s → k < block-count
+    → length (any-packed ls) ≤ length out → length out < length (any-packed (ls ++ (zero-line ∷ []))) → (ms : List Any-line) (j : ℕ) (t : Tally)
     → Zeros out ls ((ls ++ (zero-line ∷ [])) ++ ms) j t
 unfolding line-bytes count numeral
 zero-stops out ls k s b i h r ms j t =
@@ -250,7 +250,7 @@ zero-stops out ls k s b i h r ms j t =
     (text-stops out b h zero-line (NoRoom (at + length (count-bytes count-0)))
     (λ more. text.no-room-count count-0 more i zero-good (zero-fits b) narrow)))
 
-pub zeros : (n : ℕ) (out : List ℕ) (ls : List AnyLine) (k : ℕ) (s : Tally) → text.Beginning ls k 0 s → k + n ≤ block-count
+pub zeros : (n : ℕ) (out : List ℕ) (ls : List Any-line) (k : ℕ) (s : Tally) → text.Beginning ls k 0 s → k + n ≤ block-count
     → length (any-packed ls) ≤ length out → Zeros out ls (ls ++ zero-lines n) (k + n) (skipped k n s)
 unfolding zero-lines skipped
 zeros zero out ls k s b i h = with-room (rw (append-nil ls, add-zero k) b) (rw (append-nil ls) h)
@@ -259,7 +259,7 @@ zeros (suc n) out ls k s b i h =
     let t = skipped (k + 1) n (opened k 0 s) in
     let j : k + 1 + n ≡ k + suc n = omega arith in
     let e : longer ++ zero-lines n ≡ ls ++ (zero-line ∷ zero-lines n) = append-assoc ls (zero-line ∷ []) (zero-lines n) in
-    subst (λ (ms : List AnyLine). Zeros out ls ms (k + suc n) t) e
+    subst (λ (ms : List Any-line). Zeros out ls ms (k + suc n) t) e
     (by-cases (leb (length (any-packed longer)) (length out))
     (λ z. subst (λ (i : ℕ). Zeros out ls (longer ++ zero-lines n) i t) j
     (widened zero-line (zeros n out longer (k + 1) (opened k 0 s) (with-zero b (omega arith)) (omega arith) (leb-true _ _ z))))

@@ -19,25 +19,25 @@ use Rattle.limits.specs.declared.Tally.{Tally}
 use Rattle.limits.specs.Limits.{no-tally, factor, count-fits, total-fits, coarse-fits}
 use Rattle.series_lines.specs.declared.Outcome.{Outcome}
 use Rattle.series_lines.specs.declared.Outcome.the-variants.{More, Accepted, Refused}
-use Rattle.series_lines.specs.Grammar.{feed, size, value, count, any-packed, TermInLimits}
+use Rattle.series_lines.specs.Grammar.{feed, size, value, count, any-packed, Term-in-limits}
 use Rattle.series_lines.specs.Lexer.{spot-bad}
 use Rattle.series_lines.specs.Reader.{last-offset, fits, put-bytes}
 use Rattle.series_lines.specs.Reader as lines
 use Rattle.series_lines.specs.Calls.{Run}
 use Rattle.published_records.specs.declared.Row.{Row}
-use Rattle.published_records.specs.Layout.{Heading, heading-bytes, GoodHeading, TermRecord, record-bytes, GoodRecord, NoFeed, cut-term}
+use Rattle.published_records.specs.Layout.{Heading, heading-bytes, Good-heading, Term-record, record-bytes, Good-record, No-feed, cut-term}
 use Rattle.published_records.specs.Rows.{fresh-row, lex-row, lex-rows, whole-row}
 use Rattle.published_headings.specs.Judge.{in-order, zeros}
 use Rattle.published.specs.declared.Published.{Published}
 use Rattle.published.specs.Reader.{begun-file, run, inside, ended, ended-out, told, whole}
-use Rattle.published_promises.specs.HandCut.{AnyRecord, a-heading, a-record, any-record-bytes, file-bytes, cut-one, cut-records}
+use Rattle.published_promises.specs.HandCut.{Any-record, a-heading, a-record, any-record-bytes, file-bytes, cut-one, cut-records}
 use Rattle.published_promises.specs.Decided.{Beginning, empty, with-heading, with-record, packed-so-far, Stands}
-use Rattle.published_promises.specs.Decided.{Awaits, CanBegin, IsWhole, Refuses, after-end, bad-byte, early-feed}
+use Rattle.published_promises.specs.Decided.{Awaits, Can-begin, Is-whole, Refuses, after-end, bad-byte, early-feed}
 use Rattle.published_promises.specs.Decided.{out-of-order, count-over, wrong-number, number-over, total-over, too-coarse}
 use Rattle.published_promises.specs.Decided.{no-room-heading, no-room-record, missing-packed}
-use Rattle.published_promises.specs.Decided.{Answers, accepts, no-room-at-end, refuses, ends-early, AnswersSoFar, complete, refused, goes-on}
+use Rattle.published_promises.specs.Decided.{Answers, accepts, no-room-at-end, refuses, ends-early, Answers-so-far, complete, refused, goes-on}
 use Rattle.integers.proofs.Tests.{by-cases, true-false}
-use Rattle.text_promises.specs.Decided.{NumbersInLimits}
+use Rattle.text_promises.specs.Decided.{Numbers-in-limits}
 use Rattle.text_promises.proofs.Decided.{numbers}
 use Rattle.published_promises.proofs.Lines.{st, kind, run-none, one-more}
 use Rattle.published_promises.proofs.Judged.{zeros-packed, begins, live, whole-in, whole-of}
@@ -67,7 +67,7 @@ module _ (at w k m : ℕ) (s : Tally) (o : List ℕ) where
 -- ---- The reader gives the answers of the definition.
 
 module _ (file out : List ℕ) (c : length file ≤ last-offset) where
-  module _ {rs : List AnyRecord} {k n m : ℕ} {s : Tally} {rest : List ℕ} {room : ℕ} (h : Stands file out rs k n m s rest room) where
+  module _ {rs : List Any-record} {k n m : ℕ} {s : Tally} {rest : List ℕ} {room : ℕ} (h : Stands file out rs k n m s rest room) where
     long : length file ≡ length (file-bytes rs) + length rest
     long = ap length (h .is) ∙ length-append (file-bytes rs) rest
 
@@ -79,16 +79,16 @@ module _ (file out : List ℕ) (c : length file ≤ last-offset) where
         refusals r (length (packed-so-far rs)) (sets out 0 (packed-so-far rs)) (omega (arith, long))
         (h .fits ∙ sym (length-sets out 0 (packed-so-far rs)))
 
-    open-to : Awaits k n → CanBegin n rest → Open (after rs k n m s) (sets out 0 (packed-so-far rs)) rest (length (packed-so-far rs))
+    open-to : Awaits k n → Can-begin n rest → Open (after rs k n m s) (sets out 0 (packed-so-far rs)) rest (length (packed-so-far rs))
     open-to a b =
         goes (length (file-bytes rs)) (length (packed-so-far rs)) k n m s (sets out 0 (packed-so-far rs)) rest a b (omega (arith, long))
 
-    early-to : Awaits k n → CanBegin n rest → (n ≡ 0 → rest ≡ [] → ⊥) → Early (after rs k n m s) (sets out 0 (packed-so-far rs)) rest (length file)
+    early-to : Awaits k n → Can-begin n rest → (n ≡ 0 → rest ≡ [] → ⊥) → Early (after rs k n m s) (sets out 0 (packed-so-far rs)) rest (length file)
     early-to a b d =
         subst (λ (i : ℕ). Early (after rs k n m s) (sets out 0 (packed-so-far rs)) rest i) (sym long)
         (breaks-off (length (file-bytes rs)) (length (packed-so-far rs)) k n m s (sets out 0 (packed-so-far rs)) rest a b (omega (arith, long)) d)
 
-  module _ {rs : List AnyRecord} {k m : ℕ} {s : Tally} {room : ℕ} (h : Stands file out rs k 0 m s [] room) where
+  module _ {rs : List Any-record} {k m : ℕ} {s : Tally} {room : ℕ} (h : Stands file out rs k 0 m s [] room) where
     to-end : run begun-file out file ≡ record { reader = after rs k 0 m s; out = sets out 0 (packed-so-far rs) }
     to-end = reads-to h ∙ run-none (after rs k 0 m s) (sets out 0 (packed-so-far rs))
 
@@ -131,7 +131,7 @@ module _ (file out : List ℕ) (c : length file ≤ last-offset) where
         ap (λ (x : Run Published). ended-out (x .reader) (x .out)) (reads-to h) ∙ q .last-same,
       )
 
-  pub answers-so-far : {o : Outcome} {left : List ℕ} → AnswersSoFar file out o left
+  pub answers-so-far : {o : Outcome} {left : List ℕ} → Answers-so-far file out o left
       → (told (run begun-file out file .reader) ≡ o) × (run begun-file out file .out ≡ left)
   answers-so-far (complete {rs} {m} {s} {room} h) = (
     ap (λ (x : Run Published). told (x .reader)) (to-end h) ∙ reads (length (file-bytes rs)) (length (packed-so-far rs)) m s,
@@ -151,19 +151,19 @@ module _ (file out : List ℕ) (c : length file ≤ last-offset) where
 
 -- Bytes from the beginning of a record, up to its line feed or the first byte with which it is bad.
 data Scan (b : Bool) (r : Row) : List ℕ → Type 0 where
-  clear : {xs : List ℕ} → NoFeed xs → (lex-rows b r xs .line .spot ≡ spot-bad → ⊥) → Scan b r xs
-  at-feed : (xs more : List ℕ) → NoFeed xs → (lex-rows b r xs .line .spot ≡ spot-bad → ⊥) → Scan b r (xs ++ (feed ∷ more))
-  at-bad : (xs : List ℕ) (x : ℕ) (more : List ℕ) → NoFeed xs → (lex-rows b r xs .line .spot ≡ spot-bad → ⊥)
+  clear : {xs : List ℕ} → No-feed xs → (lex-rows b r xs .line .spot ≡ spot-bad → ⊥) → Scan b r xs
+  at-feed : (xs more : List ℕ) → No-feed xs → (lex-rows b r xs .line .spot ≡ spot-bad → ⊥) → Scan b r (xs ++ (feed ∷ more))
+  at-bad : (xs : List ℕ) (x : ℕ) (more : List ℕ) → No-feed xs → (lex-rows b r xs .line .spot ≡ spot-bad → ⊥)
       → (x ≡ feed → ⊥) → lex-row b (lex-rows b r xs) x .line .spot ≡ spot-bad → Scan b r (xs ++ (x ∷ more))
 
 further : (b : Bool) (r : Row) (x : ℕ) (xs : List ℕ) → (x ≡ feed → ⊥) → Scan b (lex-row b r x) xs → Scan b r (x ∷ xs)
-unfolding lex-rows NoFeed
+unfolding lex-rows No-feed
 further b r x xs n (clear f h) = clear {xs = x ∷ xs} (n, f) h
 further b r x _ n (at-feed ys more f h) = at-feed (x ∷ ys) more (n, f) h
 further b r x _ n (at-bad ys y more f h d e) = at-bad (x ∷ ys) y more (n, f) h d e
 
 scan : (b : Bool) (xs : List ℕ) (r : Row) → (r .line .spot ≡ spot-bad → ⊥) → Scan b r xs
-unfolding lex-rows NoFeed
+unfolding lex-rows No-feed
 scan b [] r h = clear tt h
 scan b (x ∷ xs) r h =
     by-cases (eqb x feed)
@@ -174,23 +174,23 @@ scan b (x ∷ xs) r h =
 
 -- How far a file comes.
 data Comes (file out : List ℕ) : Type 0 where
-  to-end-of-block : {rs : List AnyRecord} {k m : ℕ} {s : Tally} {room : ℕ} → Stands file out rs k 0 m s [] room → Comes file out
-  to-refusal : {rs : List AnyRecord} {k n m : ℕ} {s : Tally} {rest : List ℕ} {room : ℕ} {f : Refusal}
+  to-end-of-block : {rs : List Any-record} {k m : ℕ} {s : Tally} {room : ℕ} → Stands file out rs k 0 m s [] room → Comes file out
+  to-refusal : {rs : List Any-record} {k n m : ℕ} {s : Tally} {rest : List ℕ} {room : ℕ} {f : Refusal}
       → Stands file out rs k n m s rest room → Refuses (length (file-bytes rs)) s room k n m rest f → Comes file out
-  to-open-record : {rs : List AnyRecord} {k n m : ℕ} {s : Tally} {rest : List ℕ} {room : ℕ}
-      → Stands file out rs k n m s rest room → Awaits k n → CanBegin n rest → (n ≡ 0 → rest ≡ [] → ⊥) → Comes file out
+  to-open-record : {rs : List Any-record} {k n m : ℕ} {s : Tally} {rest : List ℕ} {room : ℕ}
+      → Stands file out rs k n m s rest room → Awaits k n → Can-begin n rest → (n ≡ 0 → rest ≡ [] → ⊥) → Comes file out
 
 -- With a rest that is shorter than N bytes.
 abbrev Shorter : List ℕ → List ℕ → ℕ → Type 0
 Shorter file out N =
-    (rs : List AnyRecord) (k n m : ℕ) (s : Tally) (rest : List ℕ) (room : ℕ) → length rest < N → Stands file out rs k n m s rest room → Comes file out
+    (rs : List Any-record) (k n m : ℕ) (s : Tally) (rest : List ℕ) (room : ℕ) → length rest < N → Stands file out rs k n m s rest room → Comes file out
 
-module _ (file out : List ℕ) (N : ℕ) (rec : Shorter file out N) (rs : List AnyRecord) (k m : ℕ) (s : Tally) (room : ℕ) where
+module _ (file out : List ℕ) (N : ℕ) (rec : Shorter file out N) (rs : List Any-record) (k m : ℕ) (s : Tally) (room : ℕ) where
   put-rest : (n : ℕ) (xs ys : List ℕ) → xs ≡ ys → Stands file out rs k n m s xs room → Stands file out rs k n m s ys room
   put-rest n xs ys e h = record { beginning = h .beginning; is = h .is ∙ ap (λ (t : List ℕ). file-bytes rs ++ t) e; fits = h .fits }
 
   -- With a record more, that was written.
-  with-one : (n : ℕ) (r : AnyRecord) (more : List ℕ) (blocks left last : ℕ) (t : Tally) → length (any-record-bytes r ++ (feed ∷ more)) ≤ N
+  with-one : (n : ℕ) (r : Any-record) (more : List ℕ) (blocks left last : ℕ) (t : Tally) → length (any-record-bytes r ++ (feed ∷ more)) ≤ N
       → Stands file out rs k n m s (any-record-bytes r ++ (feed ∷ more)) room → length (any-packed (cut-one k r)) ≤ room
       → Beginning (rs ++ (r ∷ [])) blocks left last t → Comes file out
   with-one n r more blocks left last t c h d b =
@@ -198,7 +198,7 @@ module _ (file out : List ℕ) (N : ℕ) (rec : Shorter file out N) (rs : List A
       (omega (arith, length-append (any-record-bytes r) (feed ∷ more)))
       (record { beginning = b; is = h .is ∙ sym (bytes-more rs r more); fits = omega (arith, packed-length (h .beginning) r, h .fits) })
 
-  heading-comes : k < block-count → (h : Heading) (more : List ℕ) → GoodHeading h → length (heading-bytes h ++ (feed ∷ more)) ≤ N
+  heading-comes : k < block-count → (h : Heading) (more : List ℕ) → Good-heading h → length (heading-bytes h ++ (feed ∷ more)) ≤ N
       → Stands file out rs k 0 m s (heading-bytes h ++ (feed ∷ more)) room → Comes file out
   unfolding any-record-bytes
   heading-comes fewer h more g c i =
@@ -210,7 +210,7 @@ module _ (file out : List ℕ) (N : ℕ) (rec : Shorter file out N) (rs : List A
       (λ e. to-refusal i (count-over h more fewer g d e)))
       (λ d. to-refusal i (out-of-order h more fewer g d))
 
-  record-comes : (n : ℕ) (t : TermRecord) (more : List ℕ) → GoodRecord t → length (record-bytes t ++ (feed ∷ more)) ≤ N
+  record-comes : (n : ℕ) (t : Term-record) (more : List ℕ) → Good-record t → length (record-bytes t ++ (feed ∷ more)) ≤ N
       → Stands file out rs k (suc n) m s (record-bytes t ++ (feed ∷ more)) room → Comes file out
   unfolding any-record-bytes
   record-comes n t more g c i =
@@ -218,12 +218,12 @@ module _ (file out : List ℕ) (N : ℕ) (rec : Shorter file out N) (rs : List A
       (λ e. go (eqb-true _ _ e) (numbers (cut-term t)))
       (λ e. to-refusal i (wrong-number t more g (eqb-false _ _ e)))
     where
-      go : count (t .number) ≡ m + 1 → NumbersInLimits (cut-term t) ⊎ (NumbersInLimits (cut-term t) → ⊥) → Comes file out
+      go : count (t .number) ≡ m + 1 → Numbers-in-limits (cut-term t) ⊎ (Numbers-in-limits (cut-term t) → ⊥) → Comes file out
       go d (inr x) = to-refusal i (number-over t more g d x)
       go d (inl p) =
           by-cases (total-fits s (value (t .a)))
           (λ u. by-cases (coarse-fits (factor (k - 1)) s (value (t .a)) (size (t .b)) (value (t .c)))
-          (λ v. let l : TermInLimits (factor (k - 1)) s (cut-term t) =
+          (λ v. let l : Term-in-limits (factor (k - 1)) s (cut-term t) =
           record { from-zero = p .from-zero; a = p .a; b = p .b; c = p .c; total = u; coarse = v } in
           by-cases (leb (length (any-packed (cut-one k (a-record t)))) room)
           (λ z. with-one (suc n) (a-record t) more _ _ _ _ c i (leb-true _ _ z) (with-record t (i .beginning) g d l))
@@ -231,9 +231,9 @@ module _ (file out : List ℕ) (N : ℕ) (rec : Shorter file out N) (rs : List A
           (λ v. to-refusal i (too-coarse t more g d p u v)))
           (λ u. to-refusal i (total-over t more g d p u))
 
-  whole-comes : (n : ℕ) → Awaits k n → (xs more : List ℕ) → IsWhole n xs → length (xs ++ (feed ∷ more)) ≤ N
+  whole-comes : (n : ℕ) → Awaits k n → (xs more : List ℕ) → Is-whole n xs → length (xs ++ (feed ∷ more)) ≤ N
       → Stands file out rs k n m s (xs ++ (feed ∷ more)) room → Comes file out
-  unfolding IsWhole
+  unfolding Is-whole
   whole-comes zero a xs more i c h =
       let e = ap (λ (y : List ℕ). y ++ (feed ∷ more)) (i .is) in
       heading-comes (a refl) (i .h) more (i .good) (omega (arith, ap length e)) (put-rest 0 _ _ e h)
@@ -241,14 +241,14 @@ module _ (file out : List ℕ) (N : ℕ) (rec : Shorter file out N) (rs : List A
       let e = ap (λ (y : List ℕ). y ++ (feed ∷ more)) (i .is) in
       record-comes n (i .t) more (i .good) (omega (arith, ap length e)) (put-rest (suc n) _ _ e h)
 
-  feed-comes : (n : ℕ) → Awaits k n → (xs more : List ℕ) → NoFeed xs → (lex-rows (kind n) fresh-row xs .line .spot ≡ spot-bad → ⊥)
+  feed-comes : (n : ℕ) → Awaits k n → (xs more : List ℕ) → No-feed xs → (lex-rows (kind n) fresh-row xs .line .spot ≡ spot-bad → ⊥)
       → length (xs ++ (feed ∷ more)) ≤ N → Stands file out rs k n m s (xs ++ (feed ∷ more)) room → Comes file out
   feed-comes n a xs more f l c h =
       by-cases (whole-row (kind n) (lex-rows (kind n) fresh-row xs))
       (λ p. whole-comes n a xs more (whole-in n xs f l p) c h)
       (λ p. to-refusal h (early-feed xs more a (begins n xs f l) (λ i. true-false _ (whole-of n xs i) p)))
 
-  open-comes : (n : ℕ) → Awaits k n → (rest : List ℕ) → CanBegin n rest → Stands file out rs k n m s rest room → Comes file out
+  open-comes : (n : ℕ) → Awaits k n → (rest : List ℕ) → Can-begin n rest → Stands file out rs k n m s rest room → Comes file out
   open-comes zero a [] b h = to-end-of-block h
   open-comes zero a (x ∷ rest) b h = to-open-record h a b (λ e f. not-empty f)
     where
@@ -264,13 +264,13 @@ module _ (file out : List ℕ) (N : ℕ) (rec : Shorter file out N) (rs : List A
       (λ i. live n (xs ++ (x ∷ [])) i (ap (λ (r : Row). r .line .spot) (one-more (kind n) xs fresh-row x) ∙ e)))
 
 -- After block 18.
-finished : (file out : List ℕ) (rs : List AnyRecord) (m : ℕ) (s : Tally) (rest : List ℕ) (room : ℕ)
+finished : (file out : List ℕ) (rs : List Any-record) (m : ℕ) (s : Tally) (rest : List ℕ) (room : ℕ)
     → Stands file out rs block-count 0 m s rest room → Comes file out
 finished file out rs m s [] room h = to-end-of-block h
 finished file out rs m s (b ∷ more) room h = to-refusal h (after-end b more)
 
 module _ (file out : List ℕ) where
-  comes-by : (N : ℕ) → Shorter file out N → (rs : List AnyRecord) (k n m : ℕ) (s : Tally) (rest : List ℕ) (room : ℕ)
+  comes-by : (N : ℕ) → Shorter file out N → (rs : List Any-record) (k n m : ℕ) (s : Tally) (rest : List ℕ) (room : ℕ)
       → length rest ≤ N → Stands file out rs k n m s rest room → Comes file out
   comes-by N rec rs k zero m s rest room c h =
       by-cases (eqb k block-count)
@@ -313,17 +313,17 @@ module _ (file out : List ℕ) (c : length file ≤ last-offset) where
       go (to-open-record h a b d) = given (ends-early h a b d)
 
   -- So has a file that has not ended.
-  pub decided-so-far : AnswersSoFar file out (told (run begun-file out file .reader)) (run begun-file out file .out)
+  pub decided-so-far : Answers-so-far file out (told (run begun-file out file .reader)) (run begun-file out file .out)
   decided-so-far = go (comes file out)
     where
-      given : {o : Outcome} {left : List ℕ} → AnswersSoFar file out o left
-          → AnswersSoFar file out (told (run begun-file out file .reader)) (run begun-file out file .out)
+      given : {o : Outcome} {left : List ℕ} → Answers-so-far file out o left
+          → Answers-so-far file out (told (run begun-file out file .reader)) (run begun-file out file .out)
       given a = let e = answers-so-far file out c a in rw (e .0, e .1) a
 
-      nothing-yet : CanBegin 0 []
-      nothing-yet = begins 0 [] (unfold NoFeed in tt) (unfold lex-rows in λ e. omega (arith, e))
+      nothing-yet : Can-begin 0 []
+      nothing-yet = begins 0 [] (unfold No-feed in tt) (unfold lex-rows in λ e. omega (arith, e))
 
-      go : Comes file out → AnswersSoFar file out (told (run begun-file out file .reader)) (run begun-file out file .out)
+      go : Comes file out → Answers-so-far file out (told (run begun-file out file .reader)) (run begun-file out file .out)
       go (to-end-of-block {rs} {k} {m} {s} {room} h) =
           by-cases (eqb k block-count)
           (λ z. given (complete (subst (λ (i : ℕ). Stands file out rs i 0 m s [] room) (eqb-true k block-count z) h)))

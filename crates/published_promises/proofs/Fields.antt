@@ -11,8 +11,8 @@ use lib.Dec.{eqb, leb}
 use lib.ListN.{length}
 use Rattle.integers.proofs.Tests.{by-cases, both}
 use Rattle.series_lines.specs.declared.Line.{Line}
-use Rattle.series_lines.specs.Grammar.{spaces, sign, digits, AllDigits, numeral, Natural, Decimal}
-use Rattle.series_lines.specs.Grammar.{size, decimal, GoodDecimal, CountLine, count, count-bytes, GoodCount}
+use Rattle.series_lines.specs.Grammar.{spaces, sign, digits, All-digits, numeral, Natural, Decimal}
+use Rattle.series_lines.specs.Grammar.{size, decimal, Good-decimal, Count-line, count, count-bytes, Good-count}
 use Rattle.series_lines.specs.Lexer.{spot-bad, fresh, bad, takes-digit, lex, lexes}
 use Rattle.published_records.specs.Rows.{no-digit, unbegun, may-begin, in-whole}
 use Rattle.text_promises.proofs.GoodLines.{put, flag, lex-point}
@@ -129,10 +129,10 @@ count-kind =
     count-apart s h k (inr e) = omega arith
 
 -- The digits after the first.
-pub record MoreIn (base most : ℕ) (l : Line) (s m v : ℕ) (xs : List ℕ) (G : Line) : Type 0 where
+pub record More-in (base most : ℕ) (l : Line) (s m v : ℕ) (xs : List ℕ) (G : Line) : Type 0 where
   pub ds : List ℕ
   pub is : xs ≡ digits ds
-  pub all : AllDigits ds
+  pub all : All-digits ds
   pub few : s + length ds ≤ base + most
   pub leading : v ≡ 0 → ds ≡ []
   pub line : G ≡ put l (s + length ds) m (numeral v ds)
@@ -140,10 +140,10 @@ pub record MoreIn (base most : ℕ) (l : Line) (s m v : ℕ) (xs : List ℕ) (G 
 module _ (base most : ℕ) (K : Kind base most) where
   more-next : (l : Line) (s m v b : ℕ) (bs : List ℕ) → base < s → s ≤ base + most
       → ((v′ : ℕ) → s + 1 ≤ base + most → (whole-bytes most (put l (s + 1) m v′) bs .spot ≡ spot-bad → ⊥)
-      → MoreIn base most l (s + 1) m v′ bs (whole-bytes most (put l (s + 1) m v′) bs))
+      → More-in base most l (s + 1) m v′ bs (whole-bytes most (put l (s + 1) m v′) bs))
       → (L : Line) → Taken (length bs) most (put l s m v) b L → (whole-bytes most L bs .spot ≡ spot-bad → ⊥)
-      → MoreIn base most l s m v (b ∷ bs) (whole-bytes most L bs)
-  unfolding digits numeral AllDigits
+      → More-in base most l s m v (b ∷ bs) (whole-bytes most L bs)
+  unfolding digits numeral All-digits
   more-next l s m v b bs h k rec _ spoilt live = absurd (live (bad-wholes most bs bad refl))
   more-next l s m v b bs h k rec _ (blank e u w) live = absurd (K .apart s h k (unbegun-spot (put l s m v) u .0))
   more-next l s m v b bs h k rec _ (figure d i j t z) live =
@@ -161,8 +161,8 @@ module _ (base most : ℕ) (K : Kind base most) where
   more-next l s m v b bs h k rec _ (signed e j u w x) live = absurd (K .apart s h k (inl j))
 
   more-in : (xs : List ℕ) (l : Line) (s m v : ℕ) → base < s → s ≤ base + most → (whole-bytes most (put l s m v) xs .spot ≡ spot-bad → ⊥)
-      → MoreIn base most l s m v xs (whole-bytes most (put l s m v) xs)
-  unfolding whole-bytes digits numeral AllDigits
+      → More-in base most l s m v xs (whole-bytes most (put l s m v) xs)
+  unfolding whole-bytes digits numeral All-digits
   more-in [] l s m v h k live =
       record { ds = []; is = refl; all = tt; few = omega arith; leading = λ e. refl; line = rw (add-zero s) }
   more-in (b ∷ bs) l s m v h k live =
@@ -170,7 +170,7 @@ module _ (base most : ℕ) (K : Kind base most) where
       (in-whole (length bs) most (put l s m v) b) (taken (length bs) most (put l s m v) b) live
 
 -- A first digit and more.
-pub record FirstIn (base most : ℕ) (l : Line) (m : ℕ) (xs : List ℕ) (G : Line) : Type 0 where
+pub record First-in (base most : ℕ) (l : Line) (m : ℕ) (xs : List ℕ) (G : Line) : Type 0 where
   pub first : ℕ
   pub more : List ℕ
   pub is : xs ≡ digits (first ∷ more)
@@ -180,7 +180,7 @@ pub record FirstIn (base most : ℕ) (l : Line) (m : ℕ) (xs : List ℕ) (G : L
 module _ (base most : ℕ) (K : Kind base most) where
   first-digit-in : (l : Line) (m d b : ℕ) (bs : List ℕ) → b ≡ 48 + d → d < 10
       → (whole-bytes most (put l (base + 1) m (10 * 0 + d)) bs .spot ≡ spot-bad → ⊥)
-      → FirstIn base most l m (b ∷ bs) (whole-bytes most (put l (base + 1) m (10 * 0 + d)) bs)
+      → First-in base most l m (b ∷ bs) (whole-bytes most (put l (base + 1) m (10 * 0 + d)) bs)
   unfolding digits
   first-digit-in l m d b bs i h live =
       let z : 10 * 0 + d ≡ d = omega arith in
@@ -194,21 +194,21 @@ module _ (base most : ℕ) (K : Kind base most) where
       }
 
   first-in : (l : Line) (m : ℕ) (xs : List ℕ) → 1 ≤ length xs → (m ≡ 0 → ⊥) → base ≡ 0 → (whole-bytes most (put l base m 0) xs .spot ≡ spot-bad → ⊥)
-      → FirstIn base most l m xs (whole-bytes most (put l base m 0) xs)
+      → First-in base most l m xs (whole-bytes most (put l base m 0) xs)
   unfolding whole-bytes
   first-in l m [] n h e live = absurd (omega arith)
   first-in l m (b ∷ bs) n h e live =
       go (in-whole (length bs) most (put l base m 0) b) (taken (length bs) most (put l base m 0) b) live
     where
       go : (L : Line) → Taken (length bs) most (put l base m 0) b L → (whole-bytes most L bs .spot ≡ spot-bad → ⊥)
-          → FirstIn base most l m (b ∷ bs) (whole-bytes most L bs)
+          → First-in base most l m (b ∷ bs) (whole-bytes most L bs)
       go _ spoilt y = absurd (y (bad-wholes most bs bad refl))
       go _ (blank i u w) y = absurd (h (unbegun-spot (put l base m 0) u .1 e))
       go _ (figure d i k t z) y = first-digit-in l m d b bs i k y
       go _ (signed i j u w x) y = absurd (h u)
 
 -- Spaces, a minus or none, and digits.
-pub record WholeIn (base most : ℕ) (l : Line) (xs : List ℕ) (G : Line) : Type 0 where
+pub record Whole-in (base most : ℕ) (l : Line) (xs : List ℕ) (G : Line) : Type 0 where
   pub n : ℕ
   pub m : Bool
   pub first : ℕ
@@ -220,9 +220,9 @@ pub record WholeIn (base most : ℕ) (l : Line) (xs : List ℕ) (G : Line) : Typ
 
 module _ (base most : ℕ) (K : Kind base most) where
   whole-next : (l : Line) (b : ℕ) (bs : List ℕ)
-      → (1 ≤ length bs → (whole-bytes most (put l base 0 0) bs .spot ≡ spot-bad → ⊥) → WholeIn base most l bs (whole-bytes most (put l base 0 0) bs))
+      → (1 ≤ length bs → (whole-bytes most (put l base 0 0) bs .spot ≡ spot-bad → ⊥) → Whole-in base most l bs (whole-bytes most (put l base 0 0) bs))
       → (L : Line) → Taken (length bs) most (put l base 0 0) b L → (whole-bytes most L bs .spot ≡ spot-bad → ⊥)
-      → WholeIn base most l (b ∷ bs) (whole-bytes most L bs)
+      → Whole-in base most l (b ∷ bs) (whole-bytes most L bs)
   unfolding spaces sign flag
   whole-next l b bs rec _ spoilt y = absurd (y (bad-wholes most bs bad refl))
   whole-next l b bs rec _ (blank i u w) y =
@@ -264,7 +264,7 @@ module _ (base most : ℕ) (K : Kind base most) where
       }
 
   pub whole-in : (xs : List ℕ) (l : Line) → 1 ≤ length xs → (whole-bytes most (put l base 0 0) xs .spot ≡ spot-bad → ⊥)
-      → WholeIn base most l xs (whole-bytes most (put l base 0 0) xs)
+      → Whole-in base most l xs (whole-bytes most (put l base 0 0) xs)
   unfolding whole-bytes
   whole-in [] l n live = absurd (omega arith)
   whole-in (b ∷ bs) l n live =
@@ -272,14 +272,14 @@ module _ (base most : ℕ) (K : Kind base most) where
       (in-whole (length bs) most (put l base 0 0) b) (taken (length bs) most (put l base 0 0) b) live
 
 -- The columns of a count.
-pub record CountIn (xs : List ℕ) (G : Line) : Type 0 where
+pub record Count-in (xs : List ℕ) (G : Line) : Type 0 where
   pub n : ℕ
-  pub k : CountLine
-  pub good : GoodCount k
+  pub k : Count-line
+  pub good : Good-count k
   pub is : xs ≡ spaces n ++ count-bytes k
   pub line : G ≡ put (fresh 20) (21 + length (k .more)) 0 (count k)
 
-pub count-field : (xs : List ℕ) → 1 ≤ length xs → (whole-bytes 4 (fresh 20) xs .spot ≡ spot-bad → ⊥) → CountIn xs (whole-bytes 4 (fresh 20) xs)
+pub count-field : (xs : List ℕ) → 1 ≤ length xs → (whole-bytes 4 (fresh 20) xs .spot ≡ spot-bad → ⊥) → Count-in xs (whole-bytes 4 (fresh 20) xs)
 unfolding count-bytes count sign flag
 count-field xs h live =
     let p = whole-in 20 4 count-kind xs (fresh 20) h live in
@@ -294,17 +294,17 @@ count-field xs h live =
 
 -- ---- The columns after the point.
 
-pub record PartsIn (l : Line) (m v n : ℕ) (xs : List ℕ) (G : Line) : Type 0 where
+pub record Parts-in (l : Line) (m v n : ℕ) (xs : List ℕ) (G : Line) : Type 0 where
   pub ds : List ℕ
   pub is : xs ≡ digits ds
-  pub all : AllDigits ds
+  pub all : All-digits ds
   pub long : length ds ≡ n
   pub sized : (m ≡ 0) ⊎ (0 < numeral v ds)
   pub line : G ≡ put l 18 m (numeral v ds)
 
 module _ (l : Line) (s m v b : ℕ) (low : 7 ≤ s) where
-  parts-last : s ≡ 17 → (L : Line) → Lexed (put l s m v) b L → (L .spot ≡ spot-bad → ⊥) → PartsIn l m v 1 (b ∷ []) L
-  unfolding digits numeral AllDigits
+  parts-last : s ≡ 17 → (L : Line) → Lexed (put l s m v) b L → (L .spot ≡ spot-bad → ⊥) → Parts-in l m v 1 (b ∷ []) L
+  unfolding digits numeral All-digits
   parts-last e _ none y = absurd (y refl)
   parts-last e _ (digit d i h t) y =
       record {
@@ -321,9 +321,9 @@ module _ (l : Line) (s m v b : ℕ) (low : 7 ≤ s) where
   parts-last e _ (negated i h k) y = absurd (omega arith)
 
   parts-more : (n : ℕ) (bs : List ℕ) → s < 17
-      → ((v′ : ℕ) → (lexes (put l (s + 1) m v′) bs .spot ≡ spot-bad → ⊥) → PartsIn l m v′ n bs (lexes (put l (s + 1) m v′) bs))
-      → (L : Line) → Lexed (put l s m v) b L → (lexes L bs .spot ≡ spot-bad → ⊥) → PartsIn l m v (suc n) (b ∷ bs) (lexes L bs)
-  unfolding digits numeral AllDigits
+      → ((v′ : ℕ) → (lexes (put l (s + 1) m v′) bs .spot ≡ spot-bad → ⊥) → Parts-in l m v′ n bs (lexes (put l (s + 1) m v′) bs))
+      → (L : Line) → Lexed (put l s m v) b L → (lexes L bs .spot ≡ spot-bad → ⊥) → Parts-in l m v (suc n) (b ∷ bs) (lexes L bs)
+  unfolding digits numeral All-digits
   parts-more n bs e rec _ none y = absurd (y (bad-end bad bs refl))
   parts-more n bs e rec _ (digit d i h t) y =
       let p = rec (10 * v + d) y in
@@ -341,7 +341,7 @@ module _ (l : Line) (s m v b : ℕ) (low : 7 ≤ s) where
   parts-more n bs e rec _ (negated i h k) y = absurd (omega arith)
 
 parts-in : (n : ℕ) (xs : List ℕ) (l : Line) (s m v : ℕ) → 7 ≤ s → s + suc n ≡ 18 → length xs ≡ suc n → (lexes (put l s m v) xs .spot ≡ spot-bad → ⊥)
-    → PartsIn l m v (suc n) xs (lexes (put l s m v) xs)
+    → Parts-in l m v (suc n) xs (lexes (put l s m v) xs)
 unfolding lexes
 parts-in n [] l s m v h k e y = absurd (omega arith)
 parts-in zero (b ∷ []) l s m v h k e y = parts-last l s m v b h (omega arith) (lex (put l s m v) b) (view (put l s m v) b) y
@@ -360,10 +360,10 @@ at-point l b = cond (eqb b 46) (lex l b) bad
 abbrev pub decimal-line : Line → List ℕ → ℕ → List ℕ → Line
 decimal-line l ws p ps = lexes (at-point (whole-bytes 6 l ws) p) ps
 
-pub record DecimalIn (l : Line) (xs : List ℕ) (G : Line) : Type 0 where
+pub record Decimal-in (l : Line) (xs : List ℕ) (G : Line) : Type 0 where
   pub n : ℕ
   pub d : Decimal
-  pub good : GoodDecimal d
+  pub good : Good-decimal d
   pub is : xs ≡ spaces n ++ decimal d
   pub line : G ≡ put l 18 (flag (d .minus)) (size d)
 
@@ -387,7 +387,7 @@ point-taken : (l : Line) (s m v : ℕ) (p : ℕ) → 1 ≤ s → s ≤ 6 → p �
 point-taken l s m v p h k e = rw e (lex-point l s m v h k)
 
 pub decimal-field : (l : Line) (ws : List ℕ) (p : ℕ) (ps : List ℕ) → 1 ≤ length ws → length ps ≡ 11
-    → (decimal-line (put l 0 0 0) ws p ps .spot ≡ spot-bad → ⊥) → DecimalIn l (ws ++ (p ∷ ps)) (decimal-line (put l 0 0 0) ws p ps)
+    → (decimal-line (put l 0 0 0) ws p ps .spot ≡ spot-bad → ⊥) → Decimal-in l (ws ++ (p ∷ ps)) (decimal-line (put l 0 0 0) ws p ps)
 unfolding decimal size
 decimal-field l ws p ps h k y =
     let W = whole-bytes 6 (put l 0 0 0) ws in

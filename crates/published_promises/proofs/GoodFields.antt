@@ -9,8 +9,8 @@ use lib.Dec.{eqb}
 use lib.ListN.{length, length-append}
 use Rattle.integers.proofs.Tests.{by-cases}
 use Rattle.series_lines.specs.declared.Line.{Line}
-use Rattle.series_lines.specs.Grammar.{space, minus-sign, point, digit-0, spaces, sign, digits, Natural, Decimal, size, decimal, GoodDecimal}
-use Rattle.series_lines.specs.Grammar.{count-digits, whole-digits, part-digits, CountLine, count, count-bytes, GoodCount}
+use Rattle.series_lines.specs.Grammar.{space, minus-sign, point, digit-0, spaces, sign, digits, Natural, Decimal, size, decimal, Good-decimal}
+use Rattle.series_lines.specs.Grammar.{count-digits, whole-digits, part-digits, Count-line, count, count-bytes, Good-count}
 use Rattle.series_lines.specs.Lexer.{spot-decimal, spot-count, spot-done, fresh, put, with-minus, lex, lexes}
 use Rattle.published_records.specs.declared.Column.{Column}
 use Rattle.published_records.specs.declared.Column.the-variants.{Count}
@@ -115,7 +115,7 @@ unfolding digits
 digits-length [] = refl
 digits-length (d ∷ ds) = ap suc (digits-length ds)
 
-pub count-field : (i : ℕ) (c : CountLine) → GoodCount c
+pub count-field : (i : ℕ) (c : Count-line) → Good-count c
     → field-lines Count (fresh spot-count) (spaces i ++ count-bytes c) ≡ put (fresh spot-count) (spot-count + 1 + length (c .more)) 0 (count c)
 unfolding count-bytes digits field-lines in-field lexes no-digit unbegun
 count-field i c g =
@@ -195,7 +195,7 @@ unfolding sign
 sign-length true ys = omega arith
 sign-length false ys = omega arith
 
-pub decimal-field : (i : ℕ) (l : Line) (d : Decimal) → GoodDecimal d
+pub decimal-field : (i : ℕ) (l : Line) (d : Decimal) → Good-decimal d
     → field-lines decimal-column (put l spot-decimal 0 0) (spaces i ++ decimal d) ≡ put l spot-done (flag (d .minus)) (size d)
 unfolding decimal
 decimal-field i l d g =

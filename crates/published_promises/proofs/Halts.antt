@@ -21,12 +21,12 @@ use Rattle.series_lines.specs.Reader.{last-offset, next-spot, stopped, fits, pu
 use Rattle.series_lines.specs.Reader as lines
 use Rattle.series_lines.specs.Calls.{Run}
 use Rattle.published_records.specs.declared.Row.{Row}
-use Rattle.published_records.specs.Layout.{Heading, heading-bytes, GoodHeading, TermRecord, record-bytes, GoodRecord, NoFeed}
+use Rattle.published_records.specs.Layout.{Heading, heading-bytes, Good-heading, Term-record, record-bytes, Good-record, No-feed}
 use Rattle.published_records.specs.Rows.{fresh-row, lex-row, lex-rows, whole-row}
 use Rattle.published.specs.declared.Published.{Published}
 use Rattle.published.specs.Reader.{halted, verdict, next-last, complete, step, step-out, run, inside, ended, ended-out, told}
-use Rattle.published_promises.specs.HandCut.{AnyRecord, a-heading, a-record, cut-one}
-use Rattle.published_promises.specs.Decided.{Awaits, CanBegin, IsWhole, Refuses, after-end, bad-byte, early-feed}
+use Rattle.published_promises.specs.HandCut.{Any-record, a-heading, a-record, cut-one}
+use Rattle.published_promises.specs.Decided.{Awaits, Can-begin, Is-whole, Refuses, after-end, bad-byte, early-feed}
 use Rattle.published_promises.specs.Decided.{out-of-order, count-over, wrong-number, number-over, total-over, too-coarse, no-room-heading, no-room-record}
 use Rattle.integers.proofs.Tests.{by-cases}
 use Rattle.published_promises.proofs.Records.{no-feed-append}
@@ -73,7 +73,7 @@ module _ (at w k n m : ℕ) (s : Tally) (o xs : List ℕ) where
   abbrev here : Published
   here = in-record (at + length xs) w k n m s (lex-rows (kind n) fresh-row xs)
 
-  module _ (awaits : Awaits k n) (clear : NoFeed xs) (alive : lex-rows (kind n) fresh-row xs .line .spot ≡ spot-bad → ⊥) where
+  module _ (awaits : Awaits k n) (clear : No-feed xs) (alive : lex-rows (kind n) fresh-row xs .line .spot ≡ spot-bad → ⊥) where
     -- The file goes on.
     pub open-run : at + length xs ≤ last-offset → run (st at w k n m s) o xs ≡ record { reader = here; out = o }
     open-run c =
@@ -124,8 +124,8 @@ module _ (at w k n m : ℕ) (s : Tally) (o xs : List ℕ) where
 inside-record : (at : ℕ) (xs : List ℕ) (b : ℕ) (more : List ℕ) → at + length (xs ++ (b ∷ more)) ≤ last-offset → at + length xs < last-offset
 inside-record at xs b more h = omega (arith, length-append xs (b ∷ more))
 
-no-feed-more : (xs : List ℕ) (b : ℕ) → NoFeed xs → (b ≡ feed → ⊥) → NoFeed (xs ++ (b ∷ []))
-no-feed-more xs b f h = no-feed-append xs (b ∷ []) f (unfold NoFeed in (h, tt))
+no-feed-more : (xs : List ℕ) (b : ℕ) → No-feed xs → (b ≡ feed → ⊥) → No-feed (xs ++ (b ∷ []))
+no-feed-more xs b f h = no-feed-append xs (b ∷ []) f (unfold No-feed in (h, tt))
 
 -- A byte after block 18.
 after-halts : (at w m : ℕ) (s : Tally) (o : List ℕ) (b : ℕ) (more : List ℕ) → at < last-offset
@@ -144,7 +144,7 @@ after-halts at w m s o b more h =
     by-nine n = let t = ne-eqb at last-offset n in unfold step step-out uncounted complete next-spot in (rw t, rw t)
 
 module _ (at w k n m : ℕ) (s : Tally) (o : List ℕ) where
-  bad-byte-halts : (xs : List ℕ) (b : ℕ) (more : List ℕ) → Awaits k n → CanBegin n xs → (b ≡ feed → ⊥) → (CanBegin n (xs ++ (b ∷ [])) → ⊥)
+  bad-byte-halts : (xs : List ℕ) (b : ℕ) (more : List ℕ) → Awaits k n → Can-begin n xs → (b ≡ feed → ⊥) → (Can-begin n (xs ++ (b ∷ [])) → ⊥)
       → at + length (xs ++ (b ∷ more)) ≤ last-offset → Halts (st at w k n m s) o (xs ++ (b ∷ more)) (BadByte (at + length xs))
   bad-byte-halts xs b more a c h x l =
       bad-halts at w k n m s o xs a (no-feed n xs c) (live n xs c) (inside-record at xs b more l) b more h
@@ -153,7 +153,7 @@ module _ (at w k n m : ℕ) (s : Tally) (o : List ℕ) where
       (λ z. absurd (x (begins n (xs ++ (b ∷ [])) (no-feed-more xs b (no-feed n xs c) h)
       (λ q. eqb-false _ _ z (ap (λ (r : Row). r .line .spot) (sym (one-more (kind n) xs fresh-row b)) ∙ q))))))
 
-  early-feed-halts : (xs more : List ℕ) → Awaits k n → CanBegin n xs → (IsWhole n xs → ⊥)
+  early-feed-halts : (xs more : List ℕ) → Awaits k n → Can-begin n xs → (Is-whole n xs → ⊥)
       → at + length (xs ++ (feed ∷ more)) ≤ last-offset → Halts (st at w k n m s) o (xs ++ (feed ∷ more)) (BadByte (at + length xs))
   unfolding of-number
   early-feed-halts xs more a c x l =
@@ -167,7 +167,7 @@ module _ (at w k n m : ℕ) (s : Tally) (o : List ℕ) where
           (λ p. p)
 
   -- A whole record that is judged with the number j.
-  module _ (xs more : List ℕ) (r : AnyRecord) (j blocks left last : ℕ) (after : Tally) (a : Awaits k n) (c : CanBegin n xs)
+  module _ (xs more : List ℕ) (r : Any-record) (j blocks left last : ℕ) (after : Tally) (a : Awaits k n) (c : Can-begin n xs)
       (y : Says (at + length xs) w k n m s (lex-rows (kind n) fresh-row xs) r j blocks left last after)
       (l : at + length (xs ++ (feed ∷ more)) ≤ last-offset) where
     judged-halts : (d : ℕ) → j ≡ d → eqb d 0 ≡ false → eqb d 1 ≡ false
@@ -181,7 +181,7 @@ module _ (at w k n m : ℕ) (s : Tally) (o : List ℕ) where
 
 -- A heading and a term record, with its line feed.
 module _ (at w k m : ℕ) (s : Tally) (o more : List ℕ) where
-  module _ (h : Heading) (a : k < block-count) (g : GoodHeading h) (l : at + length (heading-bytes h ++ (feed ∷ more)) ≤ last-offset) where
+  module _ (h : Heading) (a : k < block-count) (g : Good-heading h) (l : at + length (heading-bytes h ++ (feed ∷ more)) ≤ last-offset) where
     heading-halts : (d : ℕ) → heading-judged k s h ≡ d → eqb d 0 ≡ false → eqb d 1 ≡ false
         → Halts (st at w k 0 m s) o (heading-bytes h ++ (feed ∷ more)) (of-number d (at + length (heading-bytes h)))
     heading-halts =
@@ -194,7 +194,7 @@ module _ (at w k m : ℕ) (s : Tally) (o more : List ℕ) where
         room-halts at w k 0 m s o (heading-bytes h) more (a-heading h) _ _ _ _ _ (λ i. a) (heading-can h g)
         (heading-says (at + length (heading-bytes h)) w k m s h g) l
 
-  module _ (n : ℕ) (t : TermRecord) (g : GoodRecord t) (l : at + length (record-bytes t ++ (feed ∷ more)) ≤ last-offset) where
+  module _ (n : ℕ) (t : Term-record) (g : Good-record t) (l : at + length (record-bytes t ++ (feed ∷ more)) ≤ last-offset) where
     record-halts : (d : ℕ) → record-judged k m s t ≡ d → eqb d 0 ≡ false → eqb d 1 ≡ false
         → Halts (st at w k (suc n) m s) o (record-bytes t ++ (feed ∷ more)) (of-number d (at + length (record-bytes t)))
     record-halts =
@@ -248,7 +248,7 @@ is-inside at w k n m s (x ∷ xs) h = rw (lt-ltb 1 (lex-rows (kind n) fresh-row 
 is-inside at w k zero m s [] h = absurd (h refl refl)
 is-inside at w k (suc n) m s [] h = unfold lex-rows in rw (lt-ltb 0 (suc n) (omega arith))
 
-module _ (at w k n m : ℕ) (s : Tally) (o xs : List ℕ) (a : Awaits k n) (c : CanBegin n xs) (l : at + length xs ≤ last-offset) where
+module _ (at w k n m : ℕ) (s : Tally) (o xs : List ℕ) (a : Awaits k n) (c : Can-begin n xs) (l : at + length xs ≤ last-offset) where
   abbrev there : Published
   there = in-record (at + length xs) w k n m s (lex-rows (kind n) fresh-row xs)
 

@@ -14,22 +14,22 @@ use Rattle.limits.specs.declared.Term.{Term}
 use Rattle.limits.specs.declared.Tally.{Tally}
 use Rattle.limits.specs.Limits.{opened, added, factor, count-fits, total-fits, coarse-fits}
 use Rattle.packed.specs.Series.{pack-term}
-use Rattle.series_lines.specs.Grammar.{feed, size, value, count, numeral, term-of-line, TermInLimits}
-use Rattle.series_lines.specs.Grammar.{AnyLine, a-count, line-packed, any-packed}
+use Rattle.series_lines.specs.Grammar.{feed, size, value, count, numeral, term-of-line, Term-in-limits}
+use Rattle.series_lines.specs.Grammar.{Any-line, a-count, line-packed, any-packed}
 use Rattle.series_lines.specs.Lexer.{spot-bad}
 use Rattle.series_lines.specs.Judge.{term-on-line, term-line-refusal}
 use Rattle.series_lines.specs.Reader.{last-offset, after-line, fits, wrote, put-bytes, wrote-out}
 use Rattle.published_records.specs.declared.Row.{Row}
-use Rattle.published_records.specs.Layout.{Heading, heading-bytes, GoodHeading, TermRecord, record-bytes, GoodRecord, NoFeed, cut-term}
+use Rattle.published_records.specs.Layout.{Heading, heading-bytes, Good-heading, Term-record, record-bytes, Good-record, No-feed, cut-term}
 use Rattle.published_records.specs.Rows.{fresh-row, lex-rows, whole-row}
 use Rattle.published_headings.specs.Judge.{in-order, heading-refusal, record-refusal, skipped, zeros, heading-packed}
 use Rattle.published.specs.declared.Published.{Published}
 use Rattle.published.specs.Reader.{at-heading, heading-end, record-end, verdict, next-last, judged, step, run}
-use Rattle.published_promises.specs.HandCut.{AnyRecord, a-heading, a-record, heading-block, zero-lines, cut-one}
-use Rattle.published_promises.specs.Decided.{Awaits, CanBegin, IsWhole}
+use Rattle.published_promises.specs.HandCut.{Any-record, a-heading, a-record, heading-block, zero-lines, cut-one}
+use Rattle.published_promises.specs.Decided.{Awaits, Can-begin, Is-whole}
 use Rattle.integers.proofs.Tests.{by-cases}
 use Rattle.text_promises.proofs.GoodLines.{flag}
-use Rattle.text_promises.specs.Decided.{NumbersInLimits}
+use Rattle.text_promises.specs.Decided.{Numbers-in-limits}
 use Rattle.text_promises.proofs.Verdicts.{term-is, term-zero}
 use Rattle.text_promises.proofs.Halts.{number-refused, total-refused, coarse-refused}
 use Rattle.published_promises.proofs.Lines.{in-record, st, kind, run-one, step-feed, row-run}
@@ -49,7 +49,7 @@ abbrev pub heading-judged : ℕ → Tally → Heading → ℕ
 heading-judged k s h = heading-refusal k s (h .version) (h .coordinate) (h .power) (count (h .count))
 
 -- A term record in block k - 1, after the running number m.
-abbrev pub record-judged : ℕ → ℕ → Tally → TermRecord → ℕ
+abbrev pub record-judged : ℕ → ℕ → Tally → Term-record → ℕ
 record-judged k m s t =
     record-refusal m (count (t .number)) (factor (k - 1)) s (cond (t .b .minus) 1 0) (term-of-line (cut-term t))
 
@@ -73,7 +73,7 @@ unfolding flag
 minus-is true = refl
 minus-is false = refl
 
-module _ (k m : ℕ) (s : Tally) (t : TermRecord) where
+module _ (k m : ℕ) (s : Tally) (t : Term-record) where
   pub record-number-refused : (count (t .number) ≡ m + 1 → ⊥) → record-judged k m s t ≡ bad-number
   unfolding record-refusal
   record-number-refused x = rw (ne-eqb (count (t .number)) (m + 1) x)
@@ -84,17 +84,17 @@ module _ (k m : ℕ) (s : Tally) (t : TermRecord) where
     unfolding record-refusal
     as-line = rw (eq-eqb (count (t .number)) (m + 1) i, minus-is (t .b .minus))
 
-    pub record-limit-refused : (NumbersInLimits (cut-term t) → ⊥) → record-judged k m s t ≡ over-limit
+    pub record-limit-refused : (Numbers-in-limits (cut-term t) → ⊥) → record-judged k m s t ≡ over-limit
     record-limit-refused x = as-line ∙ number-refused (factor (k - 1)) s (cut-term t) x
 
-    pub record-total-refused : NumbersInLimits (cut-term t) → total-fits s (value (t .a)) ≡ false → record-judged k m s t ≡ total-over-limit
+    pub record-total-refused : Numbers-in-limits (cut-term t) → total-fits s (value (t .a)) ≡ false → record-judged k m s t ≡ total-over-limit
     record-total-refused x u = as-line ∙ total-refused (factor (k - 1)) s (cut-term t) x u
 
-    pub record-coarse-refused : NumbersInLimits (cut-term t) → total-fits s (value (t .a)) ≡ true
+    pub record-coarse-refused : Numbers-in-limits (cut-term t) → total-fits s (value (t .a)) ≡ true
         → coarse-fits (factor (k - 1)) s (value (t .a)) (size (t .b)) (value (t .c)) ≡ false → record-judged k m s t ≡ too-coarse
     record-coarse-refused x u v = as-line ∙ coarse-refused (factor (k - 1)) s (cut-term t) x u v
 
-    pub record-zero : TermInLimits (factor (k - 1)) s (cut-term t) → record-judged k m s t ≡ 0
+    pub record-zero : Term-in-limits (factor (k - 1)) s (cut-term t) → record-judged k m s t ≡ 0
     record-zero x = as-line ∙ term-zero (factor (k - 1)) s (cut-term t) x
 
 -- The running number of a record that is not refused.
@@ -105,7 +105,7 @@ number-next m number f s minusb t =
 
 -- ---- What is written.
 
-pub packed-append : (xs ys : List AnyLine) → any-packed (xs ++ ys) ≡ any-packed xs ++ any-packed ys
+pub packed-append : (xs ys : List Any-line) → any-packed (xs ++ ys) ≡ any-packed xs ++ any-packed ys
 unfolding any-packed
 packed-append [] ys = refl
 packed-append (x ∷ xs) ys =
@@ -129,7 +129,7 @@ heading-written k h =
     cut : (k : ℕ) (h : Heading) → zero-lines (heading-block h - k) ++ (a-count (h .count) ∷ []) ≡ cut-one k (a-heading h)
     cut k h = unfold cut-one in refl
 
-record-written : (k : ℕ) (t : TermRecord) → pack-term (term-of-line (cut-term t)) ≡ any-packed (cut-one k (a-record t))
+record-written : (k : ℕ) (t : Term-record) → pack-term (term-of-line (cut-term t)) ≡ any-packed (cut-one k (a-record t))
 unfolding any-packed line-packed cut-one
 record-written k t = sym (append-nil (pack-term (term-of-line (cut-term t))))
 
@@ -150,7 +150,7 @@ module _ (at w k m : ℕ) (s : Tally) (row : Row) where
 
 -- What the judgement of the record r says after k blocks, with n terms left, the running number m and the tally s: the refusal j; and where
 -- there is none, what stands after it.
-pub record Says (at w k n m : ℕ) (s : Tally) (row : Row) (r : AnyRecord) (j blocks left last : ℕ) (after : Tally) : Type 0 where
+pub record Says (at w k n m : ℕ) (s : Tally) (row : Row) (r : Any-record) (j blocks left last : ℕ) (after : Tally) : Type 0 where
   pub refusal : verdict (in-record at w k n m s row) .refusal ≡ j
   pub bytes : verdict (in-record at w k n m s row) .bytes ≡ any-packed (cut-one k r)
   pub next : j ≡ 0
@@ -171,7 +171,7 @@ module _ (at w k m : ℕ) (s : Tally) (row : Row) where
       let b = heading-written k h in
       record { refusal = rw (q, c, v, d, p); bytes = rw (q, c, d, p) b; next = λ z. rw (q, c, d, p, b) }
 
-  record-row-says : (n : ℕ) (t : TermRecord) → whole-row false row ≡ true → row .number ≡ count (t .number)
+  record-row-says : (n : ℕ) (t : Term-record) → whole-row false row ≡ true → row .number ≡ count (t .number)
       → term-on-line (row .line) ≡ term-of-line (cut-term t) → row .line .minusb ≡ cond (t .b .minus) 1 0
       → Says at w k (suc n) m s row (a-record t) (record-judged k m s t) k n (m + 1) (added (factor (k - 1)) s (term-of-line (cut-term t)))
   unfolding next-last at-heading
@@ -191,8 +191,8 @@ feed-good q o e h =
     let f = le-leb (q .reader .written + length (verdict q .bytes)) (length o) h in
     (rw (e, f), rw (e, f))
 
-module _ (at w k n m : ℕ) (s : Tally) (o xs : List ℕ) (r : AnyRecord) (j blocks left last : ℕ) (after : Tally) where
-  pub taken : Awaits k n → NoFeed xs → (lex-rows (kind n) fresh-row xs .line .spot ≡ spot-bad → ⊥)
+module _ (at w k n m : ℕ) (s : Tally) (o xs : List ℕ) (r : Any-record) (j blocks left last : ℕ) (after : Tally) where
+  pub taken : Awaits k n → No-feed xs → (lex-rows (kind n) fresh-row xs .line .spot ≡ spot-bad → ⊥)
       → Says (at + length xs) w k n m s (lex-rows (kind n) fresh-row xs) r j blocks left last after → j ≡ 0
       → at + length xs < last-offset → w + length (any-packed (cut-one k r)) ≤ length o → (rest : List ℕ)
       → run (st at w k n m s) o (xs ++ (feed ∷ rest))
@@ -208,45 +208,45 @@ module _ (at w k n m : ℕ) (s : Tally) (o xs : List ℕ) (r : AnyRecord) (j blo
 
 -- ---- By the kind of the record.
 
-no-feed-part : (xs ys : List ℕ) → NoFeed (xs ++ ys) → NoFeed xs
-unfolding NoFeed
+no-feed-part : (xs ys : List ℕ) → No-feed (xs ++ ys) → No-feed xs
+unfolding No-feed
 no-feed-part [] ys f = tt
 no-feed-part (x ∷ xs) ys f = (f .0, no-feed-part xs ys (f .1))
 
 -- A whole record begins a record.
-pub heading-can : (h : Heading) → GoodHeading h → CanBegin 0 (heading-bytes h)
-unfolding CanBegin
+pub heading-can : (h : Heading) → Good-heading h → Can-begin 0 (heading-bytes h)
+unfolding Can-begin
 heading-can h g = record { rest = []; h = h; good = g; is = append-nil (heading-bytes h) }
 
-pub record-can : (n : ℕ) (t : TermRecord) → GoodRecord t → CanBegin (suc n) (record-bytes t)
-unfolding CanBegin
+pub record-can : (n : ℕ) (t : Term-record) → Good-record t → Can-begin (suc n) (record-bytes t)
+unfolding Can-begin
 record-can n t g = record { rest = []; t = t; good = g; is = append-nil (record-bytes t) }
 
 -- What is live can begin a record, and has no line feed; and what can begin one is live.
-pub begins : (n : ℕ) (xs : List ℕ) → NoFeed xs → (lex-rows (kind n) fresh-row xs .line .spot ≡ spot-bad → ⊥) → CanBegin n xs
-unfolding CanBegin
+pub begins : (n : ℕ) (xs : List ℕ) → No-feed xs → (lex-rows (kind n) fresh-row xs .line .spot ≡ spot-bad → ⊥) → Can-begin n xs
+unfolding Can-begin
 begins zero xs f g = heading-begins xs f g
 begins (suc n) xs f g = record-begins xs f (rw (kind-suc n) at g)
 
-pub live : (n : ℕ) (xs : List ℕ) → CanBegin n xs → lex-rows (kind n) fresh-row xs .line .spot ≡ spot-bad → ⊥
-unfolding CanBegin
+pub live : (n : ℕ) (xs : List ℕ) → Can-begin n xs → lex-rows (kind n) fresh-row xs .line .spot ≡ spot-bad → ⊥
+unfolding Can-begin
 live zero xs c = heading-live xs c
 live (suc n) xs c = rw (kind-suc n) (record-live xs c)
 
-pub no-feed : (n : ℕ) (xs : List ℕ) → CanBegin n xs → NoFeed xs
-unfolding CanBegin
-no-feed zero xs c = no-feed-part xs (c .rest) (subst NoFeed (sym (c .is)) (heading-no-feed (c .h) (c .good)))
-no-feed (suc n) xs c = no-feed-part xs (c .rest) (subst NoFeed (sym (c .is)) (record-no-feed (c .t) (c .good)))
+pub no-feed : (n : ℕ) (xs : List ℕ) → Can-begin n xs → No-feed xs
+unfolding Can-begin
+no-feed zero xs c = no-feed-part xs (c .rest) (subst No-feed (sym (c .is)) (heading-no-feed (c .h) (c .good)))
+no-feed (suc n) xs c = no-feed-part xs (c .rest) (subst No-feed (sym (c .is)) (record-no-feed (c .t) (c .good)))
 
 -- The bytes of a record, from those that fill its columns; and these are filled by them.
-pub whole-in : (n : ℕ) (xs : List ℕ) → NoFeed xs → (lex-rows (kind n) fresh-row xs .line .spot ≡ spot-bad → ⊥)
-    → whole-row (kind n) (lex-rows (kind n) fresh-row xs) ≡ true → IsWhole n xs
-unfolding IsWhole
+pub whole-in : (n : ℕ) (xs : List ℕ) → No-feed xs → (lex-rows (kind n) fresh-row xs .line .spot ≡ spot-bad → ⊥)
+    → whole-row (kind n) (lex-rows (kind n) fresh-row xs) ≡ true → Is-whole n xs
+unfolding Is-whole
 whole-in zero xs f g e = heading-in xs f g e
 whole-in (suc n) xs f g e = record-in xs f (rw (kind-suc n) at g) (rw (kind-suc n) at e)
 
-pub whole-of : (n : ℕ) (xs : List ℕ) → IsWhole n xs → whole-row (kind n) (lex-rows (kind n) fresh-row xs) ≡ true
-unfolding IsWhole
+pub whole-of : (n : ℕ) (xs : List ℕ) → Is-whole n xs → whole-row (kind n) (lex-rows (kind n) fresh-row xs) ≡ true
+unfolding Is-whole
 whole-of zero xs i =
     ap (λ (ys : List ℕ). whole-row true (lex-rows true fresh-row ys)) (i .is)
     ∙ ap (λ (r : Row). whole-row true r) (heading-run (i .h) (i .good))
@@ -258,7 +258,7 @@ whole-of (suc n) xs i =
 
 -- What the judgement of a whole record says.
 module _ (at w k m : ℕ) (s : Tally) where
-  pub heading-says : (h : Heading) → GoodHeading h
+  pub heading-says : (h : Heading) → Good-heading h
       → Says at w k 0 m s (lex-rows (kind 0) fresh-row (heading-bytes h)) (a-heading h) (heading-judged k s h) (heading-block h + 1) (count (h .count)) 0
       (opened (heading-block h) (count (h .count)) (skipped k (heading-block h - k) s))
   heading-says h g =
@@ -266,7 +266,7 @@ module _ (at w k m : ℕ) (s : Tally) where
       (opened (heading-block h) (count (h .count)) (skipped k (heading-block h - k) s))) (sym (heading-run h g))
       (heading-row-says at w k m s (heading-row h) h (heading-whole h g) refl refl refl refl)
 
-  pub record-says : (n : ℕ) (t : TermRecord) → GoodRecord t
+  pub record-says : (n : ℕ) (t : Term-record) → Good-record t
       → Says at w k (suc n) m s (lex-rows (kind (suc n)) fresh-row (record-bytes t)) (a-record t) (record-judged k m s t) k n (m + 1)
       (added (factor (k - 1)) s (term-of-line (cut-term t)))
   record-says n t g =

@@ -17,7 +17,7 @@ use Rattle.series_lines.specs.Reader.{last-offset, next-spot, wrote-out, uncoun
 use Rattle.series_lines.specs.Calls as calls-of
 use Rattle.series_lines.proofs.Calls as folds
 use Rattle.published_records.specs.declared.Row.{Row}
-use Rattle.published_records.specs.Layout.{NoFeed}
+use Rattle.published_records.specs.Layout.{No-feed}
 use Rattle.published_records.specs.Rows.{fresh-row, column-limit}
 use Rattle.published_records.specs.Rows.{lex-row, lex-rows}
 use Rattle.published.specs.declared.Published.{Published}
@@ -131,9 +131,9 @@ begun-past b x xs =
 -- ---- The bytes of a record that goes on.
 
 pub row-run : (xs : List ℕ) (at w k n m : ℕ) (s : Tally) (row : Row) (out ys : List ℕ) → Awaits k n → at + length xs ≤ last-offset
-    → NoFeed xs → (lex-rows (kind n) row xs .line .spot ≡ spot-bad → ⊥)
+    → No-feed xs → (lex-rows (kind n) row xs .line .spot ≡ spot-bad → ⊥)
     → run (in-record at w k n m s row) out (xs ++ ys) ≡ run (in-record (at + length xs) w k n m s (lex-rows (kind n) row xs)) out ys
-unfolding lex-rows NoFeed
+unfolding lex-rows No-feed
 row-run [] at w k n m s row out ys a c f g = ap (λ (i : ℕ). run (in-record i w k n m s row) out ys) (sym (add-zero at))
 row-run (x ∷ xs) at w k n m s row out ys a c f g =
     let live : lex-row (kind n) row x .line .spot ≡ spot-bad → ⊥ = λ e. g (rows-bad (kind n) (lex-row (kind n) row x) xs e) in

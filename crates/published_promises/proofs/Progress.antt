@@ -16,9 +16,9 @@ use Rattle.series_lines.specs.Lexer.{spot-bad, fresh, bad, lex}
 use Rattle.series_lines.specs.Grammar.{part-digits}
 use Rattle.published_records.specs.declared.Column.{Column}
 use Rattle.published_records.specs.declared.Column.the-variants.{Filler, Digit, Count, Whole}
-use Rattle.published_records.specs.Layout.{a-first, a-last, b-first, b-last, c-first, c-last, NoFeed}
+use Rattle.published_records.specs.Layout.{a-first, a-last, b-first, b-last, c-first, c-last, No-feed}
 use Rattle.published_records.specs.Rows.{heading-column, decimal-column, in-whole, fresh-row, lex-rows}
-use Rattle.published_promises.specs.Decided.{BeginsHeading, BeginsRecord}
+use Rattle.published_promises.specs.Decided.{Begins-heading, Begins-record}
 use Rattle.text_promises.proofs.GoodLines.{put, keep}
 use Rattle.text_promises.proofs.OneByte.{view}
 use Rattle.published_promises.proofs.RowLaws.{in-field}
@@ -42,7 +42,7 @@ record Way (h : Bool) (Ready : ℕ → Line → Type 0) : Type 0 where
 record Driven (h : Bool) (n c : ℕ) (l : Line) : Type 0 where
   ys : List ℕ
   long : length ys ≡ n
-  free : NoFeed ys
+  free : No-feed ys
   live : Live h c l ys
 
 module _ (h : Bool) (Ready : ℕ → Line → Type 0) (W : Way h Ready) where
@@ -55,7 +55,7 @@ module _ (h : Bool) (Ready : ℕ → Line → Type 0) (W : Way h Ready) where
       subst (λ (k : ℕ). Ready k (lines h (suc c) (line-step h c l x) xs)) e (ready-after xs (suc c) (line-step h c l x) s y)
 
   drive : (n c : ℕ) (l : Line) → Ready c l → Good l → Driven h n c l
-  unfolding lines NoFeed
+  unfolding lines No-feed
   drive zero c l r y = record { ys = []; long = refl; free = tt; live = y }
   drive (suc n) c l r y =
       let o = W .onwards c l r in
@@ -66,10 +66,10 @@ module _ (h : Bool) (Ready : ℕ → Line → Type 0) (W : Way h Ready) where
 record Finished (h : Bool) (xs : List ℕ) : Type 0 where
   ys : List ℕ
   long : 131 ≤ length (xs ++ ys)
-  free : NoFeed (xs ++ ys)
+  free : No-feed (xs ++ ys)
   live : Live h 1 (fresh 20) (xs ++ ys)
 
-finish : (h : Bool) (Ready : ℕ → Line → Type 0) → Way h Ready → Ready 1 (fresh 20) → (xs : List ℕ) → NoFeed xs → Live h 1 (fresh 20) xs → Finished h xs
+finish : (h : Bool) (Ready : ℕ → Line → Type 0) → Way h Ready → Ready 1 (fresh 20) → (xs : List ℕ) → No-feed xs → Live h 1 (fresh 20) xs → Finished h xs
 finish h Ready W r xs f y =
     let d = drive h Ready W 131 (1 + length xs) (lines h 1 (fresh 20) xs) (ready-after h Ready W xs 1 (fresh 20) r y) y in
     let n = length-append xs (d .ys) in
@@ -83,10 +83,10 @@ finish h Ready W r xs f y =
 -- ---- A heading.
 
 -- Before its count, in it, and after.
-data ReadyHeading (c : ℕ) (l : Line) : Type 0 where
-  free : c ≤ 60 → l ≡ fresh 20 → ReadyHeading c l
-  number : (w : ℕ) → c + suc w ≡ 68 → w ≤ 6 → Figuring 20 4 (suc w) l → ReadyHeading c l
-  after : 68 ≤ c → Good l → ReadyHeading c l
+data Ready-heading (c : ℕ) (l : Line) : Type 0 where
+  free : c ≤ 60 → l ≡ fresh 20 → Ready-heading c l
+  number : (w : ℕ) → c + suc w ≡ 68 → w ≤ 6 → Figuring 20 4 (suc w) l → Ready-heading c l
+  after : 68 ≤ c → Good l → Ready-heading c l
 
 free-or-figure : (c : ℕ) → c ≤ 60 → (heading-column c ≡ Filler) ⊎ (heading-column c ≡ Digit)
 unfolding heading-column
@@ -121,7 +121,7 @@ count-step c w l b e h =
     let z : 68 - c - 1 ≡ w = omega arith in
     heading-step c l b ∙ ap (λ (k : Column). in-field k l b) (count-heading c (omega arith) (omega arith) ∙ ap Count z)
 
-heading-keeps : (c : ℕ) (l : Line) → ReadyHeading c l → (b : ℕ) → Good (line-step true c l b) → ReadyHeading (suc c) (line-step true c l b)
+heading-keeps : (c : ℕ) (l : Line) → Ready-heading c l → (b : ℕ) → Good (line-step true c l b) → Ready-heading (suc c) (line-step true c l b)
 heading-keeps c l (free h e) b y =
     let k = free-or-figure c h in
     let s : line-step true c l b ≡ fresh 20 =
@@ -131,7 +131,7 @@ heading-keeps c l (free h e) b y =
     by-cases (ltb c 60)
     (λ p. free (ltb-true c 60 p) s)
     (λ p. let q = ltb-false c 60 p in
-    subst (λ (q : Line). ReadyHeading (suc c) q) (sym s) (number 6 (omega arith) (omega arith) (nothing refl refl refl (omega arith))))
+    subst (λ (q : Line). Ready-heading (suc c) q) (sym s) (number 6 (omega arith) (omega arith) (nothing refl refl refl (omega arith))))
 heading-keeps c l (number zero e h F) b y = after (omega arith) y
 heading-keeps c l (number (suc w) e h F) b y =
     let s = count-step c (suc w) l b e h in
@@ -143,7 +143,7 @@ heading-keeps c l (after h g) b y = after (omega arith) y
 by-step : (f g : ℕ → Line) → ((b : ℕ) → f b ≡ g b) → Onwards g → Onwards f
 by-step f g e o = record { b = o .b; no-feed = o .no-feed; good = subst (λ (q : Line). Good q) (sym (e (o .b))) (o .good) }
 
-heading-onwards : (c : ℕ) (l : Line) → ReadyHeading c l → Onwards (λ b. line-step true c l b)
+heading-onwards : (c : ℕ) (l : Line) → Ready-heading c l → Onwards (λ b. line-step true c l b)
 heading-onwards c l (free h e) =
     let s : line-step true c l 49 ≡ fresh 20 = heading-step c l 49 ∙ free-one (heading-column c) l (free-or-figure c h) ∙ e in
     record { b = 49; no-feed = λ z. omega arith; good = λ z. let q = ap (λ (x : Line). x .spot) (sym s) ∙ z in omega arith }
@@ -153,10 +153,10 @@ heading-onwards c l (after h g) =
     let s : line-step true c l 49 ≡ l = heading-step c l 49 ∙ free-one (heading-column c) l (inl (heading-after c h)) in
     record { b = 49; no-feed = λ z. omega arith; good = λ z. g (ap (λ (x : Line). x .spot) (sym s) ∙ z) }
 
-pub heading-begins : (xs : List ℕ) → NoFeed xs → (lex-rows true fresh-row xs .line .spot ≡ spot-bad → ⊥) → BeginsHeading xs
+pub heading-begins : (xs : List ℕ) → No-feed xs → (lex-rows true fresh-row xs .line .spot ≡ spot-bad → ⊥) → Begins-heading xs
 heading-begins xs f y =
-    let W : Way true ReadyHeading = record { keeps = heading-keeps; onwards = heading-onwards } in
-    let d = finish true ReadyHeading W (free (omega arith) refl) xs f (first-line true xs y) in
+    let W : Way true Ready-heading = record { keeps = heading-keeps; onwards = heading-onwards } in
+    let d = finish true Ready-heading W (free (omega arith) refl) xs f (first-line true xs y) in
     let t = heading-lines-in (xs ++ d .ys) (omega (arith, d .long)) (d .free) (d .live) in
     record { rest = d .ys; h = t .h; good = t .good; is = t .is }
 
@@ -250,13 +250,13 @@ data Turn (c : ℕ) (l : Line) : Type 0 where
   blanks : 132 ≤ c → Good l → Turn c l
 
 -- Before the running number, in it, after it, in the whole columns of a decimal or at its point, after its point, and at a turn.
-data ReadyRecord (c : ℕ) (l : Line) : Type 0 where
-  lead : c ≤ 5 → l ≡ fresh 20 → ReadyRecord c l
-  number : (w : ℕ) → c + suc w ≡ 11 → w ≤ 4 → Figuring 20 4 (suc w) l → ReadyRecord c l
-  middle : 11 ≤ c → c < 80 → 20 < l .spot → l .spot < 25 → ReadyRecord c l
-  whole : (s : Which) (left : ℕ) → first s < c → c + left ≡ point-of s → Figuring 0 6 left l → l .field ≡ order s → ReadyRecord c l
-  parts : (s : Which) (w : ℕ) → first s < c → c + suc w ≡ point-of s + 12 → w ≤ 10 → Parting (suc w) l → l .field ≡ order s → ReadyRecord c l
-  turn : Turn c l → ReadyRecord c l
+data Ready-record (c : ℕ) (l : Line) : Type 0 where
+  lead : c ≤ 5 → l ≡ fresh 20 → Ready-record c l
+  number : (w : ℕ) → c + suc w ≡ 11 → w ≤ 4 → Figuring 20 4 (suc w) l → Ready-record c l
+  middle : 11 ≤ c → c < 80 → 20 < l .spot → l .spot < 25 → Ready-record c l
+  whole : (s : Which) (left : ℕ) → first s < c → c + left ≡ point-of s → Figuring 0 6 left l → l .field ≡ order s → Ready-record c l
+  parts : (s : Which) (w : ℕ) → first s < c → c + suc w ≡ point-of s + 12 → w ≤ 10 → Parting (suc w) l → l .field ≡ order s → Ready-record c l
+  turn : Turn c l → Ready-record c l
 
 -- After a whole decimal.
 turn-after : (s : Which) (c : ℕ) (l : Line) → c ≡ point-of s + 12 → l .spot ≡ 18 → l .field ≡ order s → Turn c l
@@ -274,7 +274,7 @@ number-spot l (nothing s m v o) = absurd (omega arith)
 number-spot l (minus a s v o k) = absurd (omega arith)
 number-spot l (digits n s o k p q) = (omega arith, omega arith)
 
-middle-on : (c : ℕ) (l : Line) → 11 ≤ c → c ≤ 80 → 20 < l .spot → l .spot < 25 → ReadyRecord c l
+middle-on : (c : ℕ) (l : Line) → 11 ≤ c → c ≤ 80 → 20 < l .spot → l .spot < 25 → Ready-record c l
 middle-on c l h k i j =
     by-cases (ltb c 80)
     (λ p. middle h (ltb-true c 80 p) i j)
@@ -309,59 +309,59 @@ blank-step c l b h =
 
 -- A whole column of a decimal was passed.
 whole-on : (s : Which) (c w : ℕ) (k : Line) (b : ℕ) (L : Line) → first s < c → c + w ≡ point-of s → Figuring 0 6 (suc w) k → k .field ≡ order s
-    → L ≡ in-whole w 6 k b → Good L → ReadyRecord c L
+    → L ≡ in-whole w 6 k b → Good L → Ready-record c L
 whole-on s c w k b L h e F f i y =
     let z : Good (in-whole w 6 k b) = subst (λ (q : Line). Good q) i y in
-    subst (λ (q : Line). ReadyRecord c q) (sym i)
+    subst (λ (q : Line). Ready-record c q) (sym i)
     (whole s w h e (figure-keeps 0 6 decimals w k F b z) (taken-field w 6 k b (in-whole w 6 k b) (taken w 6 k b) z ∙ f))
 
 -- A column after the point.
-parts-on : (s : Which) (c w : ℕ) (l : Line) → first s < c → c + w ≡ point-of s + 12 → w ≤ 11 → Parting w l → l .field ≡ order s → ReadyRecord c l
+parts-on : (s : Which) (c w : ℕ) (l : Line) → first s < c → c + w ≡ point-of s + 12 → w ≤ 11 → Parting w l → l .field ≡ order s → Ready-record c l
 parts-on s c zero l h e k P f = let i = P .spot in turn (turn-after s c l (omega arith) (omega arith) f)
 parts-on s c (suc w) l h e k P f = parts s w h e (omega arith) P f
 
-turn-keeps : (c : ℕ) (l : Line) → Turn c l → (b : ℕ) → Good (line-step false c l b) → ReadyRecord (suc c) (line-step false c l b)
+turn-keeps : (c : ℕ) (l : Line) → Turn c l → (b : ℕ) → Good (line-step false c l b) → Ready-record (suc c) (line-step false c l b)
 turn-keeps c l (field s k e t f) b y =
     let p = point-place s in
     whole-on s (suc c) (wide s) (put k 0 0 0) b (line-step false c l b) (omega arith) (omega arith) (nothing refl refl refl (omega arith)) f
     (first-step s c l (put k 0 0 0) b e t) y
 turn-keeps c l (blanks h g) b y = turn (blanks (omega arith) y)
 
-record-keeps : (c : ℕ) (l : Line) → ReadyRecord c l → (b : ℕ) → Good (line-step false c l b) → ReadyRecord (suc c) (line-step false c l b)
+record-keeps : (c : ℕ) (l : Line) → Ready-record c l → (b : ℕ) → Good (line-step false c l b) → Ready-record (suc c) (line-step false c l b)
 record-keeps c l (lead h e) b y =
     let s : line-step false c l b ≡ fresh 20 = lead-step c l b h ∙ e in
     by-cases (ltb c 5)
     (λ p. lead (ltb-true c 5 p) s)
     (λ p. let q = ltb-false c 5 p in
-    subst (λ (q : Line). ReadyRecord (suc c) q) (sym s) (number 4 (omega arith) (omega arith) (nothing refl refl refl (omega arith))))
+    subst (λ (q : Line). Ready-record (suc c) q) (sym s) (number 4 (omega arith) (omega arith) (nothing refl refl refl (omega arith))))
 record-keeps c l (number zero e h F) b y =
     let s = number-step c 0 l b e h in
     let G = figure-keeps 20 4 counts 0 l F b (subst (λ (q : Line). Good q) s y) in
     let t = number-spot (in-whole 0 4 l b) G in
-    subst (λ (q : Line). ReadyRecord (suc c) q) (sym s) (middle-on (suc c) (in-whole 0 4 l b) (omega arith) (omega arith) (t .0) (t .1))
+    subst (λ (q : Line). Ready-record (suc c) q) (sym s) (middle-on (suc c) (in-whole 0 4 l b) (omega arith) (omega arith) (t .0) (t .1))
 record-keeps c l (number (suc w) e h F) b y =
     let s = number-step c (suc w) l b e h in
     let G = figure-keeps 20 4 counts (suc w) l F b (subst (λ (q : Line). Good q) s y) in
     number w (omega arith) (omega arith) (subst (λ (q : Line). Figuring 20 4 (suc w) q) (sym s) G)
 record-keeps c l (middle h k i j) b y =
-    subst (λ (q : Line). ReadyRecord (suc c) q) (sym (middle-step c l b h k)) (middle-on (suc c) l (omega arith) k i j)
+    subst (λ (q : Line). Ready-record (suc c) q) (sym (middle-step c l b h k)) (middle-on (suc c) l (omega arith) k i j)
 record-keeps c l (whole s zero h e F f) b y =
     let i = at-point-step s c l b h e in
     let p = point-step l F b (subst (λ (q : Line). Good q) i y) in
-    subst (λ (q : Line). ReadyRecord (suc c) q) (sym i) (parts-on s (suc c) 11 (at-point l b) (omega arith) (omega arith) (omega arith) (p .0) (p .1 ∙ f))
+    subst (λ (q : Line). Ready-record (suc c) q) (sym i) (parts-on s (suc c) 11 (at-point l b) (omega arith) (omega arith) (omega arith) (p .0) (p .1 ∙ f))
 record-keeps c l (whole s (suc w) h e F f) b y =
     whole-on s (suc c) w l b (line-step false c l b) (omega arith) (omega arith) F f (whole-step s c w l b h e) y
 record-keeps c l (parts s w h e k P f) b y =
     let i = part-step s c w l b h k e in
     let p = parts-step w l P b (lex l b) (view l b) (subst (λ (q : Line). Good q) i y) in
-    subst (λ (q : Line). ReadyRecord (suc c) q) (sym i) (parts-on s (suc c) w (lex l b) (omega arith) (omega arith) (omega arith) (p .0) (p .1 ∙ f))
+    subst (λ (q : Line). Ready-record (suc c) q) (sym i) (parts-on s (suc c) w (lex l b) (omega arith) (omega arith) (omega arith) (p .0) (p .1 ∙ f))
 record-keeps c l (turn t) b y = turn-keeps c l t b y
 
 -- The digit 1 where the line stays.
 stays-on : (c : ℕ) (l : Line) → ((b : ℕ) → line-step false c l b ≡ l) → Good l → Onwards (λ b. line-step false c l b)
 stays-on c l s g = by-step (λ b. line-step false c l b) (λ b. l) s (record { b = 49; no-feed = λ e. omega arith; good = g })
 
-record-onwards : (c : ℕ) (l : Line) → ReadyRecord c l → Onwards (λ b. line-step false c l b)
+record-onwards : (c : ℕ) (l : Line) → Ready-record c l → Onwards (λ b. line-step false c l b)
 record-onwards c l (lead h e) =
     stays-on c l (λ b. lead-step c l b h) (λ z. let q = ap (λ (x : Line). x .spot) e in omega (arith, z, q))
 record-onwards c l (number w e h F) =
@@ -379,9 +379,9 @@ record-onwards c l (turn (field s k e t f)) =
 record-onwards c l (turn (blanks h g)) =
     record { b = 32; no-feed = λ e. omega arith; good = subst (λ (q : Line). Good q) (sym (blank-step c l 32 h)) g }
 
-pub record-begins : (xs : List ℕ) → NoFeed xs → (lex-rows false fresh-row xs .line .spot ≡ spot-bad → ⊥) → BeginsRecord xs
+pub record-begins : (xs : List ℕ) → No-feed xs → (lex-rows false fresh-row xs .line .spot ≡ spot-bad → ⊥) → Begins-record xs
 record-begins xs f y =
-    let W : Way false ReadyRecord = record { keeps = record-keeps; onwards = record-onwards } in
-    let d = finish false ReadyRecord W (lead (omega arith) refl) xs f (first-line false xs y) in
+    let W : Way false Ready-record = record { keeps = record-keeps; onwards = record-onwards } in
+    let d = finish false Ready-record W (lead (omega arith) refl) xs f (first-line false xs y) in
     let t = record-lines-in (xs ++ d .ys) (d .long) (d .free) (d .live) in
     record { rest = d .ys; t = t .t; good = t .good; is = t .is }

@@ -10,17 +10,17 @@ use lib.Dec.{ltb}
 use lib.ListN.{length, length-append}
 use Rattle.integers.proofs.Tests.{by-cases}
 use Rattle.series_lines.specs.declared.Line.{Line}
-use Rattle.series_lines.specs.Grammar.{digit-0, point, spaces, sign, digits, CountLine, count, count-bytes, GoodCount}
-use Rattle.series_lines.specs.Grammar.{count-digits, Decimal, decimal, size, GoodDecimal}
+use Rattle.series_lines.specs.Grammar.{digit-0, point, spaces, sign, digits, Count-line, count, count-bytes, Good-count}
+use Rattle.series_lines.specs.Grammar.{count-digits, Decimal, decimal, size, Good-decimal}
 use Rattle.series_lines.specs.Lexer.{spot-decimal, spot-done, spot-count, spot-bad, fresh, bad, put, keep, with-space, whole-count}
 use Rattle.published_records.specs.declared.Row.{Row}
 use Rattle.published_records.specs.declared.Column.the-variants.{Digit, Count}
-use Rattle.published_records.specs.Layout.{Heading, heading-bytes, GoodHeading, TermRecord, record-bytes, GoodRecord, NoFeed, cut-term}
+use Rattle.published_records.specs.Layout.{Heading, heading-bytes, Good-heading, Term-record, record-bytes, Good-record, No-feed, cut-term}
 use Rattle.published_records.specs.Layout.{version-column, coordinate-column, power-column, count-first, count-last, number-first, number-last}
 use Rattle.published_records.specs.Layout.{a-first, a-last, b-first, b-last, c-first, c-last}
 use Rattle.published_records.specs.Rows.{heading-column, decimal-column, column-limit, fresh-row, with-figure, with-number, lex-rows, whole-row}
 use Rattle.text_promises.proofs.GoodLines.{flag, line-of-term}
-use Rattle.published_promises.specs.Decided.{BeginsHeading, BeginsRecord}
+use Rattle.published_promises.specs.Decided.{Begins-heading, Begins-record}
 use Rattle.published_promises.proofs.RowLaws.{rows-append, rows-before, held, next-under}
 use Rattle.published_promises.proofs.Stretches.{put-at, figure-step, field-lines, stretch-run, filler-run}
 use Rattle.published_promises.proofs.Stretches.{before-version-stretch, before-coordinate-stretch, before-power-stretch, count-stretch}
@@ -30,7 +30,7 @@ use Rattle.published_promises.proofs.GoodFields.{count-field, decimal-f
 
 -- ---- The row after a record.
 
-abbrev pub count-line : CountLine → Line
+abbrev pub count-line : Count-line → Line
 count-line c = put (fresh spot-count) (spot-count + 1 + length (c .more)) 0 (count c)
 
 abbrev pub heading-row : Heading → Row
@@ -44,7 +44,7 @@ heading-row h =
       number = 0;
     }
 
-abbrev pub record-row : TermRecord → Row
+abbrev pub record-row : Term-record → Row
 record-row t =
     record {
       column = column-limit;
@@ -88,7 +88,7 @@ right n ys k e = length-append (spaces n) ys ∙ (rw (spaces-length n) e)
 
 -- ---- A heading.
 
-heading-count-run : (r : Row) (i : ℕ) (c : CountLine) → GoodCount c → i + length (count-bytes c) ≡ count-last - count-first + 1
+heading-count-run : (r : Row) (i : ℕ) (c : Count-line) → Good-count c → i + length (count-bytes c) ≡ count-last - count-first + 1
     → r .column ≡ count-first → r .line ≡ fresh spot-count
     → lex-rows true r (spaces i ++ count-bytes c) ≡ put-at r (count-last + 1) (count-line c)
 heading-count-run r i c g e k l =
@@ -97,7 +97,7 @@ heading-count-run r i c g e k l =
     ∙ ap (λ (q : Line). put-at r (count-last + 1) q)
     (ap (λ (q : Line). field-lines Count q (spaces i ++ count-bytes c)) l ∙ count-field i c g)
 
-pub heading-run : (h : Heading) → GoodHeading h → lex-rows true fresh-row (heading-bytes h) ≡ heading-row h
+pub heading-run : (h : Heading) → Good-heading h → lex-rows true fresh-row (heading-bytes h) ≡ heading-row h
 unfolding heading-bytes
 heading-run h g =
     let l = fresh spot-count in
@@ -132,7 +132,7 @@ heading-run h g =
 
 -- ---- A term record.
 
-number-run : (r : Row) (i : ℕ) (c : CountLine) → GoodCount c → i + length (count-bytes c) ≡ number-last - number-first + 1
+number-run : (r : Row) (i : ℕ) (c : Count-line) → Good-count c → i + length (count-bytes c) ≡ number-last - number-first + 1
     → r .column ≡ number-first → r .line ≡ fresh spot-count
     → lex-rows false r (spaces i ++ count-bytes c) ≡ put-at r (number-last + 1) (count-line c)
 number-run r i c g e k l =
@@ -148,13 +148,13 @@ after-decimal l d = put l spot-done (flag (d .minus)) (size d)
 abbrev before-next : Line → Decimal → Line
 before-next l d = keep l (flag (d .minus)) (size d)
 
-whole-line : (c : CountLine) → GoodCount c → whole-count (count-line c) ≡ true
+whole-line : (c : Count-line) → Good-count c → whole-count (count-line c) ≡ true
 unfolding whole-count
 whole-line c g =
     let n = spot-count + 1 + length (c .more) in
     rw (lt-ltb spot-count n (omega arith), lt-ltb n (spot-count + count-digits + 1) (omega (arith, g .few)))
 
-a-part : (r : Row) (i : ℕ) (c : CountLine) (d : Decimal) → GoodCount c → GoodDecimal d → i + length (decimal d) ≡ a-last - a-first + 1
+a-part : (r : Row) (i : ℕ) (c : Count-line) (d : Decimal) → Good-count c → Good-decimal d → i + length (decimal d) ≡ a-last - a-first + 1
     → r .column ≡ a-first → r .line ≡ count-line c
     → lex-rows false r (spaces i ++ decimal d)
     ≡ record {
@@ -186,7 +186,7 @@ next-line : (l : Line) (d : Decimal) → l .field < 2 → with-space (after-deci
 unfolding with-space
 next-line l d h = rw (lt-ltb (l .field) 2 h)
 
-b-part : (r : Row) (i : ℕ) (l : Line) (a d : Decimal) → GoodDecimal d → i + length (decimal d) ≡ b-last - b-first + 1
+b-part : (r : Row) (i : ℕ) (l : Line) (a d : Decimal) → Good-decimal d → i + length (decimal d) ≡ b-last - b-first + 1
     → r .column ≡ b-first → r .line ≡ after-decimal l a → l .field < 2
     → lex-rows false r (spaces i ++ decimal d) ≡ put-at r c-first (after-decimal (before-next l a) d)
 b-part r i l a d g e k o h =
@@ -194,7 +194,7 @@ b-part r i l a d g e k o h =
     ∙ ap (λ (q : Line). put-at r c-first q)
     (ap (λ (q : Line). field-lines decimal-column q (spaces i ++ decimal d)) (ap with-space o ∙ next-line l a h) ∙ decimal-field i (before-next l a) d g)
 
-c-part : (r : Row) (i : ℕ) (l : Line) (b d : Decimal) → GoodDecimal d → i + length (decimal d) ≡ c-last - c-first + 1
+c-part : (r : Row) (i : ℕ) (l : Line) (b d : Decimal) → Good-decimal d → i + length (decimal d) ≡ c-last - c-first + 1
     → r .column ≡ c-first → r .line ≡ after-decimal l b → l .field < 2
     → lex-rows false r (spaces i ++ decimal d) ≡ put-at r column-limit (after-decimal (before-next l b) d)
 c-part r i l b d g e k o h =
@@ -202,7 +202,7 @@ c-part r i l b d g e k o h =
     ∙ ap (λ (q : Line). put-at r column-limit q)
     (ap (λ (q : Line). field-lines decimal-column q (spaces i ++ decimal d)) (ap with-space o ∙ next-line l b h) ∙ decimal-field i (before-next l b) d g)
 
-pub record-run : (t : TermRecord) → GoodRecord t → lex-rows false fresh-row (record-bytes t) ≡ record-row t
+pub record-run : (t : Term-record) → Good-record t → lex-rows false fresh-row (record-bytes t) ≡ record-row t
 unfolding record-bytes
 record-run t g =
     let l = fresh spot-count in
@@ -241,62 +241,62 @@ record-run t g =
 
 -- ---- Such rows are whole, and live.
 
-pub heading-whole : (h : Heading) → GoodHeading h → whole-row true (heading-row h) ≡ true
+pub heading-whole : (h : Heading) → Good-heading h → whole-row true (heading-row h) ≡ true
 unfolding whole-row held
 heading-whole h g =
     let n = count-last + 1 + length (h .after) in
     by-cases (ltb n column-limit) (λ p. rw p (lt-ltb count-last n (omega arith))) (λ p. rw p)
 
-pub record-whole : (t : TermRecord) → GoodRecord t → whole-row false (record-row t) ≡ true
+pub record-whole : (t : Term-record) → Good-record t → whole-row false (record-row t) ≡ true
 unfolding whole-row
 record-whole t g = refl
 
-pub heading-live : (xs : List ℕ) → BeginsHeading xs → lex-rows true fresh-row xs .line .spot ≡ spot-bad → ⊥
+pub heading-live : (xs : List ℕ) → Begins-heading xs → lex-rows true fresh-row xs .line .spot ≡ spot-bad → ⊥
 heading-live xs b e =
     let q = ap (λ (ys : List ℕ). lex-rows true fresh-row ys) (b .is) ∙ heading-run (b .h) (b .good) in
     rows-before true fresh-row xs (b .rest)
     (λ z. omega (arith, sym (ap (λ (r : Row). r .line .spot) q) ∙ z, b .good .count .few)) e
 
-pub record-live : (xs : List ℕ) → BeginsRecord xs → lex-rows false fresh-row xs .line .spot ≡ spot-bad → ⊥
+pub record-live : (xs : List ℕ) → Begins-record xs → lex-rows false fresh-row xs .line .spot ≡ spot-bad → ⊥
 record-live xs b e =
     let q = ap (λ (ys : List ℕ). lex-rows false fresh-row ys) (b .is) ∙ record-run (b .t) (b .good) in
     rows-before false fresh-row xs (b .rest) (λ z. omega (arith, sym (ap (λ (r : Row). r .line .spot) q) ∙ z)) e
 
 -- ---- No line feed is in them.
 
-pub no-feed-append : (xs ys : List ℕ) → NoFeed xs → NoFeed ys → NoFeed (xs ++ ys)
-unfolding NoFeed
+pub no-feed-append : (xs ys : List ℕ) → No-feed xs → No-feed ys → No-feed (xs ++ ys)
+unfolding No-feed
 no-feed-append [] ys a b = b
 no-feed-append (x ∷ xs) ys a b = (a .0, no-feed-append xs ys (a .1) b)
 
-spaces-no-feed : (n : ℕ) → NoFeed (spaces n)
-unfolding NoFeed spaces
+spaces-no-feed : (n : ℕ) → No-feed (spaces n)
+unfolding No-feed spaces
 spaces-no-feed zero = tt
 spaces-no-feed (suc n) = ((λ e. omega (arith, e)), spaces-no-feed n)
 
-digits-no-feed : (ds : List ℕ) → NoFeed (digits ds)
-unfolding NoFeed digits
+digits-no-feed : (ds : List ℕ) → No-feed (digits ds)
+unfolding No-feed digits
 digits-no-feed [] = tt
 digits-no-feed (d ∷ ds) = ((λ e. omega (arith, e)), digits-no-feed ds)
 
-sign-no-feed : (m : Bool) → NoFeed (sign m)
-unfolding NoFeed sign
+sign-no-feed : (m : Bool) → No-feed (sign m)
+unfolding No-feed sign
 sign-no-feed true = ((λ e. omega (arith, e)), tt)
 sign-no-feed false = tt
 
-decimal-no-feed : (d : Decimal) → NoFeed (decimal d)
-unfolding NoFeed decimal
+decimal-no-feed : (d : Decimal) → No-feed (decimal d)
+unfolding No-feed decimal
 decimal-no-feed d =
     no-feed-append (sign (d .minus)) (digits (d .first ∷ d .more) ++ (point ∷ digits (d .parts))) (sign-no-feed (d .minus))
     (no-feed-append (digits (d .first ∷ d .more)) (point ∷ digits (d .parts)) (digits-no-feed (d .first ∷ d .more))
     ((λ e. omega (arith, e)), digits-no-feed (d .parts)))
 
-count-no-feed : (c : CountLine) → NoFeed (count-bytes c)
+count-no-feed : (c : Count-line) → No-feed (count-bytes c)
 unfolding count-bytes
 count-no-feed c = digits-no-feed (c .first ∷ c .more)
 
-pub heading-no-feed : (h : Heading) → GoodHeading h → NoFeed (heading-bytes h)
-unfolding NoFeed heading-bytes
+pub heading-no-feed : (h : Heading) → Good-heading h → No-feed (heading-bytes h)
+unfolding No-feed heading-bytes
 heading-no-feed h g =
     no-feed-append (h .before-version) _ (g .before-version .no-feed) (
       (λ e. omega (arith, e)),
@@ -310,7 +310,7 @@ heading-no-feed h g =
       ),
     )
 
-pub record-no-feed : (t : TermRecord) → GoodRecord t → NoFeed (record-bytes t)
+pub record-no-feed : (t : Term-record) → Good-record t → No-feed (record-bytes t)
 unfolding record-bytes
 record-no-feed t g =
     no-feed-append (t .before-number) _ (g .before-number .no-feed)

@@ -12,7 +12,7 @@ use Rattle.units.specs.declared.Refusal.the-variants.{NoRoom}
 use Rattle.limits.specs.declared.Tally.{Tally}
 use Rattle.series_lines.specs.declared.Outcome.{Outcome}
 use Rattle.series_lines.specs.declared.Outcome.the-variants.{Accepted, Refused}
-use Rattle.series_lines.specs.Grammar.{AnyLine, any-bytes, any-packed}
+use Rattle.series_lines.specs.Grammar.{Any-line, any-bytes, any-packed}
 use Rattle.series_lines.specs.Reader.{last-offset, told}
 use Rattle.series_lines.specs.Calls.{Run, joined}
 use Rattle.published_headings.specs.Judge.{skipped}
@@ -21,14 +21,14 @@ use Rattle.published.specs.Reader as published
 use Rattle.text.specs.Reader.{whole}
 use Rattle.text_promises.specs.Decided as text
 use Rattle.text_promises.proofs.Decided as text-decided
-use Rattle.published_promises.specs.HandCut.{AnyRecord, file-bytes}
+use Rattle.published_promises.specs.HandCut.{Any-record, file-bytes}
 use Rattle.published_promises.specs.HandCut.{zero-lines, cut-records, blocks-of, cut-text}
 use Rattle.published_promises.specs.Decided.{Beginning, empty, with-heading, with-record, packed-so-far}
 use Rattle.published_promises.specs.Decided.{Stands}
 use Rattle.published_promises.specs.Decided.{Answers, accepts, no-room-at-end, refuses, ends-early}
 use Rattle.published_promises.specs.SameAsCut.{Ordered, none, next-heading, next-record}
-use Rattle.published_promises.specs.SameAsCut.{InZeroLines, Agree, both-accept, both-refuse, over-and-full, both-full}
-use Rattle.published_promises.specs.SameAsCut.{BothAgree, BothAgreeCut, AcceptedAsCut}
+use Rattle.published_promises.specs.SameAsCut.{In-zero-lines, Agree, both-accept, both-refuse, over-and-full, both-full}
+use Rattle.published_promises.specs.SameAsCut.{Both-agree, Both-agree-cut, Accepted-as-cut}
 use Rattle.published_promises.proofs.Judged.{packed-append}
 use Rattle.published_promises.proofs.Decided.{answers, decided}
 use Rattle.published_promises.proofs.Theorems.{any-cutting}
@@ -41,7 +41,7 @@ use Rattle.published_promises.proofs.BothWalk.{Stopped, Walk, on, off, 
 -- ---- With the end.
 
 -- The answers to both, and that they agree.
-record Both (rs : List AnyRecord) (out : List ℕ) : Type 0 where
+record Both (rs : List Any-record) (out : List ℕ) : Type 0 where
   file : Outcome
   file-left : List ℕ
   file-answers : Answers (file-bytes rs) out file file-left
@@ -50,7 +50,7 @@ record Both (rs : List AnyRecord) (out : List ℕ) : Type 0 where
   cut-answers : text.Answers (cut-text rs) out cut cut-left
   agrees : Agree rs out file file-left cut cut-left
 
-both-stopped : (rs : List AnyRecord) (out : List ℕ) → Stopped out rs → Both rs out
+both-stopped : (rs : List Any-record) (out : List ℕ) → Stopped out rs → Both rs out
 both-stopped rs out h =
     let zs = zero-lines (block-count - blocks-of 0 rs) in
     record {
@@ -63,13 +63,13 @@ both-stopped rs out h =
           subst (λ (y : List ℕ). text.Answers y out (Refused (h .cut)) (h .cut-left)) (append-nil (cut-text rs))
           (text-later out (cut-records 0 rs) zs (h .cut) (h .cut-left) (h .cut-halts) []);
       agrees =
-          subst (λ (qs : List AnyRecord). Agree qs out (Refused (h .file)) (h .file-left) (Refused (h .cut)) (h .cut-left)) (append-nil rs)
+          subst (λ (qs : List Any-record). Agree qs out (Refused (h .file)) (h .file-left) (Refused (h .cut)) (h .cut-left)) (append-nil rs)
           (h .agrees []);
     }
 
 -- After a good beginning of both: the counts of the blocks that never came have room, or not.
-module _ (rs : List AnyRecord) (out : List ℕ) (k m : ℕ) (s : Tally) (b : Beginning rs k 0 m s) (fit : length (packed-so-far rs) ≤ length out) where
-  abbrev all-lines : List AnyLine
+module _ (rs : List Any-record) (out : List ℕ) (k m : ℕ) (s : Tally) (b : Beginning rs k 0 m s) (fit : length (packed-so-far rs) ≤ length out) where
+  abbrev all-lines : List Any-line
   all-lines = cut-records 0 rs ++ zero-lines (block-count - k)
 
   abbrev left-over : ℕ
@@ -113,10 +113,10 @@ module _ (rs : List AnyRecord) (out : List ℕ) (k m : ℕ) (s : Tally) (b : Beg
             subst (λ (y : List ℕ). text.Answers y out (Refused (NoRoom place)) left)
             (append-nil (any-bytes all-lines) ∙ ap any-bytes (sym lines)) (t []);
         agrees =
-            both-full place (subst (λ (j : ℕ). InZeroLines rs (block-count - j) out place) (sym e) (record { after = low; inside = high; full = f })) _ left;
+            both-full place (subst (λ (j : ℕ). In-zero-lines rs (block-count - j) out place) (sym e) (record { after = low; inside = high; full = f })) _ left;
       }
 
-both : {rs : List AnyRecord} {k m : ℕ} → Ordered rs k 0 m → (out : List ℕ) → Both rs out
+both : {rs : List Any-record} {k m : ℕ} → Ordered rs k 0 m → (out : List ℕ) → Both rs out
 both {rs} {k} {m} o out = go (walk o out)
   where
     go : Walk out rs k 0 m → Both rs out
@@ -127,7 +127,7 @@ both {rs} {k} {m} o out = go (walk o out)
         both-end rs out k m s b f (ordered-blocks o) few (zeros (block-count - k) out (cut-records 0 rs) k s c i f)
 
 -- A beginning is in order.
-in-order-of : {rs : List AnyRecord} {k n m : ℕ} {s : Tally} → Beginning rs k n m s → Ordered rs k n m
+in-order-of : {rs : List Any-record} {k n m : ℕ} {s : Tally} → Beginning rs k n m s → Ordered rs k n m
 in-order-of empty = none
 in-order-of (with-heading h b g i f) = next-heading h (in-order-of b) g i
 in-order-of (with-record t b g i f) = next-record t (in-order-of b) g i
@@ -136,7 +136,7 @@ in-order-of (with-record t b g i f) = next-record t (in-order-of b) g i
 not-refused : {P : Type 0} (f : Refusal) (n : ℕ) → Refused f ≡ Accepted n → P
 not-refused f n e = let z : _≡_ {A = ℕ} 0 1 = cc in absurd (omega arith)
 
-module _ {rs : List AnyRecord} {out : List ℕ} {n : ℕ} where
+module _ {rs : List Any-record} {out : List ℕ} {n : ℕ} where
   file-accepts : {o p : Outcome} {left cut-left : List ℕ} → Agree rs out o left p cut-left → o ≡ Accepted n → (p ≡ Accepted n) × (cut-left ≡ left)
   file-accepts (both-accept i left) e = (e, refl)
   file-accepts (both-refuse before after r x d place y z left cut-left) e = not-refused _ _ e
@@ -152,7 +152,7 @@ module _ {rs : List AnyRecord} {out : List ℕ} {n : ℕ} where
 -- ---- The promises.
 
 -- The two readers agree over every file of whole records in order that can be counted, and the text that is cut out of it by hand.
-pub agree : {rs : List AnyRecord} {k m : ℕ} → Ordered rs k 0 m → length (file-bytes rs) ≤ last-offset → (out : List ℕ) → BothAgree rs out
+pub agree : {rs : List Any-record} {k m : ℕ} → Ordered rs k 0 m → length (file-bytes rs) ≤ last-offset → (out : List ℕ) → Both-agree rs out
 agree {rs} o c out =
     let h = both o out in
     let p = answers (file-bytes rs) out c (h .file-answers) in
@@ -160,18 +160,18 @@ agree {rs} o c out =
     rw (p .0, p .1, q .0, q .1) (h .agrees)
 
 -- However the file is cut into calls.
-pub agree-cut : {rs : List AnyRecord} {k m : ℕ} → Ordered rs k 0 m → length (file-bytes rs) ≤ last-offset → (out : List ℕ)
-    → (ps : List (List ℕ)) → joined ps ≡ file-bytes rs → BothAgreeCut rs out ps
+pub agree-cut : {rs : List Any-record} {k m : ℕ} → Ordered rs k 0 m → length (file-bytes rs) ≤ last-offset → (out : List ℕ)
+    → (ps : List (List ℕ)) → joined ps ≡ file-bytes rs → Both-agree-cut rs out ps
 agree-cut {rs} o c out ps e =
     subst (λ (x : Run Published). Agree rs out (published.told (x .reader)) (x .out) (told (whole (cut-text rs) out .reader)) (whole (cut-text rs) out .out))
     (sym (any-cutting (file-bytes rs) out ps e)) (agree o c out)
 
 -- A file that is accepted is such records, and the text that is cut out of them is accepted with the same packed bytes.
 pub accepted-cut : (file out : List ℕ) (n : ℕ) → published.told (published.whole file out .reader) ≡ Accepted n
-    → AcceptedAsCut file out n (published.whole file out .out)
+    → Accepted-as-cut file out n (published.whole file out .out)
 accepted-cut file out n e = go (decided file out (accepted-counted file out n e)) e
   where
-    go : {o : Outcome} {left : List ℕ} → Answers file out o left → o ≡ Accepted n → AcceptedAsCut file out n (published.whole file out .out)
+    go : {o : Outcome} {left : List ℕ} → Answers file out o left → o ≡ Accepted n → Accepted-as-cut file out n (published.whole file out .out)
     go (accepts {rs} {k} {m} h r) z =
         let o = in-order-of (h .beginning) in
         let i : file ≡ file-bytes rs = h .is ∙ append-nil (file-bytes rs) in
@@ -193,13 +193,13 @@ accepted-cut file out n e = go (decided file out (accepted-counted file out n e)
 -- However it is cut into calls.
 pub accepted-cut-calls : (file out : List ℕ) (n : ℕ) (ps : List (List ℕ)) → joined ps ≡ file
     → published.told (published.end-of (published.calls published.begun-file out ps) .reader) ≡ Accepted n
-    → AcceptedAsCut file out n (published.end-of (published.calls published.begun-file out ps) .out)
+    → Accepted-as-cut file out n (published.end-of (published.calls published.begun-file out ps) .out)
 accepted-cut-calls file out n ps e =
-    subst (λ (x : Run Published). published.told (x .reader) ≡ Accepted n → AcceptedAsCut file out n (x .out)) (sym (any-cutting file out ps e))
+    subst (λ (x : Run Published). published.told (x .reader) ≡ Accepted n → Accepted-as-cut file out n (x .out)) (sym (any-cutting file out ps e))
     (accepted-cut file out n)
 
 -- And where the text that is cut out of records in order is accepted, so is their file.
-pub accepted-file : {rs : List AnyRecord} {k m : ℕ} → Ordered rs k 0 m → length (file-bytes rs) ≤ last-offset → (out : List ℕ) (n : ℕ)
+pub accepted-file : {rs : List Any-record} {k m : ℕ} → Ordered rs k 0 m → length (file-bytes rs) ≤ last-offset → (out : List ℕ) (n : ℕ)
     → told (whole (cut-text rs) out .reader) ≡ Accepted n
     → (published.told (published.whole (file-bytes rs) out .reader) ≡ Accepted n)
     × (published.whole (file-bytes rs) out .out ≡ whole (cut-text rs) out .out)

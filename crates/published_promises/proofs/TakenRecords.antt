@@ -9,13 +9,13 @@ use lib.Dec.{eqb, leb, ltb, lit≤}
 use lib.ListN.{length, length-append}
 use Rattle.integers.proofs.Tests.{by-cases}
 use Rattle.series_lines.specs.declared.Line.{Line}
-use Rattle.series_lines.specs.Grammar.{spaces, CountLine, count, count-bytes, GoodCount, Decimal, decimal, GoodDecimal, size}
+use Rattle.series_lines.specs.Grammar.{spaces, Count-line, count, count-bytes, Good-count, Decimal, decimal, Good-decimal, size}
 use Rattle.series_lines.specs.Lexer.{spot-bad, fresh, bad, with-space, whole-count}
 use Rattle.published_records.specs.declared.Column.{Column}
 use Rattle.published_records.specs.declared.Column.the-variants.{Filler, Digit, Count}
-use Rattle.published_records.specs.Layout.{NoFeed, Free, heading-bytes, record-bytes}
+use Rattle.published_records.specs.Layout.{No-feed, Free, heading-bytes, record-bytes}
 use Rattle.published_records.specs.Rows.{heading-column, decimal-column, fresh-row, lex-rows, whole-row}
-use Rattle.published_promises.specs.Decided.{IsHeading, IsRecord}
+use Rattle.published_promises.specs.Decided.{Is-heading, Is-record}
 use Rattle.text_promises.proofs.GoodLines.{put, keep, flag}
 use Rattle.published_promises.proofs.RowLaws.{in-field, held, held-under, rows-column}
 use Rattle.published_promises.proofs.Stretches.{field-lines, filler-lines, heading-filler, heading-count}
@@ -32,11 +32,11 @@ pub record Cut (n : ℕ) (xs : List ℕ) : Type 0 where
   pub is : xs ≡ front ++ rest
   pub long : length front ≡ n
   pub left : n + length rest ≡ length xs
-  pub free : NoFeed front
-  pub rest-free : NoFeed rest
+  pub free : No-feed front
+  pub rest-free : No-feed rest
 
-pub cut : (n : ℕ) (xs : List ℕ) → n ≤ length xs → NoFeed xs → Cut n xs
-unfolding NoFeed
+pub cut : (n : ℕ) (xs : List ℕ) → n ≤ length xs → No-feed xs → Cut n xs
+unfolding No-feed
 cut zero xs h f = record { front = []; rest = xs; is = refl; long = refl; left = omega arith; free = tt; rest-free = f }
 cut (suc n) [] h f = absurd (omega arith)
 cut (suc n) (x ∷ xs) h f =
@@ -56,10 +56,10 @@ pub record Next (xs : List ℕ) : Type 0 where
   pub rest : List ℕ
   pub is : xs ≡ b ∷ rest
   pub left : suc (length rest) ≡ length xs
-  pub rest-free : NoFeed rest
+  pub rest-free : No-feed rest
 
-pub next : (xs : List ℕ) → 1 ≤ length xs → NoFeed xs → Next xs
-unfolding NoFeed
+pub next : (xs : List ℕ) → 1 ≤ length xs → No-feed xs → Next xs
+unfolding No-feed
 next [] h f = absurd (omega arith)
 next (x ∷ xs) h f = record { b = x; rest = xs; is = refl; left = refl; rest-free = f .1 }
 
@@ -75,17 +75,17 @@ abbrev pub Live : Bool → ℕ → Line → List ℕ → Type 0
 Live h c l xs = lines h c l xs .spot ≡ spot-bad → ⊥
 
 -- Free columns.
-record FreeIn (h : Bool) (n m e : ℕ) (l : Line) (xs : List ℕ) : Type 0 where
+record Free-in (h : Bool) (n m e : ℕ) (l : Line) (xs : List ℕ) : Type 0 where
   front : List ℕ
   rest : List ℕ
   is : xs ≡ front ++ rest
   free : Free n front
   left : m ≤ length rest
-  rest-free : NoFeed rest
+  rest-free : No-feed rest
   live : Live h e l rest
 
-free-in : (h : Bool) (c n m e : ℕ) (l : Line) (xs : List ℕ) → c + n ≡ e → n + m ≤ length xs → NoFeed xs → Inside c e → Are h (λ k. Filler) c e
-    → Live h c l xs → FreeIn h n m e l xs
+free-in : (h : Bool) (c n m e : ℕ) (l : Line) (xs : List ℕ) → c + n ≡ e → n + m ≤ length xs → No-feed xs → Inside c e → Are h (λ k. Filler) c e
+    → Live h c l xs → Free-in h n m e l xs
 free-in h c n m e l xs i k f s a y =
     let p = cut n xs (omega arith) f in
     let q : lines h c l xs ≡ lines h e l (p .rest) =
@@ -103,13 +103,13 @@ free-in h c n m e l xs i k f s a y =
     }
 
 -- A digit of a heading.
-record FigureIn (m e : ℕ) (l : Line) (xs : List ℕ) : Type 0 where
+record Figure-in (m e : ℕ) (l : Line) (xs : List ℕ) : Type 0 where
   d : ℕ
   rest : List ℕ
   is : xs ≡ (48 + d) ∷ rest
   digit : d < 10
   left : m ≤ length rest
-  rest-free : NoFeed rest
+  rest-free : No-feed rest
   live : Live true e l rest
 
 figure-byte : (c : ℕ) (l : Line) (b : ℕ) (rest : List ℕ) → heading-column c ≡ Digit → Live true c l (b ∷ rest)
@@ -124,7 +124,7 @@ figure-byte c l b rest k y =
     (λ q. absurd (z (rw (p, q) (lines-bad true rest (suc c) bad refl)))))
     (λ p. absurd (z (rw p (lines-bad true rest (suc c) bad refl))))
 
-figure-in : (c m : ℕ) (l : Line) (xs : List ℕ) → heading-column c ≡ Digit → 1 + m ≤ length xs → NoFeed xs → Live true c l xs → FigureIn m (suc c) l xs
+figure-in : (c m : ℕ) (l : Line) (xs : List ℕ) → heading-column c ≡ Digit → 1 + m ≤ length xs → No-feed xs → Live true c l xs → Figure-in m (suc c) l xs
 figure-in c m l xs k h f y =
     let p = next xs (omega arith) f in
     let g = figure-byte c l (p .b) (p .rest) k (subst (λ (z : List ℕ). Live true c l z) (p .is) y) in
@@ -140,23 +140,23 @@ figure-in c m l xs k h f y =
     }
 
 -- The columns of a count.
-record NumberIn (h : Bool) (n m e : ℕ) (xs : List ℕ) : Type 0 where
+record Number-in (h : Bool) (n m e : ℕ) (xs : List ℕ) : Type 0 where
   indent : ℕ
-  k : CountLine
+  k : Count-line
   rest : List ℕ
   is : xs ≡ spaces indent ++ (count-bytes k ++ rest)
-  good : GoodCount k
+  good : Good-count k
   right : indent + length (count-bytes k) ≡ n
   left : m ≤ length rest
-  rest-free : NoFeed rest
+  rest-free : No-feed rest
   live : Live h e (put (fresh 20) (21 + length (k .more)) 0 (count k)) rest
 
 right-of : (n i : ℕ) (front figure : List ℕ) → length front ≡ n → front ≡ spaces i ++ figure → i + length figure ≡ n
 right-of n i front figure h e =
     let s = ap length e ∙ length-append (spaces i) figure in omega (arith, s, spaces-length i)
 
-number-in : (h : Bool) (c n m e : ℕ) (xs : List ℕ) → c + n ≡ e → 1 ≤ n → n + m ≤ length xs → NoFeed xs → Inside c e → Are h Count c e
-    → Live h c (fresh 20) xs → NumberIn h n m e xs
+number-in : (h : Bool) (c n m e : ℕ) (xs : List ℕ) → c + n ≡ e → 1 ≤ n → n + m ≤ length xs → No-feed xs → Inside c e → Are h Count c e
+    → Live h c (fresh 20) xs → Number-in h n m e xs
 number-in h c n m e xs i o k f s a y =
     let p = cut n xs (omega arith) f in
     let q : lines h c (fresh 20) xs ≡ lines h e (whole-bytes 4 (fresh 20) (p .front)) (p .rest) =
@@ -211,7 +211,7 @@ free-43 = free-heading 43 60 (omega arith) (λ k i j. ((λ z. omega (arith, z)),
 pub count-heading : Are true Count 61 68
 count-heading k i j = let e : 67 - k ≡ 68 - k - 1 = omega arith in heading-count k i (omega arith) ∙ ap Count e
 
-pub heading-lines-in : (xs : List ℕ) → 67 ≤ length xs → NoFeed xs → Live true 1 (fresh 20) xs → IsHeading xs
+pub heading-lines-in : (xs : List ℕ) → 67 ≤ length xs → No-feed xs → Live true 1 (fresh 20) xs → Is-heading xs
 unfolding heading-bytes heading-column
 heading-lines-in xs n f y =
     let a = free-in true 1 17 50 18 (fresh 20) xs refl n f (inside-heading 1 18 (lit≤ tt)) free-1 y in
@@ -256,23 +256,23 @@ pub first-line : (h : Bool) (xs : List ℕ) → (lex-rows h fresh-row xs .line .
 unfolding held
 first-line h xs y e = y (ap (λ (l : Line). l .spot) (rows-lines h xs fresh-row 1 refl) ∙ e)
 
-pub heading-in : (xs : List ℕ) → NoFeed xs → (lex-rows true fresh-row xs .line .spot ≡ spot-bad → ⊥) → whole-row true (lex-rows true fresh-row xs) ≡ true
-    → IsHeading xs
+pub heading-in : (xs : List ℕ) → No-feed xs → (lex-rows true fresh-row xs .line .spot ≡ spot-bad → ⊥) → whole-row true (lex-rows true fresh-row xs) ≡ true
+    → Is-heading xs
 unfolding whole-row
 heading-in xs f y w = heading-lines-in xs (whole-long true 67 xs (omega arith) w) f (first-line true xs y)
 
 -- ---- A term record.
 
 -- The columns of a decimal, from the line l as its first column enters it.
-record FieldIn (n m e : ℕ) (l : Line) (xs : List ℕ) : Type 0 where
+record Field-in (n m e : ℕ) (l : Line) (xs : List ℕ) : Type 0 where
   indent : ℕ
   d : Decimal
   rest : List ℕ
   is : xs ≡ spaces indent ++ (decimal d ++ rest)
-  good : GoodDecimal d
+  good : Good-decimal d
   right : indent + length (decimal d) ≡ n
   left : m ≤ length rest
-  rest-free : NoFeed rest
+  rest-free : No-feed rest
   live : Live false e (put l 18 (flag (d .minus)) (size d)) rest
 
 -- Such a field cut: whole columns, the point, and eleven columns.
@@ -285,9 +285,9 @@ record Pieces (w m : ℕ) (xs : List ℕ) : Type 0 where
   wide : length ws ≡ w
   eleven : length ps ≡ 11
   left : m ≤ length rest
-  rest-free : NoFeed rest
+  rest-free : No-feed rest
 
-pieces : (w m : ℕ) (xs : List ℕ) → w + 12 + m ≤ length xs → NoFeed xs → Pieces w m xs
+pieces : (w m : ℕ) (xs : List ℕ) → w + 12 + m ≤ length xs → No-feed xs → Pieces w m xs
 pieces w m xs h f =
     let a = cut w xs (omega arith) f in
     let b = next (a .rest) (omega (arith, a .left)) (a .rest-free) in
@@ -310,8 +310,8 @@ pieces w m xs h f =
 field-length : (w : ℕ) (ws : List ℕ) (p : ℕ) (ps : List ℕ) → length ws ≡ w → length ps ≡ 11 → length (ws ++ (p ∷ ps)) ≡ w + 12
 field-length w ws p ps h k = length-append ws (p ∷ ps) ∙ (omega arith)
 
-field-in : (c w n m e : ℕ) (l k : Line) (xs : List ℕ) → c + n ≡ e → w + 12 ≡ n → 1 ≤ w → n + m ≤ length xs → NoFeed xs → Inside (suc c) e
-    → Are false decimal-column c e → enter false c l ≡ put k 0 0 0 → Live false c l xs → FieldIn n m e k xs
+field-in : (c w n m e : ℕ) (l k : Line) (xs : List ℕ) → c + n ≡ e → w + 12 ≡ n → 1 ≤ w → n + m ≤ length xs → No-feed xs → Inside (suc c) e
+    → Are false decimal-column c e → enter false c l ≡ put k 0 0 0 → Live false c l xs → Field-in n m e k xs
 field-in c w n m e l k xs i j o h f s a t y =
     let p = pieces w m xs (omega arith) f in
     let F = p .ws ++ (p .p ∷ p .ps) in
@@ -390,7 +390,7 @@ pub enter-c : (l : Line) (m v : ℕ) → l .field < 2 → enter false 112 (put l
 unfolding enter with-space
 enter-c l m v h = rw (lt-ltb (l .field) 2 h)
 
-number-enters : (k : CountLine) → GoodCount k → enter false 80 (put (fresh 20) (21 + length (k .more)) 0 (count k)) ≡ put (fresh 0) 0 0 0
+number-enters : (k : Count-line) → Good-count k → enter false 80 (put (fresh 20) (21 + length (k .more)) 0 (count k)) ≡ put (fresh 0) 0 0 0
 number-enters k g =
     enter-a (put (fresh 20) (21 + length (k .more)) 0 (count k)) (omega arith) (omega (arith, g .few))
 
@@ -399,7 +399,7 @@ record-strung : (f₁ f₂ xs r₁ r₂ r₃ r₄ r₅ r₆ s₁ s₂ s₃ s₄ 
     → xs ≡ f₁ ++ (s₁ ++ (k ++ (f₂ ++ (s₂ ++ (a ++ (s₃ ++ (b ++ (s₄ ++ (c ++ z)))))))))
 record-strung f₁ f₂ xs r₁ r₂ r₃ r₄ r₅ r₆ s₁ s₂ s₃ s₄ k a b c z e₁ e₂ e₃ e₄ e₅ e₆ e₇ = rw (e₁, e₂, e₃, e₄, e₅, e₆, e₇)
 
-pub record-lines-in : (xs : List ℕ) → 131 ≤ length xs → NoFeed xs → Live false 1 (fresh 20) xs → IsRecord xs
+pub record-lines-in : (xs : List ℕ) → 131 ≤ length xs → No-feed xs → Live false 1 (fresh 20) xs → Is-record xs
 unfolding record-bytes
 record-lines-in xs n f y =
     let f₁ = free-in false 1 5 126 6 (fresh 20) xs refl n f (inside-heading 1 6 (lit≤ tt)) free-before y in
@@ -451,7 +451,7 @@ record-lines-in xs n f y =
           (blank-in (c .rest) 132 (put J 18 (flag (c .d .minus)) (size (c .d))) (lit≤ tt) (c .live));
     }
 
-pub record-in : (xs : List ℕ) → NoFeed xs → (lex-rows false fresh-row xs .line .spot ≡ spot-bad → ⊥) → whole-row false (lex-rows false fresh-row xs) ≡ true
-    → IsRecord xs
+pub record-in : (xs : List ℕ) → No-feed xs → (lex-rows false fresh-row xs .line .spot ≡ spot-bad → ⊥) → whole-row false (lex-rows false fresh-row xs) ≡ true
+    → Is-record xs
 unfolding whole-row
 record-in xs f y w = record-lines-in xs (whole-long false 131 xs (omega arith) w) f (first-line false xs y)

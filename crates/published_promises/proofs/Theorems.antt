@@ -13,7 +13,7 @@ use Rattle.series_lines.proofs.Calls as folds
 use Rattle.published.specs.declared.Published.{Published}
 use Rattle.published.specs.Reader.{begun-file, step, step-out, run, inside, missing, ended, ended-out, told, whole}
 pub use Rattle.published.specs.Reader.{calls, end-of}
-use Rattle.published_promises.specs.Decided.{Answers, AnswersSoFar}
+use Rattle.published_promises.specs.Decided.{Answers, Answers-so-far}
 use Rattle.integers.proofs.Tests.{by-cases}
 use Rattle.published_promises.proofs.Lines.{keeps, keeps-out}
 use Rattle.published_promises.proofs.Counted.{counted, uncounted-out}
@@ -71,7 +71,7 @@ decided-cut file out ps e c =
 
 -- So are the answer after some calls, and the output, where the file has not ended.
 pub decided-calls : (out : List ℕ) (ps : List (List ℕ)) → length (joined ps) ≤ last-offset
-    → AnswersSoFar (joined ps) out (told (calls begun-file out ps .reader)) (calls begun-file out ps .out)
+    → Answers-so-far (joined ps) out (told (calls begun-file out ps .reader)) (calls begun-file out ps .out)
 decided-calls out ps c =
     let q = cutting begun-file out ps in
     let i = ap (λ (x : Run Published). told (x .reader)) q in
@@ -80,7 +80,7 @@ decided-calls out ps c =
 
 -- Any file, however long, leaves in the output the packed form of the records of a good beginning of its bytes that can be counted, and
 -- nothing else; what comes after these records is refused at a byte, or is a record that can go on, or the series is whole.
-pub output : (file out : List ℕ) → (o : Outcome) × AnswersSoFar (take last-offset file) out o (run begun-file out file .out)
+pub output : (file out : List ℕ) → (o : Outcome) × Answers-so-far (take last-offset file) out o (run begun-file out file .out)
 output file out =
     let t = take last-offset file in
     (told (run begun-file out t .reader), rw (uncounted-out file out) (decided-so-far t out (omega (arith, length-take last-offset file))))

@@ -11,7 +11,7 @@ use Rattle.series_lines.specs.Grammar.{feed}
 use Rattle.series_lines.specs.Lexer.{spot-bad}
 use Rattle.published_records.specs.declared.Row.{Row}
 use Rattle.published_records.specs.Rows.{lex-row, lex-rows}
-use Rattle.published_records.specs.machine.Runs.{between, is-bad, GoesOn, Takes}
+use Rattle.published_records.specs.machine.Runs.{between, is-bad, Runs-on, Takes}
 use Rattle.published_records.specs.machine.Fillers.{Skips}
 
 -- ---- Lists of bytes.
@@ -21,8 +21,8 @@ unfolding lex-rows
 rows-append heading r [] ys = refl
 rows-append heading r (x ∷ xs) ys = rows-append heading (lex-row heading r x) xs ys
 
-goes-on-append : (heading : Bool) (r : Row) (xs ys : List ℕ) → GoesOn heading r xs → GoesOn heading (lex-rows heading r xs) ys → GoesOn heading r (xs ++ ys)
-unfolding lex-rows GoesOn
+goes-on-append : (heading : Bool) (r : Row) (xs ys : List ℕ) → Runs-on heading r xs → Runs-on heading (lex-rows heading r xs) ys → Runs-on heading r (xs ++ ys)
+unfolding lex-rows Runs-on
 goes-on-append heading r [] ys g h = h
 goes-on-append heading r (x ∷ xs) ys g h = (g .0, (g .1 .0, goes-on-append heading (lex-row heading r x) xs ys (g .1 .1) h))
 
@@ -37,7 +37,7 @@ between-append text from i next p q =
 -- ---- Runs.
 
 pub takes-none : (heading : Bool) (r : Row) (text : List ℕ) (from : ℕ) → Takes heading r text from r from
-unfolding GoesOn lex-rows
+unfolding Runs-on lex-rows
 takes-none heading r text from =
     let e : from - from ≡ 0 = omega arith in
     let n : between text from from ≡ [] = ap (λ (n : ℕ). take n (drop from text)) e in
@@ -51,7 +51,7 @@ one-byte text i h =
 
 pub takes-one : (heading : Bool) (r s : Row) (text : List ℕ) (i byte : ℕ) → i < length text → byte ≡ getD text i 0 → s ≡ lex-row heading r byte
     → (byte ≡ feed → ⊥) → (s .line .spot ≡ spot-bad → ⊥) → Takes heading r text i s (i + 1)
-unfolding GoesOn lex-rows
+unfolding Runs-on lex-rows
 takes-one heading r s text i byte h b e f g =
     let n : between text i (i + 1) ≡ byte ∷ [] = rw b (one-byte text i h) in
     record { onward = omega arith; inside = λ k. omega arith; goes-on = rw (n, ← e) (f, (g, tt)); same = e ∙ ap (lex-rows heading r) (sym n) }

@@ -14,11 +14,11 @@ use Rattle.series_lines.specs.Lexer.{spot-bad}
 use Rattle.published_records.specs.declared.Row.{Row}
 use Rattle.published_records.specs.declared.Column.the-variants.{Filler}
 use Rattle.published_records.specs.Layout.{version-column, coordinate-column, power-column, count-first, count-last, number-first, number-last}
-use Rattle.published_records.specs.Layout.{a-first, b-first, c-first, NoFeed}
+use Rattle.published_records.specs.Layout.{a-first, b-first, c-first, No-feed}
 use Rattle.published_records.specs.Rows.{column-limit, heading-column, term-column, next-column, moved, entered, in-column, lex-heading, lex-term}
 use Rattle.published_records.specs.Rows.{lex-row, lex-rows}
 use Rattle.published_records.specs.machine.Fillers.{heading-end, term-end, filler-end, held, put-column, Run, Skips}
-use Rattle.published_records.specs.machine.Runs.{between, GoesOn}
+use Rattle.published_records.specs.machine.Runs.{between, Runs-on}
 
 -- ---- Free columns.
 
@@ -188,9 +188,9 @@ run-free heading r (byte ∷ bytes) h =
     ap (λ (s : Row). lex-rows heading s bytes) (step-free heading r byte (length bytes) h)
     ∙ run-free heading (moved r (r .line)) bytes (clear-next heading (r .column) (length bytes) h)
 
-good-free : (heading : Bool) (r : Row) (bytes : List ℕ) → Clear heading (r .column) (length bytes) → NoFeed bytes → (r .line .spot ≡ spot-bad → ⊥)
-    → GoesOn heading r bytes
-unfolding GoesOn NoFeed
+good-free : (heading : Bool) (r : Row) (bytes : List ℕ) → Clear heading (r .column) (length bytes) → No-feed bytes → (r .line .spot ≡ spot-bad → ⊥)
+    → Runs-on heading r bytes
+unfolding Runs-on No-feed
 good-free heading r [] h f g = tt
 good-free heading r (byte ∷ bytes) h f g =
     rw (step-free heading r byte (length bytes) h)
@@ -198,8 +198,8 @@ good-free heading r (byte ∷ bytes) h f g =
 
 -- No byte between is a line feed.
 no-feed-run : (text : List ℕ) (from n : ℕ) → (1 ≤ n → from + n ≤ length text)
-    → ((j : ℕ) → from ≤ j → j < from + n → getD text j 0 ≡ feed → ⊥) → NoFeed (take n (drop from text))
-unfolding NoFeed
+    → ((j : ℕ) → from ≤ j → j < from + n → getD text j 0 ≡ feed → ⊥) → No-feed (take n (drop from text))
+unfolding No-feed
 no-feed-run text from zero h f = tt
 no-feed-run text from (suc n) h f =
     let g : from + suc n ≤ length text = h (omega arith) in
@@ -264,7 +264,7 @@ nothing : (text : List ℕ) (from : ℕ) → between text from from ≡ []
 nothing text from = let e : from - from ≡ 0 = omega arith in ap (λ (n : ℕ). take n (drop from text)) e
 
 pub as-it-stands : (heading : Bool) (r : Row) (text : List ℕ) (from : ℕ) → Skips heading r text from r from
-unfolding NoFeed GoesOn lex-rows
+unfolding No-feed Runs-on lex-rows
 as-it-stands heading r text from =
     let e = nothing text from in
     record { onward = omega arith; inside = λ h. h; no-feed = rw e tt; same = ap (lex-rows heading r) (sym e); goes-on = λ g. rw e tt }

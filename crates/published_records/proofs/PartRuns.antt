@@ -15,9 +15,9 @@ use Rattle.series_lines.specs.machine.Parts.{run-end, Part-at}
 use Rattle.series_lines.proofs.DigitRuns.{short, lex-part}
 use Rattle.published_records.specs.declared.Row.{Row}
 use Rattle.published_records.specs.declared.Column.the-variants.{Part}
-use Rattle.published_records.specs.Layout.{number-first, number-last, a-first, a-last, b-first, b-last, c-first, c-last, NoFeed}
+use Rattle.published_records.specs.Layout.{number-first, number-last, a-first, a-last, b-first, b-last, c-first, c-last, No-feed}
 use Rattle.published_records.specs.Rows.{column-limit, decimal-column, term-column, next-column, moved, entered, in-column, lex-term, lex-row}
-use Rattle.published_records.specs.machine.Runs.{between, GoesOn, Takes}
+use Rattle.published_records.specs.machine.Runs.{between, Runs-on, Takes}
 use Rattle.published_records.specs.machine.Fillers.{Skips}
 use Rattle.published_records.specs.machine.Parts.{parts-left, part-columns, Parts-ahead, row-at}
 use Rattle.published_records.proofs.ByteRuns.{takes-none, takes-one, takes-then}
@@ -178,8 +178,8 @@ module _ (r : Row) (text : List ℕ) (from spot value i : ℕ) (a : Parts-ahead 
       }
 
 -- Where the record goes on there is no line feed.
-no-feed : (heading : Bool) (r : Row) (bytes : List ℕ) → GoesOn heading r bytes → NoFeed bytes
-unfolding GoesOn NoFeed
+no-feed : (heading : Bool) (r : Row) (bytes : List ℕ) → Runs-on heading r bytes → No-feed bytes
+unfolding Runs-on No-feed
 no-feed heading r [] g = tt
 no-feed heading r (byte ∷ bytes) g = (g .0, no-feed heading _ bytes (g .1 .1))
 

@@ -5,7 +5,7 @@ use mathlib.Core.Path.{_≡_}
 use mathlib.Core.List.{List, [], _∷_, _++_}
 use Prim.Native.Nat.{ℕ, _+_, _-_, _<_}
 use lib.ListN.{length}
-use Rattle.series_lines.specs.Grammar.{feed, spaces, digit-0, CountLine, count-bytes, GoodCount, Decimal, decimal, GoodDecimal, TermLine}
+use Rattle.series_lines.specs.Grammar.{feed, spaces, digit-0, Count-line, count-bytes, Good-count, Decimal, decimal, Good-decimal, Term-line}
 
 -- ---- Columns.
 
@@ -51,14 +51,14 @@ abbrev pub c-last : ℕ
 c-last = 131
 
 -- No line feed among these bytes.
-unfoldable pub NoFeed : List ℕ → Type 0
-NoFeed [] = Unit {0}
-NoFeed (x ∷ xs) = (x ≡ feed → ⊥) × NoFeed xs
+unfoldable pub No-feed : List ℕ → Type 0
+No-feed [] = Unit {0}
+No-feed (x ∷ xs) = (x ≡ feed → ⊥) × No-feed xs
 
 -- n free columns.
 pub record Free (n : ℕ) (xs : List ℕ) : Type 0 where
   pub columns : length xs ≡ n
-  pub no-feed : NoFeed xs
+  pub no-feed : No-feed xs
 
 -- ---- A heading record, before its line feed.
 
@@ -70,7 +70,7 @@ pub record Heading : Type 0 where
   pub before-power : List ℕ
   pub power : ℕ
   pub count-indent : ℕ
-  pub count : CountLine
+  pub count : Count-line
   pub after : List ℕ
 
 -- Its bytes.
@@ -82,23 +82,23 @@ heading-bytes h =
     ∷ (spaces (h .count-indent) ++ (count-bytes (h .count) ++ h .after)))))))
 
 -- A heading as it may stand in a file, by its columns; its version, block and order (13) and its limits are judged at the line feed.
-pub record GoodHeading (h : Heading) : Type 0 where
+pub record Good-heading (h : Heading) : Type 0 where
   pub before-version : Free (version-column - 1) (h .before-version)
   pub version : h .version < 10
   pub before-coordinate : Free (coordinate-column - version-column - 1) (h .before-coordinate)
   pub coordinate : h .coordinate < 10
   pub before-power : Free (power-column - coordinate-column - 1) (h .before-power)
   pub power : h .power < 10
-  pub count : GoodCount (h .count)
+  pub count : Good-count (h .count)
   pub count-right : h .count-indent + length (count-bytes (h .count)) ≡ count-last - count-first + 1
-  pub after : NoFeed (h .after)
+  pub after : No-feed (h .after)
 
 -- ---- A term record, before its line feed.
 
-pub record TermRecord : Type 0 where
+pub record Term-record : Type 0 where
   pub before-number : List ℕ
   pub number-indent : ℕ
-  pub number : CountLine
+  pub number : Count-line
   pub before-a : List ℕ
   pub a-indent : ℕ
   pub a : Decimal
@@ -109,7 +109,7 @@ pub record TermRecord : Type 0 where
   pub after : ℕ
 
 -- Its bytes; after c only spaces.
-unfoldable pub record-bytes : TermRecord → List ℕ
+unfoldable pub record-bytes : Term-record → List ℕ
 record-bytes t =
     t .before-number
     ++ (spaces (t .number-indent) ++ (count-bytes (t .number)
@@ -121,18 +121,18 @@ record-bytes t =
 
 -- A term record as it may stand in a file, by its columns; its running number (14) and its limits are judged at the line feed. A decimal has
 -- eleven digits after its point, so the points stand in columns 86, 100 and 120.
-pub record GoodRecord (t : TermRecord) : Type 0 where
+pub record Good-record (t : Term-record) : Type 0 where
   pub before-number : Free (number-first - 1) (t .before-number)
-  pub number : GoodCount (t .number)
+  pub number : Good-count (t .number)
   pub number-right : t .number-indent + length (count-bytes (t .number)) ≡ number-last - number-first + 1
   pub before-a : Free (a-first - number-last - 1) (t .before-a)
-  pub a : GoodDecimal (t .a)
+  pub a : Good-decimal (t .a)
   pub a-right : t .a-indent + length (decimal (t .a)) ≡ a-last - a-first + 1
-  pub b : GoodDecimal (t .b)
+  pub b : Good-decimal (t .b)
   pub b-right : t .b-indent + length (decimal (t .b)) ≡ b-last - b-first + 1
-  pub c : GoodDecimal (t .c)
+  pub c : Good-decimal (t .c)
   pub c-right : t .c-indent + length (decimal (t .c)) ≡ c-last - c-first + 1
 
 -- The line that somebody who cuts the columns out writes for it: its three figures, parted by single spaces.
-abbrev pub cut-term : TermRecord → TermLine
+abbrev pub cut-term : Term-record → Term-line
 cut-term t = record { lead = 0; a = t .a; after-a = 0; b = t .b; after-b = 0; c = t .c }

@@ -6,14 +6,14 @@ use native.Mathlib.Omega.{arith}
 use lib.ListN.{length, getD, take, drop}
 use Rattle.limits.specs.declared.Term.{Term}
 use Rattle.packed.specs.Series.{parse, accepted}
-use Rattle.limits.specs.Allowed.{BlockFits, Allowed}
+use Rattle.limits.specs.Allowed.{Block-fits, Allowed}
 use Rattle.packed_promises.proofs.Theorems.{accepted-allowed}
 
 -- Every block of a list is within the limits of a block.
 abbrev pub Blocks-in : List (List Term) → Type 0
-Blocks-in bs = (k : ℕ) → k < length bs → BlockFits (getD bs k [])
+Blocks-in bs = (k : ℕ) → k < length bs → Block-fits (getD bs k [])
 
-pub in-head : (b : List Term) (bs : List (List Term)) → Blocks-in (b ∷ bs) → BlockFits b
+pub in-head : (b : List Term) (bs : List (List Term)) → Blocks-in (b ∷ bs) → Block-fits b
 in-head b bs h = h 0 (omega arith)
 
 pub in-tail : (b : List Term) (bs : List (List Term)) → Blocks-in (b ∷ bs) → Blocks-in bs

@@ -25,7 +25,7 @@ use Rattle.reference_cosine.proofs.Promise.{P1, P1-constant}
 use Rattle.cosine.proofs.Figures.{figures}
 use Rattle.limits.specs.declared.Term.{Term}
 use Rattle.limits.specs.Limits.{constant, weight}
-use Rattle.limits.specs.Allowed.{TermFits, AllFit, none, more, coarseness, moving-total, moving-count}
+use Rattle.limits.specs.Allowed.{Term-fits, All-fit, none, more, coarseness, moving-total, moving-count}
 use Rattle.limits.proofs.Terms.{burden, burden-more}
 use Rattle.pieces.specs.Sums.{block-sum}
 use Rattle.series.specs.Sums.{running-sum}
@@ -99,7 +99,7 @@ module _ (t : ℤ) (ht : natAbs t ≤ t-limit) (i : ℕ) where
       (sym (ap (λ c. rounded (a *ℤ c) U) (constant-cosine t) ∙ whole-rounded a))
       (close-constant u p q a (term-reference 0 (pos 0) t) q-positive (P1-constant t .positive) (constant-reference t))
 
-  other-close : (x : Term) → TermFits x → Close u (pos (tau-limit ^ i * (coarse-share * natAbs (x .a) + U))) p q (term-value (x .a) (x .b) (x .c) t)
+  other-close : (x : Term) → Term-fits x → Close u (pos (tau-limit ^ i * (coarse-share * natAbs (x .a) + U))) p q (term-value (x .a) (x .b) (x .c) t)
       (exact-term t i x)
   unfolding term-value exact-term
   other-close x h =
@@ -110,7 +110,7 @@ module _ (t : ℤ) (ht : natAbs t ≤ t-limit) (i : ℕ) where
       (nonneg cosine-distance) p-bound (bd-natAbs (x .a) (natAbs (x .a)) (omega arith))
       (bd-rounded (x .a *ℤ c) U (omega arith)) (record { low = w .least; high = w .most })
 
-  term-close : (x : Term) → TermFits x → Close u (pos (weight (tau-limit ^ i) (x .a) (x .b) (x .c))) p q (term-value (x .a) (x .b) (x .c) t) (exact-term t i x)
+  term-close : (x : Term) → Term-fits x → Close u (pos (weight (tau-limit ^ i) (x .a) (x .b) (x .c))) p q (term-value (x .a) (x .b) (x .c) t) (exact-term t i x)
   unfolding weight exact-term
   term-close x h = go (constant (x .b) (x .c)) refl
     where
@@ -122,7 +122,7 @@ module _ (t : ℤ) (ht : natAbs t ≤ t-limit) (i : ℕ) where
       go false e = other-close x h
 
   -- ---- a block
-  block-close : (xs : List Term) → AllFit xs → Close u (pos (burden (tau-limit ^ i) xs)) p q (block-sum t xs) (exact-block t i xs)
+  block-close : (xs : List Term) → All-fit xs → Close u (pos (burden (tau-limit ^ i) xs)) p q (block-sum t xs) (exact-block t i xs)
   unfolding block-sum exact-block
   block-close [] none = unfold burden moving-total moving-count in subst (λ (m : ℕ). Close u (pos m) p q (pos 0) (wholeᶠ (pos 0)))
       (no-burden (tau-limit ^ i)) (close-zero u p q)
@@ -183,13 +183,13 @@ exact-none t i = refl
 plus-zero : (x : ℤ) → x ≡ x +ℤ pos 0
 plus-zero x = ring! (x ∷ []) (search polys depth 60 fits 100000) tt
 
-one-close : (t : ℤ) → natAbs t ≤ t-limit → (i : ℕ) (b : List Term) → AllFit b → Sum-close t i (b ∷ [])
+one-close : (t : ℤ) → natAbs t ≤ t-limit → (i : ℕ) (b : List Term) → All-fit b → Sum-close t i (b ∷ [])
 one-close t ht i b h =
     rw (running-one t b ∙ plus-zero (block-sum t b), exact-step t i b [] ∙ ap (λ f. exact-block t i b +ᶠ f) (exact-none t (suc i)), ← errors-one i b)
     (close-+ u (pos (burden (tau-limit ^ i) b)) (pos 0) (powerᶠ (tau t) i .upper) (powerᶠ (tau t) i .lower) (block-sum t b) (pos 0)
     (exact-block t i b) (wholeᶠ (pos 0)) (block-close t ht i b h) (close-zero u (powerᶠ (tau t) i .upper) (powerᶠ (tau t) i .lower)))
 
-more-close : (t : ℤ) → natAbs t ≤ t-limit → (i : ℕ) (b c : List Term) (bs : List (List Term)) → AllFit b → Sum-close t (suc i) (c ∷ bs) →
+more-close : (t : ℤ) → natAbs t ≤ t-limit → (i : ℕ) (b c : List Term) (bs : List (List Term)) → All-fit b → Sum-close t (suc i) (c ∷ bs) →
     Sum-close t i (b ∷ c ∷ bs)
 more-close t ht i b c bs h k =
     let v = running-sum t (c ∷ bs) in

@@ -11,11 +11,11 @@ use Rattle.packed.specs.declared.Checked.the-variants.{Terms, NoSeries}
 use Rattle.packed.specs.Series.{Parsed, accepted, refused, parse, checked}
 use Rattle.packed.specs.machine.Table.{Sized, Holds, table-blocks, unpacked}
 use Rattle.packed_promises.proofs.Theorems.{accepted-allowed}
-use Rattle.series.specs.machine.Table.{Table, TableOf, filled}
+use Rattle.series.specs.machine.Table.{Table, Table-of, filled}
 
 -- ---- the table
 
-table-of : (rows : List (List ℕ)) (bs : List (List Term)) → Sized rows → Holds rows bs → Allowed bs → TableOf rows bs
+table-of : (rows : List (List ℕ)) (bs : List (List Term)) → Sized rows → Holds rows bs → Allowed bs → Table-of rows bs
 table-of rows bs s h a = record {
   table = record {
     sized = s;
@@ -48,10 +48,10 @@ pub series-in : (bytes : List ℕ) (rows : List (List ℕ)) (k : Checked) (n : �
     Series-in bytes rows
 series-in bytes rows k n e f u =
     let p = accepted-of (parse bytes) n (sym f ∙ e) in
-    let h : TableOf rows (p .0) = held (parse bytes) (p .0) (p .1) u in
+    let h : Table-of rows (p .0) = held (parse bytes) (p .0) (p .1) u in
     record { parsed = p .1 ∙ ap accepted (sym (h .same)); table = h .table }
   where
-    held : (q : Parsed) (bs : List (List Term)) → q ≡ accepted bs → filled q rows → TableOf rows bs
+    held : (q : Parsed) (bs : List (List Term)) → q ≡ accepted bs → filled q rows → Table-of rows bs
     held q bs e u = unfold filled in (subst (λ (x : Parsed). filled x rows) e u)
 
 pub refused-of : (p : Parsed) (k : Checked) (r : Refusal) → k ≡ NoSeries r → k ≡ checked p → p ≡ refused r

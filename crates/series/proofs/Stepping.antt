@@ -13,7 +13,7 @@ use Rattle.integers.specs.Division.{rounded}
 use Rattle.arith.proofs.Cells.{Cell, cell, held-le}
 use Rattle.units.specs.Units.{millennium, t-limit, total-limit, series-limit, block-count}
 use Rattle.limits.specs.declared.Term.{Term}
-use Rattle.limits.specs.Allowed.{BlockFits}
+use Rattle.limits.specs.Allowed.{Block-fits}
 use Rattle.packed.specs.machine.Table.{terms-at, table-blocks}
 use Rattle.packed.proofs.Tabled.{block-start, block-end, rising, within-table, block-there}
 use Rattle.pieces.specs.Sums.{block-sum}
@@ -26,18 +26,18 @@ module _ (rows : List (List ℕ)) (h : Table rows) (j : ℕ) (hj : j < block-cou
   abbrev block : List Term
   block = getD (table-blocks rows) j []
 
-  pub inside : BlockFits block
+  pub inside : Block-fits block
   inside = h .allowed .fits j hj
 
   block-is : block ≡ terms-at rows (block-start rows j) (block-end rows j - block-start rows j)
   block-is = block-there rows (table-blocks rows) (h .holds) (h .allowed) j hj
 
   module _ (from to : ℕ) (e : from ≡ block-start rows j) (f : to ≡ block-end rows j) where
-    pub sum-asks : (from ≤ to) × (to ≤ series-limit) × BlockFits (terms-at rows from (to - from))
+    pub sum-asks : (from ≤ to) × (to ≤ series-limit) × Block-fits (terms-at rows from (to - from))
     sum-asks =
         let bs = table-blocks rows in
         rw (e, f)
-        (rising rows bs (h .holds) (h .allowed) j hj, within-table rows bs (h .holds) (h .allowed) j hj, subst BlockFits block-is inside)
+        (rising rows bs (h .holds) (h .allowed) j hj, within-table rows bs (h .holds) (h .allowed) j hj, subst Block-fits block-is inside)
 
     pub sum-is : (t s : ℤ) → s ≡ block-sum t (terms-at rows from (to - from)) → s ≡ block-sum t block
     sum-is t s g = g ∙ ap₂ (λ (x y : ℕ). block-sum t (terms-at rows x (y - x))) e f ∙ ap (block-sum t) (sym block-is)
@@ -58,7 +58,7 @@ module _ (t v : ℤ) (ht : natAbs t ≤ t-limit) (hv : natAbs v ≤ 31 * total-l
     rw (t-cell, v-cell) (lt-of-le-of-lt (mul-le-mul hv ht) (lit< tt)),
   )
 
-  module _ (b : List Term) (hb : BlockFits b) (s r : ℤ)
+  module _ (b : List Term) (hb : Block-fits b) (s r : ℤ)
       (es : s ≡ block-sum t b) (er : r ≡ rounded (Cell v *ℤ Cell t) millennium) where
     s-size : natAbs s ≤ total-limit
     s-size = subst (λ (z : ℤ). natAbs z ≤ total-limit) (sym es) (let m = block-size t b in let n = hb .total in omega arith)

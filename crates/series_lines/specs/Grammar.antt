@@ -66,9 +66,9 @@ abbrev pub part-digits : ℕ
 part-digits = 11
 
 -- Each is a digit.
-unfoldable pub AllDigits : List ℕ → Type 0
-AllDigits [] = Unit {0}
-AllDigits (d ∷ ds) = (d < 10) × AllDigits ds
+unfoldable pub All-digits : List ℕ → Type 0
+All-digits [] = Unit {0}
+All-digits (d ∷ ds) = (d < 10) × All-digits ds
 
 -- The number that digits write after a number v.
 unfoldable pub numeral : ℕ → List ℕ → ℕ
@@ -78,7 +78,7 @@ numeral v (d ∷ ds) = numeral (10 * v + d) ds
 -- 1 to n digits, the first one and more; a first digit 0 stands alone.
 pub record Natural (n first : ℕ) (more : List ℕ) : Type 0 where
   pub digit : first < 10
-  pub digits : AllDigits more
+  pub digits : All-digits more
   pub few : suc (length more) ≤ n
   pub leading : first ≡ 0 → more ≡ []
 
@@ -102,33 +102,33 @@ unfoldable pub decimal : Decimal → List ℕ
 decimal d = sign (d .minus) ++ (digits (d .first ∷ d .more) ++ (point ∷ digits (d .parts)))
 
 -- A decimal as it may stand in a text: digits in the right number, and a minus only where it is not zero.
-pub record GoodDecimal (d : Decimal) : Type 0 where
+pub record Good-decimal (d : Decimal) : Type 0 where
   pub whole : Natural whole-digits (d .first) (d .more)
-  pub digits : AllDigits (d .parts)
+  pub digits : All-digits (d .parts)
   pub eleven : length (d .parts) ≡ part-digits
   pub zero : d .minus ≡ true → 0 < size d
 
 -- ---- Lines, each before its line feed.
 
 -- A count line: its first digit and more.
-pub record CountLine : Type 0 where
+pub record Count-line : Type 0 where
   pub first : ℕ
   pub more : List ℕ
 
 -- The count of a count line.
-unfoldable pub count : CountLine → ℕ
+unfoldable pub count : Count-line → ℕ
 count l = numeral (l .first) (l .more)
 
 -- The bytes of a count line.
-unfoldable pub count-bytes : CountLine → List ℕ
+unfoldable pub count-bytes : Count-line → List ℕ
 count-bytes l = digits (l .first ∷ l .more)
 
 -- A count line as it may stand in a text.
-abbrev pub GoodCount : CountLine → Type 0
-GoodCount l = Natural count-digits (l .first) (l .more)
+abbrev pub Good-count : Count-line → Type 0
+Good-count l = Natural count-digits (l .first) (l .more)
 
 -- A term line: spaces before a, and after a and after b one space and so many more.
-pub record TermLine : Type 0 where
+pub record Term-line : Type 0 where
   pub lead : ℕ
   pub a : Decimal
   pub after-a : ℕ
@@ -137,46 +137,46 @@ pub record TermLine : Type 0 where
   pub c : Decimal
 
 -- The bytes of a term line.
-unfoldable pub term-bytes : TermLine → List ℕ
+unfoldable pub term-bytes : Term-line → List ℕ
 term-bytes l =
     spaces (l .lead) ++ (decimal (l .a)
     ++ ((space ∷ spaces (l .after-a)) ++ (decimal (l .b)
     ++ ((space ∷ spaces (l .after-b)) ++ decimal (l .c)))))
 
 -- A term line as it may stand in a text.
-pub record GoodTerm (l : TermLine) : Type 0 where
-  pub a : GoodDecimal (l .a)
-  pub b : GoodDecimal (l .b)
-  pub c : GoodDecimal (l .c)
+pub record Good-term (l : Term-line) : Type 0 where
+  pub a : Good-decimal (l .a)
+  pub b : Good-decimal (l .b)
+  pub c : Good-decimal (l .c)
 
 -- The term of a term line. (A b below zero is past its limit.)
-abbrev pub term-of-line : TermLine → Term
+abbrev pub term-of-line : Term-line → Term
 term-of-line l = record { a = value (l .a); b = size (l .b); c = value (l .c) }
 
 -- ---- Lines of either kind, as a text that is refused or has not ended leaves them.
 
 -- A line of either kind.
-pub data AnyLine : Type 0 where
-  a-count : CountLine → AnyLine
-  a-term : TermLine → AnyLine
+pub data Any-line : Type 0 where
+  a-count : Count-line → Any-line
+  a-term : Term-line → Any-line
 
 -- Its bytes before the line feed.
-unfoldable pub line-bytes : AnyLine → List ℕ
+unfoldable pub line-bytes : Any-line → List ℕ
 line-bytes (a-count l) = count-bytes l
 line-bytes (a-term l) = term-bytes l
 
 -- Its packed form.
-unfoldable pub line-packed : AnyLine → List ℕ
+unfoldable pub line-packed : Any-line → List ℕ
 line-packed (a-count l) = encode (count l)
 line-packed (a-term l) = pack-term (term-of-line l)
 
 -- The bytes of lines, each with its line feed.
-unfoldable pub any-bytes : List AnyLine → List ℕ
+unfoldable pub any-bytes : List Any-line → List ℕ
 any-bytes [] = []
 any-bytes (l ∷ ls) = line-bytes l ++ (feed ∷ any-bytes ls)
 
 -- The packed form of lines.
-unfoldable pub any-packed : List AnyLine → List ℕ
+unfoldable pub any-packed : List Any-line → List ℕ
 any-packed [] = []
 any-packed (l ∷ ls) = line-packed l ++ any-packed ls
 
@@ -184,11 +184,11 @@ any-packed (l ∷ ls) = line-packed l ++ any-packed ls
 
 -- A block: a count line, then term lines.
 pub record Block : Type 0 where
-  pub head : CountLine
-  pub lines : List TermLine
+  pub head : Count-line
+  pub lines : List Term-line
 
 -- The bytes of term lines, each with its line feed.
-unfoldable pub lines-bytes : List TermLine → List ℕ
+unfoldable pub lines-bytes : List Term-line → List ℕ
 lines-bytes [] = []
 lines-bytes (l ∷ ls) = term-bytes l ++ (feed ∷ lines-bytes ls)
 
@@ -198,7 +198,7 @@ blocks-bytes [] = []
 blocks-bytes (k ∷ ks) = count-bytes (k .head) ++ (feed ∷ (lines-bytes (k .lines) ++ blocks-bytes ks))
 
 -- The terms of term lines.
-unfoldable pub terms-of-lines : List TermLine → List Term
+unfoldable pub terms-of-lines : List Term-line → List Term
 terms-of-lines [] = []
 terms-of-lines (l ∷ ls) = term-of-line l ∷ terms-of-lines ls
 
@@ -208,24 +208,24 @@ blocks-of-lines [] = []
 blocks-of-lines (k ∷ ks) = terms-of-lines (k .lines) ∷ blocks-of-lines ks
 
 -- Each term line may stand in a text.
-unfoldable pub AllGood : List TermLine → Type 0
-AllGood [] = Unit {0}
-AllGood (l ∷ ls) = GoodTerm l × AllGood ls
+unfoldable pub All-good : List Term-line → Type 0
+All-good [] = Unit {0}
+All-good (l ∷ ls) = Good-term l × All-good ls
 
 -- Each block has as many term lines as its count says, and its lines may stand in a text.
-unfoldable pub GoodBlocks : List Block → Type 0
-GoodBlocks [] = Unit {0}
-GoodBlocks (k ∷ ks) = GoodCount (k .head) × (length (k .lines) ≡ count (k .head)) × AllGood (k .lines) × GoodBlocks ks
+unfoldable pub Good-blocks : List Block → Type 0
+Good-blocks [] = Unit {0}
+Good-blocks (k ∷ ks) = Good-count (k .head) × (length (k .lines) ≡ count (k .head)) × All-good (k .lines) × Good-blocks ks
 
 -- The blocks of a text of a series: all of them, and nothing more.
-pub record GoodText (ks : List Block) : Type 0 where
+pub record Good-text (ks : List Block) : Type 0 where
   pub eighteen : length ks ≡ block-count
-  pub good : GoodBlocks ks
+  pub good : Good-blocks ks
 
 -- ---- Limits, judged over the part of the series so far.
 
 -- A term, in a block with factor f after the tally s, passes no limit.
-pub record TermInLimits (f : ℕ) (s : Tally) (l : TermLine) : Type 0 where
+pub record Term-in-limits (f : ℕ) (s : Tally) (l : Term-line) : Type 0 where
   pub from-zero : l .b .minus ≡ false
   pub a : a-fits (value (l .a)) ≡ true
   pub b : b-fits (size (l .b)) ≡ true
@@ -234,18 +234,18 @@ pub record TermInLimits (f : ℕ) (s : Tally) (l : TermLine) : Type 0 where
   pub coarse : coarse-fits f s (value (l .a)) (size (l .b)) (value (l .c)) ≡ true
 
 -- Terms, in a block with factor f after the tally s, pass no limit.
-unfoldable pub TermsInLimits : ℕ → Tally → List TermLine → Type 0
-TermsInLimits f s [] = Unit {0}
-TermsInLimits f s (l ∷ ls) = TermInLimits f s l × TermsInLimits f (added f s (term-of-line l)) ls
+unfoldable pub Terms-in-limits : ℕ → Tally → List Term-line → Type 0
+Terms-in-limits f s [] = Unit {0}
+Terms-in-limits f s (l ∷ ls) = Term-in-limits f s l × Terms-in-limits f (added f s (term-of-line l)) ls
 
 -- Blocks, the first of them block k after the tally s, pass no limit.
-unfoldable pub BlocksInLimits : ℕ → Tally → List Block → Type 0
-BlocksInLimits k s [] = Unit {0}
-BlocksInLimits k s (b ∷ bs) =
+unfoldable pub Blocks-in-limits : ℕ → Tally → List Block → Type 0
+Blocks-in-limits k s [] = Unit {0}
+Blocks-in-limits k s (b ∷ bs) =
     (count-fits s (count (b .head)) ≡ true)
-    × TermsInLimits (factor k) (opened k (count (b .head)) s) (b .lines)
-    × BlocksInLimits (k + 1) (after-block k s (terms-of-lines (b .lines))) bs
+    × Terms-in-limits (factor k) (opened k (count (b .head)) s) (b .lines)
+    × Blocks-in-limits (k + 1) (after-block k s (terms-of-lines (b .lines))) bs
 
 -- A text passes no limit.
-abbrev pub InLimits : List Block → Type 0
-InLimits ks = BlocksInLimits 0 no-tally ks
+abbrev pub In-limits : List Block → Type 0
+In-limits ks = Blocks-in-limits 0 no-tally ks

@@ -10,7 +10,7 @@ use lib.Seq.{sets}
 use Rattle.units.specs.Refusals.{bad-byte, ended-early, byte-after-end}
 use Rattle.packed.specs.Series.{pack}
 use Rattle.series_lines.specs.declared.Reader.{Reader}
-use Rattle.series_lines.specs.Grammar.{feed, Block, blocks-bytes, blocks-of-lines, GoodText, InLimits}
+use Rattle.series_lines.specs.Grammar.{feed, Block, blocks-bytes, blocks-of-lines, Good-text, In-limits}
 use Rattle.series_lines.specs.Lexer.{lex, whole-count, whole-term, spot-after, spot-bad}
 use Rattle.series_lines.specs.Judge.{Verdict, tally, count-end, term-end}
 use Rattle.series_lines.specs.Calls as fold
@@ -72,8 +72,8 @@ calls = fold.calls step step-out
 -- What an acceptance with n bytes says: the text is lines of the grammar within the limits, and the output holds exactly their packed form.
 pub record Reads (text out : List ℕ) (n : ℕ) : Type 0 where
   pub ks : List Block
-  pub good : GoodText ks
-  pub limits : InLimits ks
+  pub good : Good-text ks
+  pub limits : In-limits ks
   pub is : text ≡ blocks-bytes ks
   pub counted : length text ≤ last-offset
   pub long : n ≡ length (pack (blocks-of-lines ks))

@@ -13,12 +13,12 @@ use Rattle.series_lines.specs.declared.Outcome.the-variants.{Accepted, Refused}
 use Rattle.series_lines.specs.Lexer.{lex, whole-count, whole-term}
 use Rattle.series_lines.specs.Reader.{uncounted, told}
 use Rattle.text.specs.Reader.{verdict, begun, other, step, step-out, run, ended, whole}
-use Rattle.series_lines.specs.Grammar.{TermLine}
+use Rattle.series_lines.specs.Grammar.{Term-line}
 use Rattle.integers.proofs.Tests.{by-cases}
 use Rattle.text_promises.proofs.Verdicts.{count-among, term-among, wrote-status}
 use Rattle.text_promises.proofs.Lines.{Taken}
 
-pub nothing : (ls : List TermLine) → length ls ≡ 0 → ls ≡ []
+pub nothing : (ls : List Term-line) → length ls ≡ 0 → ls ≡ []
 nothing [] e = refl
 nothing (l ∷ ls) e = absurd (omega (arith, e))
 

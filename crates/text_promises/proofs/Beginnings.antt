@@ -10,8 +10,8 @@ use Rattle.limits.specs.Limits.{factor, opened, added}
 use Rattle.series_lines.specs.declared.Reader.{Reader}
 use Rattle.series_lines.specs.Reader.{last-offset, next-spot}
 use Rattle.text.specs.Reader.{begun, run}
-use Rattle.series_lines.specs.Grammar.{feed, CountLine, count, count-bytes, TermLine, term-bytes, term-of-line, TermInLimits, TermsInLimits}
-use Rattle.series_lines.specs.Grammar.{AnyLine, a-count, a-term, line-bytes, line-packed, any-bytes, any-packed}
+use Rattle.series_lines.specs.Grammar.{feed, Count-line, count, count-bytes, Term-line, term-bytes, term-of-line, Term-in-limits, Terms-in-limits}
+use Rattle.series_lines.specs.Grammar.{Any-line, a-count, a-term, line-bytes, line-packed, any-bytes, any-packed}
 use Rattle.text_promises.specs.Decided.{Beginning, empty, with-count, with-term}
 use Rattle.series_lines.proofs.WrittenTerm.{sets-append}
 use Rattle.text_promises.proofs.Verdicts.{sp, st}
@@ -19,7 +19,7 @@ use Rattle.text_promises.proofs.TakenTexts.{count-packed, term-packed, 
 use Rattle.text_promises.proofs.GoodTexts.{count-line, term-line}
 
 -- With one line more.
-pub bytes-more : (ls : List AnyLine) (l : AnyLine) (rest : List ℕ)
+pub bytes-more : (ls : List Any-line) (l : Any-line) (rest : List ℕ)
     → any-bytes (ls ++ (l ∷ [])) ++ rest ≡ any-bytes ls ++ (line-bytes l ++ (feed ∷ rest))
 unfolding any-bytes
 bytes-more [] l rest = append-assoc (line-bytes l) (feed ∷ []) rest
@@ -28,13 +28,13 @@ bytes-more (m ∷ ls) l rest =
     ∙ ap (λ (y : List ℕ). line-bytes m ++ (feed ∷ y)) (bytes-more ls l rest)
     ∙ sym (append-assoc (line-bytes m) (feed ∷ any-bytes ls) (line-bytes l ++ (feed ∷ rest)))
 
-pub packed-more : (ls : List AnyLine) (l : AnyLine) → any-packed (ls ++ (l ∷ [])) ≡ any-packed ls ++ line-packed l
+pub packed-more : (ls : List Any-line) (l : Any-line) → any-packed (ls ++ (l ∷ [])) ≡ any-packed ls ++ line-packed l
 unfolding any-packed
 packed-more [] l = append-nil (line-packed l)
 packed-more (m ∷ ls) l =
     ap (λ (y : List ℕ). line-packed m ++ y) (packed-more ls l) ∙ sym (append-assoc (line-packed m) (any-packed ls) (line-packed l))
 
-module _ (ls : List AnyLine) (l : AnyLine) where
+module _ (ls : List Any-line) (l : Any-line) where
   pub bytes-length : length (any-bytes (ls ++ (l ∷ []))) ≡ length (any-bytes ls) + length (line-bytes l) + 1
   bytes-length =
       omega (
@@ -58,10 +58,10 @@ same-state : (k n : ℕ) (s : Tally) (rest : List ℕ) (a b w v : ℕ) (o p : Li
 same-state k n s rest a b w v o p e f g = rw (e, f, g)
 
 -- The reader after the lines of a good beginning.
-abbrev pub after : List AnyLine → ℕ → ℕ → Tally → Reader
+abbrev pub after : List Any-line → ℕ → ℕ → Tally → Reader
 after ls k n s = st (length (any-bytes ls)) (length (any-packed ls)) k n s
 
-pub runs : {ls : List AnyLine} {k n : ℕ} {s : Tally} → Beginning ls k n s → (out rest : List ℕ)
+pub runs : {ls : List Any-line} {k n : ℕ} {s : Tally} → Beginning ls k n s → (out rest : List ℕ)
     → length (any-bytes ls) ≤ last-offset → length (any-packed ls) ≤ length out
     → run begun out (any-bytes ls ++ rest) ≡ run (after ls k n s) (sets out 0 (any-packed ls)) rest
 runs empty out rest c h = unfold any-bytes any-packed next-spot in refl
@@ -81,10 +81,10 @@ runs (with-count {ls} {k} {s} l b i g f) out rest c h =
     ∙ same-state (k + 1) (count l) (opened k (count l) s) rest _ _ _ _ _ _ (omega (arith, ap length u)) (omega (arith, ap length v))
     (ap (λ (t : List ℕ). sets o w t) (sym v) ∙ packed-sets ls (a-count l) out)
   where
-    is-count : (l : CountLine) → line-bytes (a-count l) ≡ count-bytes l
+    is-count : (l : Count-line) → line-bytes (a-count l) ≡ count-bytes l
     is-count l = unfold line-bytes in refl
 
-    is-packed : (l : CountLine) → line-packed (a-count l) ≡ count-packed l
+    is-packed : (l : Count-line) → line-packed (a-count l) ≡ count-packed l
     is-packed l = unfold line-packed in refl
 runs (with-term {ls} {k} {n} {s} l b g f) out rest c h =
     let at = length (any-bytes ls) in
@@ -105,17 +105,17 @@ runs (with-term {ls} {k} {n} {s} l b g f) out rest c h =
     ∙ same-state k n (added (factor (k - 1)) s (term-of-line l)) rest _ _ _ _ _ _ (omega (arith, ap length u)) (omega (arith, ap length v))
     (ap (λ (t : List ℕ). sets o w t) (sym v) ∙ packed-sets ls (a-term l) out)
   where
-    is-term : (l : TermLine) → line-bytes (a-term l) ≡ term-bytes l
+    is-term : (l : Term-line) → line-bytes (a-term l) ≡ term-bytes l
     is-term l = unfold line-bytes in refl
 
-    is-packed : (l : TermLine) → line-packed (a-term l) ≡ term-packed l
+    is-packed : (l : Term-line) → line-packed (a-term l) ≡ term-packed l
     is-packed l = unfold line-packed in refl
 
-    one : (l : TermLine) → TermInLimits (factor (k - 1)) s l → TermsInLimits (factor (k - 1)) s (l ∷ [])
-    one l f = unfold TermsInLimits in (f, tt)
+    one : (l : Term-line) → Term-in-limits (factor (k - 1)) s l → Terms-in-limits (factor (k - 1)) s (l ∷ [])
+    one l f = unfold Terms-in-limits in (f, tt)
 
 -- A beginning has no more counts than a series.
-pub few : {ls : List AnyLine} {k n : ℕ} {s : Tally} → Beginning ls k n s → k ≤ 18
+pub few : {ls : List Any-line} {k n : ℕ} {s : Tally} → Beginning ls k n s → k ≤ 18
 few empty = omega arith
 few (with-count l b i g f) = omega arith
 few (with-term l b g f) = few b

@@ -12,7 +12,7 @@ use Rattle.series_lines.specs.Lexer.{fresh, lexes, whole-count, whole-term}
 use Rattle.series_lines.specs.Judge.{Verdict, count-end, term-end}
 use Rattle.series_lines.specs.Reader.{stopped, wrote}
 use Rattle.text.specs.Reader.{verdict, step}
-pub use Rattle.text_promises.specs.Decided.{IsTerm, IsCount}
+pub use Rattle.text_promises.specs.Decided.{Is-term, Is-count}
 use Rattle.integers.proofs.Tests.{by-cases}
 use Rattle.text.proofs.Branches.{verdict-count, verdict-term, verdict-early}
 use Rattle.text_promises.proofs.GoodLines.{count-run, term-run}
@@ -47,7 +47,7 @@ module _ (r : Reader) (out : List ℕ) (g : Going r) where
       (ap (λ (q : Reader). q .status) (sym (step-feed r out g .0) ∙ e))
 
   pub feed-term : (xs : List ℕ) → r .line ≡ lexes (fresh 0) xs
-      → (step r out 10 ≡ stopped r bad-byte → IsTerm xs → ⊥) × ((IsTerm xs → ⊥) → step r out 10 ≡ stopped r bad-byte)
+      → (step r out 10 ≡ stopped r bad-byte → Is-term xs → ⊥) × ((Is-term xs → ⊥) → step r out 10 ≡ stopped r bad-byte)
   unfolding whole-term
   feed-term xs e =
       let n : whole-count (r .line) ≡ false = ap (λ (l : Line). whole-count l) e ∙ not-count xs in (
@@ -60,7 +60,7 @@ module _ (r : Reader) (out : List ℕ) (g : Going r) where
       )
 
   pub feed-count : (xs : List ℕ) → r .line ≡ lexes (fresh 20) xs
-      → (step r out 10 ≡ stopped r bad-byte → IsCount xs → ⊥) × ((IsCount xs → ⊥) → step r out 10 ≡ stopped r bad-byte)
+      → (step r out 10 ≡ stopped r bad-byte → Is-count xs → ⊥) × ((Is-count xs → ⊥) → step r out 10 ≡ stopped r bad-byte)
   feed-count xs e = (
     (λ s t. let l = e ∙ ap (λ (ys : List ℕ). lexes (fresh 20) ys) (t .is) ∙ count-run (t .c) (t .good) in
         let v = verdict-count r (ap (λ (x : Line). whole-count x) l ∙ is-whole (t .c) (t .good)) in

@@ -12,8 +12,8 @@ use lib.ListN.{length}
 use Rattle.series_lines.specs.declared.Line.{Line}
 pub use Rattle.series_lines.specs.Lexer.{put, keep}
 use Rattle.series_lines.specs.Lexer.{value-limit, fresh, takes-digit, with-digit, with-point, with-space, with-minus, lex, lexes}
-use Rattle.series_lines.specs.Grammar.{spaces, sign, digits, AllDigits, numeral, Natural, Decimal, size, decimal, GoodDecimal}
-use Rattle.series_lines.specs.Grammar.{CountLine, count, count-bytes, GoodCount, TermLine, term-bytes, GoodTerm}
+use Rattle.series_lines.specs.Grammar.{spaces, sign, digits, All-digits, numeral, Natural, Decimal, size, decimal, Good-decimal}
+use Rattle.series_lines.specs.Grammar.{Count-line, count, count-bytes, Good-count, Term-line, term-bytes, Good-term}
 use Rattle.series_lines.proofs.Digits.{in-whole, in-parts, at-last-part, in-count, first-digit, later-digit}
 
 -- A minus as the reader holds it.
@@ -67,9 +67,9 @@ nonzero : (v d : ℕ) (ds : List ℕ) → (v ≡ 0 → d ∷ ds ≡ []) → 0 < 
 nonzero zero d ds h = let e = h refl in let z : _≡_ {A = ℕ} 0 1 = cc in absurd (omega arith)
 nonzero (suc v) d ds h = omega arith
 
-more-run : (base top : ℕ) → Spots base top → (ds : List ℕ) (l : Line) (s m v n : ℕ) → AllDigits ds → base < s → s + length ds ≤ top
+more-run : (base top : ℕ) → Spots base top → (ds : List ℕ) (l : Line) (s m v n : ℕ) → All-digits ds → base < s → s + length ds ≤ top
     → v < 10 ^ n → n + length ds ≤ 17 → (v ≡ 0 → ds ≡ []) → lexes (put l s m v) (digits ds) ≡ put l (s + length ds) m (numeral v ds)
-unfolding lexes digits numeral AllDigits
+unfolding lexes digits numeral All-digits
 more-run base top S [] l s m v n a h k p q z = rw (add-zero s)
 more-run base top S (d ∷ ds) l s m v n a h k p q z =
     let y : 0 < v = nonzero v d ds z in
@@ -88,9 +88,9 @@ natural-run base top S l m d ds n g h k =
     ∙ more-run base top S ds l (base + 1) m d 1 (g .digits) (omega arith) (omega (arith, g .few)) (g .digit) (omega (arith, g .few)) (g .leading)
 
 -- The eleven decimals.
-pub parts-run : (ds : List ℕ) (l : Line) (s m v n : ℕ) → AllDigits ds → 7 ≤ s → s + length ds ≡ 18 → v < 10 ^ n → n + length ds ≤ 18
+pub parts-run : (ds : List ℕ) (l : Line) (s m v n : ℕ) → All-digits ds → 7 ≤ s → s + length ds ≡ 18 → v < 10 ^ n → n + length ds ≤ 18
     → (m ≡ 0) ⊎ (0 < numeral v ds) → lexes (put l s m v) (digits ds) ≡ put l 18 m (numeral v ds)
-unfolding lexes digits numeral AllDigits
+unfolding lexes digits numeral All-digits
 parts-run [] l s m v n a h k p q z = let e : s ≡ 18 = omega arith in rw e
 parts-run (d ∷ []) l s m v n a h k p q z =
     let e : s ≡ 17 = omega arith in
@@ -122,14 +122,14 @@ unfolding flag
 signed-size true v h = inr (h refl)
 signed-size false v h = inl refl
 
-numeral-bound : (ds : List ℕ) (v n : ℕ) → AllDigits ds → v < 10 ^ n → numeral v ds < 10 ^ (n + length ds)
-unfolding numeral AllDigits
+numeral-bound : (ds : List ℕ) (v n : ℕ) → All-digits ds → v < 10 ^ n → numeral v ds < 10 ^ (n + length ds)
+unfolding numeral All-digits
 numeral-bound [] v n a h = rw (add-zero n) h
 numeral-bound (d ∷ ds) v n a h =
     let e : n + 1 + length ds ≡ n + suc (length ds) = omega arith in
     rw e at (numeral-bound ds (10 * v + d) (n + 1) (a .1) (omega (arith, ten n, a .0)))
 
-pub decimal-run : (l : Line) (d : Decimal) → GoodDecimal d → lexes (put l 0 0 0) (decimal d) ≡ put l 18 (flag (d .minus)) (size d)
+pub decimal-run : (l : Line) (d : Decimal) → Good-decimal d → lexes (put l 0 0 0) (decimal d) ≡ put l 18 (flag (d .minus)) (size d)
 unfolding decimal size
 decimal-run l d g =
     let m = flag (d .minus) in
@@ -144,7 +144,7 @@ decimal-run l d g =
     (numeral-bound (d .more) (d .first) 1 (g .whole .digits) (g .whole .digit)) (omega (arith, g .whole .few))
     (signed-size (d .minus) (numeral v (d .parts)) (g .zero))
   where
-    after-point : (l : Line) (s m v n : ℕ) (ds : List ℕ) → 1 ≤ s → s ≤ 6 → AllDigits ds → length ds ≡ 11 → v < 10 ^ n → n ≤ 6
+    after-point : (l : Line) (s m v n : ℕ) (ds : List ℕ) → 1 ≤ s → s ≤ 6 → All-digits ds → length ds ≡ 11 → v < 10 ^ n → n ≤ 6
         → (m ≡ 0) ⊎ (0 < numeral v ds)
         → lexes (put l s m v) (46 ∷ digits ds) ≡ put l 18 m (numeral v ds)
     after-point l s m v n ds h k a e b c z =
@@ -153,12 +153,12 @@ decimal-run l d g =
         ∙ parts-run ds l 7 m v n a (omega arith) (omega arith) b (omega arith) z
 
 -- A count line.
-pub count-run : (k : CountLine) → GoodCount k → lexes (fresh 20) (count-bytes k) ≡ put (fresh 20) (21 + length (k .more)) 0 (count k)
+pub count-run : (k : Count-line) → Good-count k → lexes (fresh 20) (count-bytes k) ≡ put (fresh 20) (21 + length (k .more)) 0 (count k)
 unfolding count-bytes count
 count-run k g = natural-run 20 24 count-spots (fresh 20) 0 (k .first) (k .more) 4 g (omega arith) (omega arith)
 
 -- A term line.
-abbrev pub line-of-term : TermLine → Line
+abbrev pub line-of-term : Term-line → Line
 line-of-term t =
     record {
       spot = 18;
@@ -175,14 +175,14 @@ gap-run : (l : Line) (m v n : ℕ) → l .field < 2 → lexes (put l 18 m v) (32
 unfolding lexes
 gap-run l m v n h = ap (λ (x : Line). lexes x (spaces n)) (lex-keep l m v h) ∙ spaces-run n (keep l m v) 0
 
-next-run : (l : Line) (m v n : ℕ) (d : Decimal) → l .field < 2 → GoodDecimal d
+next-run : (l : Line) (m v n : ℕ) (d : Decimal) → l .field < 2 → Good-decimal d
     → lexes (put l 18 m v) ((32 ∷ spaces n) ++ decimal d) ≡ put (keep l m v) 18 (flag (d .minus)) (size d)
 next-run l m v n d h g =
     lexes-append (put l 18 m v) (32 ∷ spaces n) (decimal d)
     ∙ ap (λ (x : Line). lexes x (decimal d)) (gap-run l m v n h)
     ∙ decimal-run (keep l m v) d g
 
-pub term-run : (t : TermLine) → GoodTerm t → lexes (fresh 0) (term-bytes t) ≡ line-of-term t
+pub term-run : (t : Term-line) → Good-term t → lexes (fresh 0) (term-bytes t) ≡ line-of-term t
 unfolding term-bytes
 term-run t g =
     let c : List ℕ = (32 ∷ spaces (t .after-b)) ++ decimal (t .c) in

@@ -16,9 +16,9 @@ use Rattle.series_lines.specs.declared.Reader.{Reader}
 use Rattle.series_lines.specs.Lexer.{fresh, lexes}
 use Rattle.series_lines.specs.Reader.{last-offset}
 use Rattle.text.specs.Reader.{Run, run}
-use Rattle.series_lines.specs.Grammar.{CountLine, count, count-bytes, GoodCount, TermLine, term-bytes, GoodTerm, term-of-line}
-use Rattle.series_lines.specs.Grammar.{Block, lines-bytes, blocks-bytes, terms-of-lines, blocks-of-lines, AllGood, GoodBlocks}
-use Rattle.series_lines.specs.Grammar.{TermsInLimits, BlocksInLimits}
+use Rattle.series_lines.specs.Grammar.{Count-line, count, count-bytes, Good-count, Term-line, term-bytes, Good-term, term-of-line}
+use Rattle.series_lines.specs.Grammar.{Block, lines-bytes, blocks-bytes, terms-of-lines, blocks-of-lines, All-good, Good-blocks}
+use Rattle.series_lines.specs.Grammar.{Terms-in-limits, Blocks-in-limits}
 use Rattle.series_lines.proofs.WrittenTerm.{sets-append, sets-three}
 use Rattle.text_promises.proofs.GoodLines.{put, line-of-term, count-run, term-run}
 use Rattle.text_promises.proofs.Lines.{moved, Going, line-run, feed-run}
@@ -37,12 +37,12 @@ module _ (spot at w k n : ℕ) (s : Tally) (out xs ys : List ℕ) (L : Line)
   ready = record { status = refl; counts = λ e. omega (arith, e); inside = going }
 
 -- A term line.
-pub term-line : (t : TermLine) (at w k n : ℕ) (s : Tally) (out ys : List ℕ) → GoodTerm t → TermsInLimits (factor (k - 1)) s (t ∷ [])
+pub term-line : (t : Term-line) (at w k n : ℕ) (s : Tally) (out ys : List ℕ) → Good-term t → Terms-in-limits (factor (k - 1)) s (t ∷ [])
     → at + length (term-bytes t) < last-offset
     → w + length (term-packed t) ≤ length out
     → run (sp 0 at w k n s) out (term-bytes t ++ (10 ∷ ys))
     ≡ run (after-term (at + length (term-bytes t) + 1) w k n s t) (sets out w (term-packed t)) ys
-unfolding TermsInLimits
+unfolding Terms-in-limits
 term-line t at w k n s out ys g l c h =
     let m = length (term-bytes t) in
     let r = moved (sp 0 at w k n s) (line-of-term t) m in
@@ -54,7 +54,7 @@ term-line t at w k n s out ys g l c h =
     ∙ (rw (v .2, v .1))
 
 -- A count line.
-pub count-line : (c : CountLine) (at w k : ℕ) (s : Tally) (out ys : List ℕ) → GoodCount c → k < 18 → count-fits s (count c) ≡ true
+pub count-line : (c : Count-line) (at w k : ℕ) (s : Tally) (out ys : List ℕ) → Good-count c → k < 18 → count-fits s (count c) ≡ true
     → at + length (count-bytes c) < last-offset
     → w + length (count-packed c) ≤ length out
     → run (sp 20 at w k 0 s) out (count-bytes c ++ (10 ∷ ys))
@@ -72,13 +72,13 @@ count-line c at w k s out ys g b f l h =
     ∙ (rw (v .2, v .1))
 
 -- The terms of a block.
-terms-run : (ls : List TermLine) (at w k : ℕ) (s : Tally) (out ys : List ℕ) → AllGood ls → TermsInLimits (factor (k - 1)) s ls
+terms-run : (ls : List Term-line) (at w k : ℕ) (s : Tally) (out ys : List ℕ) → All-good ls → Terms-in-limits (factor (k - 1)) s ls
     → at + length (lines-bytes ls) ≤ last-offset
     → w + length (pack-terms (terms-of-lines ls)) ≤ length out
     → run (st at w k (length ls) s) out (lines-bytes ls ++ ys)
     ≡ run (st (at + length (lines-bytes ls)) (w + length (pack-terms (terms-of-lines ls))) k 0 (summed (factor (k - 1)) s (terms-of-lines ls)))
     (sets out w (pack-terms (terms-of-lines ls))) ys
-unfolding AllGood TermsInLimits lines-bytes terms-of-lines pack-terms summed
+unfolding All-good Terms-in-limits lines-bytes terms-of-lines pack-terms summed
 terms-run [] at w k s out ys g l c h = rw (add-zero at, add-zero w)
 terms-run (t ∷ ls) at w k s out ys g l c h =
     let x = pack-term (term-of-line t) in
@@ -114,7 +114,7 @@ same-run : (s : Tally) (a a′ w w′ : ℕ) (o o′ : List ℕ) → a ≡ a′ 
 same-run s a a′ w w′ o o′ p q r = rw (p, q, r)
 
 -- Blocks to the eighteenth.
-pub blocks-run : (ks : List Block) (at w k : ℕ) (s : Tally) (out : List ℕ) → GoodBlocks ks → BlocksInLimits k s ks → k + length ks ≡ 18
+pub blocks-run : (ks : List Block) (at w k : ℕ) (s : Tally) (out : List ℕ) → Good-blocks ks → Blocks-in-limits k s ks → k + length ks ≡ 18
     → at + length (blocks-bytes ks) ≤ last-offset
     → w + length (pack (blocks-of-lines ks)) ≤ length out
     → run (st at w k 0 s) out (blocks-bytes ks)
@@ -122,7 +122,7 @@ pub blocks-run : (ks : List Block) (at w k : ℕ) (s : Tally) (out : List ℕ) �
       reader = st (at + length (blocks-bytes ks)) (w + length (pack (blocks-of-lines ks))) 18 0 (after-blocks k s ks);
       out = sets out w (pack (blocks-of-lines ks));
     }
-unfolding GoodBlocks BlocksInLimits blocks-bytes blocks-of-lines pack pack-block after-blocks after-block
+unfolding Good-blocks Blocks-in-limits blocks-bytes blocks-of-lines pack pack-block after-blocks after-block
 blocks-run [] at w k s out g l e c h = let i : k ≡ 18 = omega arith in run-none (st at w k 0 s) out ∙ (rw (i, add-zero at, add-zero w))
 blocks-run (b ∷ bs) at w k s out g l e c h =
     let ls = b .lines in
@@ -153,7 +153,7 @@ blocks-run (b ∷ bs) at w k s out g l e c h =
     let s₃ = after-blocks (k + 1) s₂ bs in
     let pb : pack (blocks-of-lines (b ∷ bs)) ≡ (x ++ y) ++ z = rw f in
     let k₁ : k < 18 = omega arith in
-    let t₁ : TermsInLimits (factor (k + 1 - 1)) s₁ ls = rw (less k) (l .1) in
+    let t₁ : Terms-in-limits (factor (k + 1 - 1)) s₁ ls = rw (less k) (l .1) in
     ap (λ (i : ℕ). run (sp i at w k 0 s) out (count-bytes (b .head) ++ (10 ∷ (lines-bytes ls ++ blocks-bytes bs)))) (spot-count k (λ i. omega (arith, i)))
     ∙ count-line (b .head) at w k s out (lines-bytes ls ++ blocks-bytes bs) (g .0) k₁ (l .0) (omega (arith, p)) (omega (arith, q, h′))
     ∙ ap (λ (i : ℕ). run (st (at + m + 1) (w + length x) (k + 1) i s₁) (sets out w x) (lines-bytes ls ++ blocks-bytes bs)) (sym (g .1))

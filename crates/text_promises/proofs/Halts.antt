@@ -23,9 +23,9 @@ use Rattle.series_lines.specs.Lexer.{fresh, lex, lexes, whole-count, whole-term
 use Rattle.series_lines.specs.Judge.{count-refusal, term-line-refusal}
 use Rattle.series_lines.specs.Reader.{last-offset, stopped, fits, put-bytes, wrote, wrote-out, uncounted, told}
 use Rattle.text.specs.Reader.{verdict, step, step-out, Run, run, ended}
-use Rattle.series_lines.specs.Grammar.{size, value, CountLine, count, count-bytes, GoodCount, TermLine, term-bytes, GoodTerm, term-of-line, TermInLimits}
+use Rattle.series_lines.specs.Grammar.{size, value, Count-line, count, count-bytes, Good-count, Term-line, term-bytes, Good-term, term-of-line, Term-in-limits}
 use Rattle.series_lines.specs.Grammar.{line-packed}
-use Rattle.text_promises.specs.Decided.{Awaits, BeginsCount, BeginsTerm, CanBegin, IsCount, IsTerm, IsLine, NumbersInLimits, Refuses}
+use Rattle.text_promises.specs.Decided.{Awaits, Begins-count, Begins-term, Can-begin, Is-count, Is-term, Is-line, Numbers-in-limits, Refuses}
 use Rattle.text_promises.specs.Decided.{after-end, bad-byte, early-feed, count-over, number-over, total-over, too-coarse, no-room-count, no-room-term}
 use Rattle.integers.proofs.Tests.{by-cases}
 use Rattle.text.proofs.Branches.{verdict-early}
@@ -136,13 +136,13 @@ bad-by spot xs b P h f =
     (λ z. absurd (h (f (λ q. eqb-false _ _ z (sym e ∙ q)))))
 
 -- A whole line is taken for no other.
-no-count : (xs : List ℕ) → (IsCount xs → ⊥) → whole-count (lexes (fresh 20) xs) ≡ false
+no-count : (xs : List ℕ) → (Is-count xs → ⊥) → whole-count (lexes (fresh 20) xs) ≡ false
 no-count xs h =
     by-cases (whole-count (lexes (fresh 20) xs))
     (λ p. let t = count-in xs (lexes (fresh 20) xs) p refl in absurd (h (record { c = t .k; good = t .good; is = t .is })))
     (λ p. p)
 
-no-term : (xs : List ℕ) → (IsTerm xs → ⊥) → whole-term (lexes (fresh 0) xs) ≡ false
+no-term : (xs : List ℕ) → (Is-term xs → ⊥) → whole-term (lexes (fresh 0) xs) ≡ false
 no-term xs h =
     by-cases (whole-term (lexes (fresh 0) xs))
     (λ p. let t = term-in xs (lexes (fresh 0) xs) p refl in absurd (h (record { t = t .t; good = t .good; is = t .is })))
@@ -150,7 +150,7 @@ no-term xs h =
 
 -- What the judgement of a count line and of a term line says.
 module _ (at w k : ℕ) (s : Tally) where
-  count-says : (l : CountLine) → GoodCount l
+  count-says : (l : Count-line) → Good-count l
       → (verdict (moved (sp 20 at w k 0 s) (lexes (fresh 20) (count-bytes l)) (length (count-bytes l))) .refusal ≡ count-refusal k s (count l))
       × (verdict (moved (sp 20 at w k 0 s) (lexes (fresh 20) (count-bytes l)) (length (count-bytes l))) .bytes ≡ encode (count l))
   count-says l g =
@@ -159,7 +159,7 @@ module _ (at w k : ℕ) (s : Tally) where
       (ap (λ (x : Line). whole-count x) e ∙ is-whole l g) (ap (λ (x : Line). x .value) e) in
       (v .0, v .1)
 
-  term-says : (n : ℕ) (l : TermLine) → GoodTerm l
+  term-says : (n : ℕ) (l : Term-line) → Good-term l
       → (verdict (moved (sp 0 at w k n s) (lexes (fresh 0) (term-bytes l)) (length (term-bytes l))) .refusal
       ≡ term-line-refusal (factor (k - 1)) s (flag (l .b .minus)) (term-of-line l))
       × (verdict (moved (sp 0 at w k n s) (lexes (fresh 0) (term-bytes l)) (length (term-bytes l))) .bytes ≡ pack-term (term-of-line l))
@@ -175,8 +175,8 @@ count-refused : (k : ℕ) (s : Tally) (n : ℕ) → k < block-count → count-fi
 unfolding count-refusal
 count-refused k s n h e = rw (lt-ltb k block-count h, e)
 
-module _ (f : ℕ) (s : Tally) (l : TermLine) where
-  pub number-refused : (NumbersInLimits l → ⊥) → term-line-refusal f s (flag (l .b .minus)) (term-of-line l) ≡ over-limit
+module _ (f : ℕ) (s : Tally) (l : Term-line) where
+  pub number-refused : (Numbers-in-limits l → ⊥) → term-line-refusal f s (flag (l .b .minus)) (term-of-line l) ≡ over-limit
   unfolding term-line-refusal term-refusal numbers-fit flag
   number-refused h = go (l .b .minus) refl (a-fits (value (l .a))) refl (b-fits (size (l .b))) refl (c-fits (value (l .c))) refl
     where
@@ -195,7 +195,7 @@ module _ (f : ℕ) (s : Tally) (l : TermLine) where
   unfolding term-line-refusal flag
   from-zero e = ap (λ (m : Bool). cond (eqb (flag m) 0) (term-refusal f s (term-of-line l)) over-limit) e
 
-  pub total-refused : NumbersInLimits l → total-fits s (value (l .a)) ≡ false
+  pub total-refused : Numbers-in-limits l → total-fits s (value (l .a)) ≡ false
       → term-line-refusal f s (flag (l .b .minus)) (term-of-line l) ≡ total-over-limit
   total-refused p e = from-zero (p .from-zero) ∙ go (p .a) (p .b) (p .c) e
     where
@@ -203,7 +203,7 @@ module _ (f : ℕ) (s : Tally) (l : TermLine) where
           → term-refusal f s (term-of-line l) ≡ total-over-limit
       go a b c e = unfold term-refusal numbers-fit in rw (a, b, c, e)
 
-  pub coarse-refused : NumbersInLimits l → total-fits s (value (l .a)) ≡ true → coarse-fits f s (value (l .a)) (size (l .b)) (value (l .c)) ≡ false
+  pub coarse-refused : Numbers-in-limits l → total-fits s (value (l .a)) ≡ true → coarse-fits f s (value (l .a)) (size (l .b)) (value (l .c)) ≡ false
       → term-line-refusal f s (flag (l .b .minus)) (term-of-line l) ≡ numbers.too-coarse
   coarse-refused p u e = from-zero (p .from-zero) ∙ go (p .a) (p .b) (p .c) u e
     where
@@ -213,10 +213,10 @@ module _ (f : ℕ) (s : Tally) (l : TermLine) where
 
 -- ---- Every refusal.
 
-good-count : (l : CountLine) → GoodCount l → BeginsCount (count-bytes l)
+good-count : (l : Count-line) → Good-count l → Begins-count (count-bytes l)
 good-count l g = record { rest = []; c = l; good = g; is = append-nil (count-bytes l) }
 
-good-term : (l : TermLine) → GoodTerm l → BeginsTerm (term-bytes l)
+good-term : (l : Term-line) → Good-term l → Begins-term (term-bytes l)
 good-term l g = record { rest = []; t = l; good = g; is = append-nil (term-bytes l) }
 
 inside-line : (at : ℕ) (xs : List ℕ) (b : ℕ) (more : List ℕ) → at + length (xs ++ (b ∷ more)) ≤ last-offset → at + length xs < last-offset
@@ -235,19 +235,19 @@ module _ (at w k : ℕ) (s : Tally) (o : List ℕ) where
   to-term : (n : ℕ) (xs : List ℕ) (f : Refusal) → Halts (sp 0 at w k (suc n) s) o xs f → Halts (st at w k (suc n) s) o xs f
   to-term n xs f e = subst (λ (i : ℕ). Halts (sp i at w k (suc n) s) o xs f) (sym (spot-term k n)) e
 
-  bad-byte-halts : (n : ℕ) (xs : List ℕ) (b : ℕ) (more : List ℕ) → Awaits k n → CanBegin n xs → (b ≡ 10 → ⊥) → (CanBegin n (xs ++ (b ∷ [])) → ⊥)
+  bad-byte-halts : (n : ℕ) (xs : List ℕ) (b : ℕ) (more : List ℕ) → Awaits k n → Can-begin n xs → (b ≡ 10 → ⊥) → (Can-begin n (xs ++ (b ∷ [])) → ⊥)
       → at + length (xs ++ (b ∷ more)) ≤ last-offset → Halts (st at w k n s) o (xs ++ (b ∷ more)) (BadByte (at + length xs))
-  unfolding CanBegin
+  unfolding Can-begin
   bad-byte-halts zero xs b more a c h x m =
       to-count _ _ (a refl) (bad-halts 20 at w k 0 s o xs (count-goes-on xs c) at-twenty (inside-line at xs b more m) b more h
-      (bad-by 20 xs b (BeginsCount (xs ++ (b ∷ []))) x (count-begins (xs ++ (b ∷ [])))))
+      (bad-by 20 xs b (Begins-count (xs ++ (b ∷ []))) x (count-begins (xs ++ (b ∷ [])))))
   bad-byte-halts (suc n) xs b more a c h x m =
       to-term n _ _ (bad-halts 0 at w k (suc n) s o xs (term-goes-on xs c) at-zero (inside-line at xs b more m) b more h
-      (bad-by 0 xs b (BeginsTerm (xs ++ (b ∷ []))) x (term-begins (xs ++ (b ∷ [])))))
+      (bad-by 0 xs b (Begins-term (xs ++ (b ∷ []))) x (term-begins (xs ++ (b ∷ [])))))
 
-  early-feed-halts : (n : ℕ) (xs more : List ℕ) → Awaits k n → CanBegin n xs → (IsLine n xs → ⊥)
+  early-feed-halts : (n : ℕ) (xs more : List ℕ) → Awaits k n → Can-begin n xs → (Is-line n xs → ⊥)
       → at + length (xs ++ (10 ∷ more)) ≤ last-offset → Halts (st at w k n s) o (xs ++ (10 ∷ more)) (BadByte (at + length xs))
-  unfolding CanBegin IsLine of-number
+  unfolding Can-begin Is-line of-number
   early-feed-halts zero xs more a c x m =
       to-count _ _ (a refl) (feed-halts 20 at w k 0 s o xs (count-goes-on xs c) at-twenty (inside-line at xs 10 more m) numbers.bad-byte more _
       (verdict-early (moved (sp 20 at w k 0 s) (lexes (fresh 20) xs) (length xs)) (no-count xs x) (not-term xs)) refl refl refl)
@@ -255,7 +255,7 @@ module _ (at w k : ℕ) (s : Tally) (o : List ℕ) where
       to-term n _ _ (feed-halts 0 at w k (suc n) s o xs (term-goes-on xs c) at-zero (inside-line at xs 10 more m) numbers.bad-byte more _
       (verdict-early (moved (sp 0 at w k (suc n) s) (lexes (fresh 0) xs) (length xs)) (not-count xs) (no-term xs x)) refl refl refl)
 
-  module _ (l : CountLine) (more : List ℕ) (h : k < block-count) (g : GoodCount l) (m : at + length (count-bytes l ++ (10 ∷ more)) ≤ last-offset) where
+  module _ (l : Count-line) (more : List ℕ) (h : k < block-count) (g : Good-count l) (m : at + length (count-bytes l ++ (10 ∷ more)) ≤ last-offset) where
     count-over-halts : count-fits s (count l) ≡ false → Halts (st at w k 0 s) o (count-bytes l ++ (10 ∷ more)) (OverLimit (at + length (count-bytes l)))
     unfolding of-number
     count-over-halts e =
@@ -269,14 +269,14 @@ module _ (at w k : ℕ) (s : Tally) (o : List ℕ) where
         to-count _ _ h (full-halts 20 at w k 0 s o (count-bytes l) (count-goes-on (count-bytes l) (good-count l g)) at-twenty
         (inside-line at (count-bytes l) 10 more m) more (v .0 ∙ count-zero k s (count l) h e) (rw (v .1) u))
 
-  module _ (n : ℕ) (l : TermLine) (more : List ℕ) (g : GoodTerm l) (m : at + length (term-bytes l ++ (10 ∷ more)) ≤ last-offset) where
+  module _ (n : ℕ) (l : Term-line) (more : List ℕ) (g : Good-term l) (m : at + length (term-bytes l ++ (10 ∷ more)) ≤ last-offset) where
     term-halts : (c : ℕ) (f : Refusal) → term-line-refusal (factor (k - 1)) s (flag (l .b .minus)) (term-of-line l) ≡ c → eqb c 0 ≡ false → eqb c 1 ≡ false
         → of-number c (at + length (term-bytes l)) ≡ f → Halts (st at w k (suc n) s) o (term-bytes l ++ (10 ∷ more)) f
     term-halts c f e y z i =
         to-term n _ _ (feed-halts 0 at w k (suc n) s o (term-bytes l) (term-goes-on (term-bytes l) (good-term l g)) at-zero
         (inside-line at (term-bytes l) 10 more m) c more f (term-says at w k s (suc n) l g .0 ∙ e) y z i)
 
-    term-full-halts : TermInLimits (factor (k - 1)) s l → length o < w + length (pack-term (term-of-line l))
+    term-full-halts : Term-in-limits (factor (k - 1)) s l → length o < w + length (pack-term (term-of-line l))
         → Halts (st at w k (suc n) s) o (term-bytes l ++ (10 ∷ more)) (NoRoom (at + length (term-bytes l)))
     term-full-halts e u =
         let v = term-says at w k s (suc n) l g in
@@ -338,9 +338,9 @@ opens r o xs q e s n =
     early : (q : Reader) → q .status ≡ 0 → (q .line .spot ≡ 30 → ⊥) → told (ended q) ≡ Refused (EndedEarly (q .at))
     early q s n = unfold told ended of-number in rw (eq-eqb (q .status) 0 s, ne-eqb (q .line .spot) 30 n)
 
-pub goes : (at w k n : ℕ) (s : Tally) (o xs : List ℕ) → Awaits k n → CanBegin n xs → at + length xs ≤ last-offset
+pub goes : (at w k n : ℕ) (s : Tally) (o xs : List ℕ) → Awaits k n → Can-begin n xs → at + length xs ≤ last-offset
     → Open (st at w k n s) o xs w (at + length xs)
-unfolding CanBegin
+unfolding Can-begin
 goes at w k zero s o xs a c m =
     subst (λ (i : ℕ). Open (sp i at w k 0 s) o xs w (at + length xs)) (sym (spot-count k (λ q. omega (arith, q, a refl))))
     (opens (sp 20 at w k 0 s) o xs (moved (sp 20 at w k 0 s) (lexes (fresh 20) xs) (length xs))

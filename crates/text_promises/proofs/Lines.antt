@@ -184,7 +184,7 @@ pub not-stopped : {P : Type 0} (r : Reader) (out xs : List ℕ) → (r .status �
 not-stopped r out xs h t = absurd (h (ap (λ (x : Run). x .reader .status) (sym (stays xs r out h)) ∙ t .status))
 
 -- The next line of a text that is taken: its bytes, the reader before its line feed, and what comes after.
-pub record NextLine (r : Reader) (out xs : List ℕ) : Type 0 where
+pub record Next-line (r : Reader) (out xs : List ℕ) : Type 0 where
   pub body : List ℕ
   pub rest : List ℕ
   pub before : Reader
@@ -211,7 +211,7 @@ feed-good r out xs g t =
     (λ z. let q : wrote r out (verdict r) ≡ stopped r (verdict r .refusal) = rw z in
     not-stopped (stopped r (verdict r .refusal)) (step-out r out 10) xs (eqb-false _ _ z) (rw (f ∙ q) at t))
 
-feed-line : (r : Reader) (out xs : List ℕ) → r .place ≡ 0 → Going r → Taken (run r out (10 ∷ xs)) → NextLine r out (10 ∷ xs)
+feed-line : (r : Reader) (out xs : List ℕ) → r .place ≡ 0 → Going r → Taken (run r out (10 ∷ xs)) → Next-line r out (10 ∷ xs)
 unfolding lexes
 feed-line r out xs p g t =
     let f = feed-good r out xs g (unfold run in t) in
@@ -232,7 +232,7 @@ unfolding step uncounted
 step-last r out x s e = rw (eq-eqb (r .status) 0 s, eq-eqb (r .at) last-offset e)
 
 pub byte-line : (r : Reader) (out : List ℕ) (x : ℕ) (xs : List ℕ) → Going r → (x ≡ 10 → ⊥) → (lex (r .line) x .spot ≡ 31 → ⊥)
-    → NextLine (further-in-line r (lex (r .line) x)) out xs → NextLine r out (x ∷ xs)
+    → Next-line (further-in-line r (lex (r .line) x)) out xs → Next-line r out (x ∷ xs)
 unfolding lexes run
 byte-line r out x xs g h k n =
     let t = step-in r out x g h k in
@@ -249,7 +249,7 @@ byte-line r out x xs g h k n =
     }
 
 pub next-line : (xs : List ℕ) (r : Reader) (out : List ℕ) → r .status ≡ 0 → r .place ≡ 0 → (r .line .spot ≡ 30 → ⊥)
-    → Taken (run r out xs) → NextLine r out xs
+    → Taken (run r out xs) → Next-line r out xs
 unfolding run
 next-line [] r out s p i t = absurd (i (t .spot))
 next-line (x ∷ xs) r out s p i t =

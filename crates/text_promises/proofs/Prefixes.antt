@@ -12,9 +12,9 @@ use lib.ListN.{length}
 use Rattle.units.specs.Refusals.{bad-byte}
 use Rattle.series_lines.specs.declared.Line.{Line}
 use Rattle.series_lines.specs.Lexer.{fresh, lex, lexes, whole-count, whole-term}
-use Rattle.series_lines.specs.Grammar.{digits, AllDigits, numeral, Natural, Decimal, size, decimal, GoodDecimal}
+use Rattle.series_lines.specs.Grammar.{digits, All-digits, numeral, Natural, Decimal, size, decimal, Good-decimal}
 use Rattle.series_lines.specs.Grammar.{count-bytes}
-pub use Rattle.text_promises.specs.Decided.{BeginsTerm, BeginsCount}
+pub use Rattle.text_promises.specs.Decided.{Begins-term, Begins-count}
 use Rattle.series_lines.proofs.Digits.{early}
 use Rattle.integers.proofs.Tests.{by-cases}
 use Rattle.text_promises.proofs.GoodLines.{put, keep, flag, ten, lexes-append, parts-run, lex-point, lex-keep, natural-run, whole-spots}
@@ -64,8 +64,8 @@ ones : ℕ → List ℕ
 ones zero = []
 ones (suc n) = 1 ∷ ones n
 
-ones-digits : (n : ℕ) → AllDigits (ones n)
-unfolding ones AllDigits
+ones-digits : (n : ℕ) → All-digits (ones n)
+unfolding ones All-digits
 ones-digits zero = tt
 ones-digits (suc n) = (lit< tt, ones-digits n)
 
@@ -82,8 +82,8 @@ ones-above (suc n) v = ones-above n (10 * v + 1)
 one : Decimal
 one = record { minus = false; first = 1; more = []; parts = ones 11 }
 
-one-good : GoodDecimal one
-unfolding one size numeral AllDigits
+one-good : Good-decimal one
+unfolding one size numeral All-digits
 one-good =
     record {
       whole = record { digit = lit< tt; digits = tt; few = omega arith; leading = λ e. refl };
@@ -124,7 +124,7 @@ point-finish l s m v f h k b =
     by-bytes (put l s m v) (put l 7 m v) (46 ∷ []) (lex-point l s m v h k) (parts-finish 10 l 7 m v f (omega arith) refl (omega (arith, b)))
 
 one-digit : (n : ℕ) → 1 ≤ n → Natural n 1 []
-unfolding AllDigits
+unfolding All-digits
 one-digit n h = record { digit = lit< tt; digits = tt; few = h; leading = λ e. refl }
 
 first-finish : (l : Line) (m : ℕ) → l .field ≤ 2 → Finish (put l 0 m 0)
@@ -162,13 +162,13 @@ finish l v =
     none-yet s v e h = let k : v < 10 ^ 0 = rw e at h in omega arith
 
 -- A term line.
-pub term-begins : (xs : List ℕ) → (lexes (fresh 0) xs .spot ≡ 31 → ⊥) → BeginsTerm xs
+pub term-begins : (xs : List ℕ) → (lexes (fresh 0) xs .spot ≡ 31 → ⊥) → Begins-term xs
 term-begins xs h =
     let f = finish (lexes (fresh 0) xs) (live xs (fresh 0) (record { spot = omega arith; field = omega arith; value = omega arith }) h) in
     let t = term-in (xs ++ f .ys) (lexes (fresh 0) (xs ++ f .ys)) (ap (λ (l : Line). whole-term l) (lexes-append (fresh 0) xs (f .ys)) ∙ f .whole) refl in
     record { rest = f .ys; t = t .t; good = t .good; is = t .is }
 
-pub term-goes-on : (xs : List ℕ) → BeginsTerm xs → lexes (fresh 0) xs .spot ≡ 31 → ⊥
+pub term-goes-on : (xs : List ℕ) → Begins-term xs → lexes (fresh 0) xs .spot ≡ 31 → ⊥
 term-goes-on xs b e =
     let s = bad-end (lexes (fresh 0) xs) (b .rest) e in
     let q = sym (lexes-append (fresh 0) xs (b .rest)) ∙ ap (λ (ys : List ℕ). lexes (fresh 0) ys) (b .is) ∙ term-run (b .t) (b .good) in
@@ -203,8 +203,8 @@ first-live byte = go (lex (fresh 20) byte) (view (fresh 20) byte)
     go _ (kept i g t) j = absurd (omega arith)
     go _ (negated i g t) j = absurd (omega arith)
 
-pub count-begins : (xs : List ℕ) → (lexes (fresh 20) xs .spot ≡ 31 → ⊥) → BeginsCount xs
-unfolding lexes count-bytes digits AllDigits
+pub count-begins : (xs : List ℕ) → (lexes (fresh 20) xs .spot ≡ 31 → ⊥) → Begins-count xs
+unfolding lexes count-bytes digits All-digits
 count-begins [] h =
     record { rest = 49 ∷ []; c = record { first = 1; more = [] }; good = one-digit 4 (omega arith); is = refl }
 count-begins (x ∷ xs) h =
@@ -212,7 +212,7 @@ count-begins (x ∷ xs) h =
     let c = count-in (x ∷ xs) (lexes (fresh 20) (x ∷ xs)) (counting xs (lex (fresh 20) x) (omega (arith, s)) (omega (arith, s)) h) refl in
     record { rest = []; c = c .k; good = c .good; is = append-nil (x ∷ xs) ∙ c .is }
 
-pub count-goes-on : (xs : List ℕ) → BeginsCount xs → lexes (fresh 20) xs .spot ≡ 31 → ⊥
+pub count-goes-on : (xs : List ℕ) → Begins-count xs → lexes (fresh 20) xs .spot ≡ 31 → ⊥
 count-goes-on xs b e =
     let s = bad-end (lexes (fresh 20) xs) (b .rest) e in
     let q = sym (lexes-append (fresh 20) xs (b .rest)) ∙ ap (λ (ys : List ℕ). lexes (fresh 20) ys) (b .is) ∙ count-run (b .c) (b .good) in

@@ -11,25 +11,25 @@ use Rattle.limits.specs.declared.Tally.{Tally}
 use Rattle.limits.specs.Limits.{factor, no-tally, opened, added, after-block}
 use Rattle.packed.specs.Series.{accepted, parse, pack}
 use Rattle.limits.specs.Allowed.{Allowed}
-use Rattle.limits.proofs.Passing.{GoodTerm, good-of, passes-of, count-passed, count-passes}
+use Rattle.limits.proofs.Passing.{Good-term, good-of, passes-of, count-passed, count-passes}
 use Rattle.limits.proofs.Terms as limits
 use Rattle.limits.proofs.Series as judged
 use Rattle.packed_promises.proofs.Theorems.{pack-parse}
 use Rattle.series_lines.specs.declared.Outcome.the-variants.{Accepted}
 use Rattle.series_lines.specs.Reader.{told}
 use Rattle.text.specs.Reader.{whole}
-use Rattle.series_lines.specs.Grammar.{count, TermLine, Block, term-of-line, terms-of-lines, blocks-of-lines, GoodBlocks, GoodText}
-use Rattle.series_lines.specs.Grammar.{TermInLimits, TermsInLimits, BlocksInLimits, InLimits}
+use Rattle.series_lines.specs.Grammar.{count, Term-line, Block, term-of-line, terms-of-lines, blocks-of-lines, Good-blocks, Good-text}
+use Rattle.series_lines.specs.Grammar.{Term-in-limits, Terms-in-limits, Blocks-in-limits, In-limits}
 use Rattle.text_promises.proofs.Verdicts.{within-passes, passes-within}
 use Rattle.text_promises.proofs.Theorems.{Reads, accepted-text}
 pub use Rattle.text_promises.proofs.TakenTexts.{length-terms}
 
 -- ---- The limits of a term, as the text and as the packed series have them.
 
-term-out : (f : ℕ) (s : Tally) (l : TermLine) → TermInLimits f s l → GoodTerm f s (term-of-line l)
+term-out : (f : ℕ) (s : Tally) (l : Term-line) → Term-in-limits f s l → Good-term f s (term-of-line l)
 term-out f s l g = good-of f s (term-of-line l) (within-passes f s l g)
 
-term-in : (f : ℕ) (s : Tally) (l : TermLine) → l .b .minus ≡ false → GoodTerm f s (term-of-line l) → TermInLimits f s l
+term-in : (f : ℕ) (s : Tally) (l : Term-line) → l .b .minus ≡ false → Good-term f s (term-of-line l) → Term-in-limits f s l
 term-in f s l u g = passes-within f s l u (passes-of f s (term-of-line l) g)
 
 -- ---- As many blocks of terms as blocks.
@@ -41,13 +41,13 @@ length-blocks (k ∷ ks) = ap suc (length-blocks ks)
 
 -- ---- Lines within the limits have numbers within the limits.
 
-terms-out : (f : ℕ) (s : Tally) (ls : List TermLine) → TermsInLimits f s ls → limits.GoodTerms f s (terms-of-lines ls)
-unfolding TermsInLimits terms-of-lines
+terms-out : (f : ℕ) (s : Tally) (ls : List Term-line) → Terms-in-limits f s ls → limits.Good-terms f s (terms-of-lines ls)
+unfolding Terms-in-limits terms-of-lines
 terms-out f s [] h = limits.good-none
 terms-out f s (l ∷ ls) h = limits.good-term (term-out f s l (h .0)) (terms-out f (added f s (term-of-line l)) ls (h .1))
 
-blocks-out : (k : ℕ) (s : Tally) (ks : List Block) → GoodBlocks ks → BlocksInLimits k s ks → judged.GoodBlocks k s (blocks-of-lines ks)
-unfolding GoodBlocks BlocksInLimits blocks-of-lines
+blocks-out : (k : ℕ) (s : Tally) (ks : List Block) → Good-blocks ks → Blocks-in-limits k s ks → judged.Good-blocks k s (blocks-of-lines ks)
+unfolding Good-blocks Blocks-in-limits blocks-of-lines
 blocks-out k s [] g l = judged.none
 blocks-out k s (b ∷ bs) g l =
     let n : count (b .head) ≡ length (terms-of-lines (b .lines)) = sym (g .1) ∙ sym (length-terms (b .lines)) in
@@ -56,28 +56,28 @@ blocks-out k s (b ∷ bs) g l =
     (record { few = rw n at (c .few); fewer = rw n at (c .fewer); terms = rw n at (terms-out (factor k) (opened k (count (b .head)) s) (b .lines) (l .1)) })
     (blocks-out (k + 1) (after-block k s (terms-of-lines (b .lines))) bs (g .3) (l .2))
 
-pub text-allowed : (ks : List Block) → GoodText ks → InLimits ks → Allowed (blocks-of-lines ks)
+pub text-allowed : (ks : List Block) → Good-text ks → In-limits ks → Allowed (blocks-of-lines ks)
 text-allowed ks g l = judged.good-allowed (blocks-of-lines ks) (length-blocks ks ∙ g .eighteen) (blocks-out 0 no-tally ks (g .good) l)
 
 -- ---- And back, where no b has a minus.
 
 -- No b of these lines has a minus.
-unfoldable pub NoMinus : List TermLine → Type 0
-NoMinus [] = Unit {0}
-NoMinus (l ∷ ls) = (l .b .minus ≡ false) × NoMinus ls
+unfoldable pub No-minus : List Term-line → Type 0
+No-minus [] = Unit {0}
+No-minus (l ∷ ls) = (l .b .minus ≡ false) × No-minus ls
 
 -- Nor of these blocks.
-unfoldable pub FromZero : List Block → Type 0
-FromZero [] = Unit {0}
-FromZero (k ∷ ks) = NoMinus (k .lines) × FromZero ks
+unfoldable pub From-zero : List Block → Type 0
+From-zero [] = Unit {0}
+From-zero (k ∷ ks) = No-minus (k .lines) × From-zero ks
 
-terms-in : (f : ℕ) (s : Tally) (ls : List TermLine) → NoMinus ls → limits.GoodTerms f s (terms-of-lines ls) → TermsInLimits f s ls
-unfolding TermsInLimits terms-of-lines NoMinus
+terms-in : (f : ℕ) (s : Tally) (ls : List Term-line) → No-minus ls → limits.Good-terms f s (terms-of-lines ls) → Terms-in-limits f s ls
+unfolding Terms-in-limits terms-of-lines No-minus
 terms-in f s [] u h = tt
 terms-in f s (l ∷ ls) u (limits.good-term g h) = (term-in f s l (u .0) g, terms-in f (added f s (term-of-line l)) ls (u .1) h)
 
-pub blocks-in : (k : ℕ) (s : Tally) (ks : List Block) → GoodBlocks ks → FromZero ks → judged.GoodBlocks k s (blocks-of-lines ks) → BlocksInLimits k s ks
-unfolding GoodBlocks BlocksInLimits blocks-of-lines FromZero
+pub blocks-in : (k : ℕ) (s : Tally) (ks : List Block) → Good-blocks ks → From-zero ks → judged.Good-blocks k s (blocks-of-lines ks) → Blocks-in-limits k s ks
+unfolding Good-blocks Blocks-in-limits blocks-of-lines From-zero
 blocks-in k s [] g u h = tt
 blocks-in k s (b ∷ bs) g u (judged.more c h) =
     let n : length (terms-of-lines (b .lines)) ≡ count (b .head) = length-terms (b .lines) ∙ g .1 in (

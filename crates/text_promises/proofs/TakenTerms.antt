@@ -8,7 +8,7 @@ use native.Mathlib.Omega.{arith}
 use lib.ListN.{length}
 use Rattle.series_lines.specs.declared.Line.{Line}
 use Rattle.series_lines.specs.Lexer.{fresh, takes-digit, lex, lexes, whole-term}
-use Rattle.series_lines.specs.Grammar.{spaces, sign, digits, AllDigits, numeral, Decimal, size, decimal, GoodDecimal, TermLine, term-bytes, GoodTerm}
+use Rattle.series_lines.specs.Grammar.{spaces, sign, digits, All-digits, numeral, Decimal, size, decimal, Good-decimal, Term-line, term-bytes, Good-term}
 use Rattle.text_promises.proofs.GoodLines.{put, keep, flag, line-of-term}
 use Rattle.text_promises.proofs.OneByte.{Lexed, none, digit, pointed, spaced, kept, negated, view, term-of, no-term, never, last-part, whole-more}
 use Rattle.series_lines.proofs.Digits.{after-decimal, small}
@@ -23,7 +23,7 @@ record Parts (l : Line) (m v n : ℕ) (xs : List ℕ) (F : Line) : Type 0 where
   ds : List ℕ
   ys : List ℕ
   is : xs ≡ digits ds ++ ys
-  all : AllDigits ds
+  all : All-digits ds
   long : length ds ≡ n
   sized : (m ≡ 0) ⊎ (0 < numeral v ds)
   rest : lexes (put l 18 m (numeral v ds)) ys ≡ F
@@ -31,7 +31,7 @@ record Parts (l : Line) (m v n : ℕ) (xs : List ℕ) (F : Line) : Type 0 where
 -- One more decimal, the last or not.
 module _ (l : Line) (s m v : ℕ) (b : ℕ) (bs : List ℕ) (F : Line) (w : whole-term F ≡ true) (low : 7 ≤ s) where
   parts-last : s ≡ 17 → (L : Line) → Lexed (put l s m v) b L → lexes L bs ≡ F → Parts l m v 1 (b ∷ bs) F
-  unfolding digits numeral AllDigits
+  unfolding digits numeral All-digits
   parts-last e _ none q = no-term bs F q w
   parts-last e _ (digit d i h t) q =
       record {
@@ -50,7 +50,7 @@ module _ (l : Line) (s m v : ℕ) (b : ℕ) (bs : List ℕ) (F : Line) (w : whol
 
   parts-more : (n : ℕ) → s < 17 → ((v′ : ℕ) → lexes (put l (s + 1) m v′) bs ≡ F → Parts l m v′ n bs F)
       → (L : Line) → Lexed (put l s m v) b L → lexes L bs ≡ F → Parts l m v (suc n) (b ∷ bs) F
-  unfolding digits numeral AllDigits
+  unfolding digits numeral All-digits
   parts-more n e rec _ none q = no-term bs F q w
   parts-more n e rec _ (digit d i h t) q =
       let p = rec (10 * v + d) q in
@@ -83,7 +83,7 @@ record Whole (l : Line) (s m v : ℕ) (xs : List ℕ) (F : Line) : Type 0 where
   ds : List ℕ
   ys : List ℕ
   is : xs ≡ digits ds ++ (46 ∷ ys)
-  all : AllDigits ds
+  all : All-digits ds
   few : s + length ds ≤ 6
   leading : v ≡ 0 → ds ≡ []
   rest : lexes (put l 7 m (numeral v ds)) ys ≡ F
@@ -91,7 +91,7 @@ record Whole (l : Line) (s m v : ℕ) (xs : List ℕ) (F : Line) : Type 0 where
 module _ (l : Line) (s m v : ℕ) (b : ℕ) (bs : List ℕ) (F : Line) (w : whole-term F ≡ true) (low : 1 ≤ s) (high : s ≤ 6) where
   whole-next : ((v′ : ℕ) → s + 1 ≤ 6 → lexes (put l (s + 1) m v′) bs ≡ F → Whole l (s + 1) m v′ bs F)
       → (L : Line) → Lexed (put l s m v) b L → lexes L bs ≡ F → Whole l s m v (b ∷ bs) F
-  unfolding digits numeral AllDigits
+  unfolding digits numeral All-digits
   whole-next rec _ none q = no-term bs F q w
   whole-next rec _ (digit d i h t) q =
       let k = whole-more s m v d low high t in
@@ -199,11 +199,11 @@ lead [] l F w q = let t = term-of F w in let e = ap (λ (x : Line). x .spot) q i
 lead (b ∷ bs) l F w q = lead-next l b bs F w (λ r. lead bs l F w r) (lex (put l 0 0 0) b) (view (put l 0 0 0) b) q
 
 -- A decimal after spaces.
-record DecimalIn (l : Line) (xs : List ℕ) (F : Line) : Type 0 where
+record Decimal-in (l : Line) (xs : List ℕ) (F : Line) : Type 0 where
   n : ℕ
   d : Decimal
   ys : List ℕ
-  good : GoodDecimal d
+  good : Good-decimal d
   is : xs ≡ spaces n ++ (decimal d ++ ys)
   rest : lexes (put l 18 (flag (d .minus)) (size d)) ys ≡ F
 
@@ -221,7 +221,7 @@ joined n m d w p ys =
     (ap (λ (x : List ℕ). sign m ++ ((48 + d) ∷ x)) (sym (append-assoc (digits w) (46 ∷ digits p) ys))
     ∙ sym (append-assoc (sign m) ((48 + d) ∷ (digits w ++ (46 ∷ digits p))) ys))
 
-decimal-in : (xs : List ℕ) (l : Line) (F : Line) → whole-term F ≡ true → lexes (put l 0 0 0) xs ≡ F → DecimalIn l xs F
+decimal-in : (xs : List ℕ) (l : Line) (F : Line) → whole-term F ≡ true → lexes (put l 0 0 0) xs ≡ F → Decimal-in l xs F
 unfolding decimal size
 decimal-in xs l F w q =
     let a = lead xs l F w q in
@@ -278,9 +278,9 @@ ends (b ∷ bs) l m v F w h q = go (lex (put l 18 m v) b) (view (put l 18 m v) b
     go _ (negated i k j) r = absurd (omega arith)
 
 -- A term line that was taken follows the grammar.
-pub record TermIn (xs : List ℕ) (F : Line) : Type 0 where
-  pub t : TermLine
-  pub good : GoodTerm t
+pub record Term-in (xs : List ℕ) (F : Line) : Type 0 where
+  pub t : Term-line
+  pub good : Good-term t
   pub is : xs ≡ term-bytes t
   pub line : line-of-term t ≡ F
 
@@ -289,7 +289,7 @@ strung : (s₁ s₂ s₃ : List ℕ) (a b c xs ys₁ zs₁ ys₂ zs₂ ys₃ : L
     → zs₂ ≡ s₃ ++ (c ++ ys₃) → ys₃ ≡ [] → xs ≡ s₁ ++ (a ++ ((32 ∷ s₂) ++ (b ++ ((32 ∷ s₃) ++ c))))
 strung s₁ s₂ s₃ a b c xs ys₁ zs₁ ys₂ zs₂ ys₃ e₁ f₁ e₂ f₂ e₃ f₃ = rw (e₁, f₁, e₂, f₂, e₃, f₃, append-nil c)
 
-pub term-in : (xs : List ℕ) (F : Line) → whole-term F ≡ true → lexes (fresh 0) xs ≡ F → TermIn xs F
+pub term-in : (xs : List ℕ) (F : Line) → whole-term F ≡ true → lexes (fresh 0) xs ≡ F → Term-in xs F
 unfolding term-bytes
 term-in xs F w q =
     let a = decimal-in xs (fresh 0) F w q in

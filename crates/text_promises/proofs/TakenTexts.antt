@@ -19,9 +19,9 @@ use Rattle.series_lines.specs.Lexer.{fresh, lexes}
 use Rattle.series_lines.specs.Judge.{count-refusal, term-line-refusal}
 use Rattle.series_lines.specs.Reader.{last-offset, stopped, next-spot, uncounted}
 use Rattle.text.specs.Reader.{step, step-out, Run, run}
-use Rattle.series_lines.specs.Grammar.{CountLine, count, count-bytes, GoodCount, TermLine, term-bytes, GoodTerm, term-of-line}
-use Rattle.series_lines.specs.Grammar.{Block, lines-bytes, blocks-bytes, terms-of-lines, blocks-of-lines, AllGood, GoodBlocks}
-use Rattle.series_lines.specs.Grammar.{TermsInLimits, BlocksInLimits}
+use Rattle.series_lines.specs.Grammar.{Count-line, count, count-bytes, Good-count, Term-line, term-bytes, Good-term, term-of-line}
+use Rattle.series_lines.specs.Grammar.{Block, lines-bytes, blocks-bytes, terms-of-lines, blocks-of-lines, All-good, Good-blocks}
+use Rattle.series_lines.specs.Grammar.{Terms-in-limits, Blocks-in-limits}
 use Rattle.integers.proofs.Tests.{by-cases}
 use Rattle.series_lines.proofs.WrittenTerm.{sets-append}
 use Rattle.text_promises.proofs.GoodLines.{flag}
@@ -32,23 +32,23 @@ use Rattle.series_lines.proofs.LineLimits.{count-limits}
 use Rattle.text_promises.proofs.Verdicts.{sp, st, count-verdict, term-verdict, term-limits, ends-count, ends-term}
 
 -- The packed form of a count line and of a term line.
-abbrev pub count-packed : CountLine → List ℕ
+abbrev pub count-packed : Count-line → List ℕ
 count-packed c = encode (count c)
 
-abbrev pub term-packed : TermLine → List ℕ
+abbrev pub term-packed : Term-line → List ℕ
 term-packed t = pack-term (term-of-line t)
 
 -- The reader after a count line and after a term line that were written, at the offset to, with w bytes written before them.
-abbrev pub after-count : (to w k : ℕ) → Tally → CountLine → Reader
+abbrev pub after-count : (to w k : ℕ) → Tally → Count-line → Reader
 after-count to w k s c = st to (w + length (count-packed c)) (k + 1) (count c) (opened k (count c) s)
 
-abbrev pub after-term : (to w k n : ℕ) → Tally → TermLine → Reader
+abbrev pub after-term : (to w k n : ℕ) → Tally → Term-line → Reader
 after-term to w k n s t = st to (w + length (term-packed t)) k (n - 1) (added (factor (k - 1)) s (term-of-line t))
 
 -- A count line that is taken, and what is left to read.
-record CountStep (at w k : ℕ) (s : Tally) (out xs : List ℕ) : Type 0 where
-  c : CountLine
-  good : GoodCount c
+record Count-step (at w k : ℕ) (s : Tally) (out xs : List ℕ) : Type 0 where
+  c : Count-line
+  good : Good-count c
   rest : List ℕ
   to : ℕ
   is : xs ≡ count-bytes c ++ (10 ∷ rest)
@@ -56,7 +56,7 @@ record CountStep (at w k : ℕ) (s : Tally) (out xs : List ℕ) : Type 0 where
   room : w + length (count-packed c) ≤ length out
   next : run (sp 20 at w k 0 s) out xs ≡ run (after-count to w k s c) (sets out w (count-packed c)) rest
 
-count-step : (xs : List ℕ) (at w k : ℕ) (s : Tally) (out : List ℕ) → Taken (run (sp 20 at w k 0 s) out xs) → CountStep at w k s out xs
+count-step : (xs : List ℕ) (at w k : ℕ) (s : Tally) (out : List ℕ) → Taken (run (sp 20 at w k 0 s) out xs) → Count-step at w k s out xs
 count-step xs at w k s out t =
     let n = next-line xs (sp 20 at w k 0 s) out refl refl (λ e. omega (arith, e)) t in
     let m = length (n .body) in
@@ -79,9 +79,9 @@ count-step xs at w k s out t =
     }
 
 -- A term line that is taken.
-record TermStep (at w k n : ℕ) (s : Tally) (out xs : List ℕ) : Type 0 where
-  t : TermLine
-  good : GoodTerm t
+record Term-step (at w k n : ℕ) (s : Tally) (out xs : List ℕ) : Type 0 where
+  t : Term-line
+  good : Good-term t
   rest : List ℕ
   to : ℕ
   is : xs ≡ term-bytes t ++ (10 ∷ rest)
@@ -89,7 +89,7 @@ record TermStep (at w k n : ℕ) (s : Tally) (out xs : List ℕ) : Type 0 where
   room : w + length (term-packed t) ≤ length out
   next : run (sp 0 at w k n s) out xs ≡ run (after-term to w k n s t) (sets out w (term-packed t)) rest
 
-term-step : (xs : List ℕ) (at w k n : ℕ) (s : Tally) (out : List ℕ) → Taken (run (sp 0 at w k n s) out xs) → TermStep at w k n s out xs
+term-step : (xs : List ℕ) (at w k n : ℕ) (s : Tally) (out : List ℕ) → Taken (run (sp 0 at w k n s) out xs) → Term-step at w k n s out xs
 term-step xs at w k left s out t =
     let n = next-line xs (sp 0 at w k left s) out refl refl (λ e. omega (arith, e)) t in
     let m = length (n .body) in
@@ -121,19 +121,19 @@ after-step x xs at w k n s out t =
     (λ z. not-stopped (stopped (sp 30 at w k n s) byte-after-end) (step-out (sp 30 at w k n s) out x) xs (λ e. omega (arith, e)) (rw z at t))
 
 -- What is left of a text that is taken: the terms left of the block, then blocks.
-abbrev pub packs : List TermLine → List Block → List ℕ
+abbrev pub packs : List Term-line → List Block → List ℕ
 packs ls ks = pack-terms (terms-of-lines ls) ++ pack (blocks-of-lines ks)
 
 pub record Rest (w k n : ℕ) (s : Tally) (out xs : List ℕ) (end : Run) : Type 0 where
-  pub lines : List TermLine
+  pub lines : List Term-line
   pub ks : List Block
   pub is : xs ≡ lines-bytes lines ++ blocks-bytes ks
   pub left : length lines ≡ n
-  pub good : AllGood lines
-  pub limits : TermsInLimits (factor (k - 1)) s lines
+  pub good : All-good lines
+  pub limits : Terms-in-limits (factor (k - 1)) s lines
   pub count : k + length ks ≡ 18
-  pub goods : GoodBlocks ks
-  pub all : BlocksInLimits k (summed (factor (k - 1)) s (terms-of-lines lines)) ks
+  pub goods : Good-blocks ks
+  pub all : Blocks-in-limits k (summed (factor (k - 1)) s (terms-of-lines lines)) ks
   pub room : w + length (packs lines ks) ≤ length out
   pub wrote : end .out ≡ sets out w (packs lines ks)
   pub written : end .reader .written ≡ w + length (packs lines ks)
@@ -149,7 +149,7 @@ module _ (w : ℕ) (x y out : List ℕ) where
   join-written : (n : ℕ) → n ≡ w + length x + length y → n ≡ w + length (x ++ y)
   join-written n e = omega (arith, e, length-append x y)
 
-pub length-terms : (ls : List TermLine) → length (terms-of-lines ls) ≡ length ls
+pub length-terms : (ls : List Term-line) → length (terms-of-lines ls) ≡ length ls
 unfolding terms-of-lines
 length-terms [] = refl
 length-terms (l ∷ ls) = ap suc (length-terms ls)
@@ -160,17 +160,17 @@ packs-block b ks =
     append-assoc (encode (length (terms-of-lines (b .lines)))) (pack-terms (terms-of-lines (b .lines))) (pack (blocks-of-lines ks))
     ∙ (rw (length-terms (b .lines)))
 
-packs-term : (t : TermLine) (ls : List TermLine) (ks : List Block) → packs (t ∷ ls) ks ≡ pack-term (term-of-line t) ++ packs ls ks
+packs-term : (t : Term-line) (ls : List Term-line) (ks : List Block) → packs (t ∷ ls) ks ≡ pack-term (term-of-line t) ++ packs ls ks
 unfolding pack-terms terms-of-lines
 packs-term t ls ks = append-assoc (pack-term (term-of-line t)) (pack-terms (terms-of-lines ls)) (pack (blocks-of-lines ks))
 
 pub less : (k : ℕ) → k + 1 - 1 ≡ k
 less k = omega arith
 
-count-rest : (at w k : ℕ) (s : Tally) (out xs : List ℕ) (end : Run) (c : CountStep at w k s out xs)
+count-rest : (at w k : ℕ) (s : Tally) (out xs : List ℕ) (end : Run) (c : Count-step at w k s out xs)
     → Rest (w + length (count-packed (c .c))) (k + 1) (count (c .c)) (opened k (count (c .c)) s) (sets out w (count-packed (c .c))) (c .rest) end
     → Rest w k 0 s out xs end
-unfolding lines-bytes blocks-bytes AllGood GoodBlocks TermsInLimits BlocksInLimits summed after-block terms-of-lines
+unfolding lines-bytes blocks-bytes All-good Good-blocks Terms-in-limits Blocks-in-limits summed after-block terms-of-lines
 count-rest at w k s out xs end c r =
     let n = count (c .c) in
     let b : Block = record { head = c .c; lines = r .lines } in
@@ -195,10 +195,10 @@ count-rest at w k s out xs end c r =
       written = rw q (join-written w (encode n) (packs (r .lines) (r .ks)) out (end .reader .written) (r .written));
     }
 
-term-rest : (at w k n : ℕ) (s : Tally) (out xs : List ℕ) (end : Run) (c : TermStep at w k (suc n) s out xs)
+term-rest : (at w k n : ℕ) (s : Tally) (out xs : List ℕ) (end : Run) (c : Term-step at w k (suc n) s out xs)
     → Rest (w + length (term-packed (c .t))) k n (added (factor (k - 1)) s (term-of-line (c .t))) (sets out w (term-packed (c .t))) (c .rest) end
     → Rest w k (suc n) s out xs end
-unfolding lines-bytes AllGood TermsInLimits summed terms-of-lines
+unfolding lines-bytes All-good Terms-in-limits summed terms-of-lines
 term-rest at w k n s out xs end c r =
     let x = term-packed (c .t) in
     let q = packs-term (c .t) (r .lines) (r .ks) in
@@ -222,7 +222,7 @@ term-rest at w k n s out xs end c r =
 
 none-rest : (xs : List ℕ) (at w k n : ℕ) (s : Tally) (out : List ℕ) → w ≤ length out → Taken (run (sp 30 at w 18 0 s) out xs)
     → Rest w 18 0 s out xs (run (sp 30 at w 18 0 s) out xs)
-unfolding lines-bytes blocks-bytes AllGood GoodBlocks TermsInLimits BlocksInLimits pack-terms pack terms-of-lines blocks-of-lines run
+unfolding lines-bytes blocks-bytes All-good Good-blocks Terms-in-limits Blocks-in-limits pack-terms pack terms-of-lines blocks-of-lines run
 none-rest [] at w k n s out h t =
     record {
       lines = [];
@@ -259,7 +259,7 @@ Shorter xs =
     → Rest w k n s out ys (run (st at w k n s) out ys)
 
 module _ (xs : List ℕ) (rec : Shorter xs) (at w k : ℕ) (s : Tally) (out : List ℕ) where
-  of-count : CountStep at w k s out xs → Taken (run (sp 20 at w k 0 s) out xs) → Rest w k 0 s out xs (run (sp 20 at w k 0 s) out xs)
+  of-count : Count-step at w k s out xs → Taken (run (sp 20 at w k 0 s) out xs) → Rest w k 0 s out xs (run (sp 20 at w k 0 s) out xs)
   of-count c t =
       let n = count (c .c) in
       rw (c .next)
@@ -267,7 +267,7 @@ module _ (xs : List ℕ) (rec : Shorter xs) (at w k : ℕ) (s : Tally) (out : Li
       (rec (c .rest) (c .to) (w + length (encode n)) (k + 1) n (opened k n s) (sets out w (encode n))
       (shorter xs (count-bytes (c .c)) (c .rest) (c .is)) (omega (arith, c .room, length-sets out w (encode n))) (rw (c .next) at t)))
 
-  of-term : (n : ℕ) → TermStep at w k (suc n) s out xs → Taken (run (sp 0 at w k (suc n) s) out xs)
+  of-term : (n : ℕ) → Term-step at w k (suc n) s out xs → Taken (run (sp 0 at w k (suc n) s) out xs)
       → Rest w k (suc n) s out xs (run (sp 0 at w k (suc n) s) out xs)
   of-term n c t =
       let x = term-packed (c .t) in

@@ -18,16 +18,16 @@ use Rattle.series_lines.proofs.Calls as fold
 pub use Rattle.text.specs.Reader.{calls, Reads}
 use Rattle.series_lines.specs.Reader.{last-offset, next-spot, stopped, told}
 use Rattle.text.specs.Reader.{begun, step, step-out, Run, run, ended, whole}
-use Rattle.series_lines.specs.Grammar.{feed, Block, lines-bytes, terms-of-lines, blocks-bytes, blocks-of-lines, GoodText, InLimits}
+use Rattle.series_lines.specs.Grammar.{feed, Block, lines-bytes, terms-of-lines, blocks-bytes, blocks-of-lines, Good-text, In-limits}
 use Rattle.integers.proofs.Tests.{by-cases}
 use Rattle.text_promises.proofs.GoodLines.{lexes-append}
 use Rattle.text_promises.proofs.Lines.{Going, stays}
-use Rattle.text_promises.proofs.Prefixes.{BeginsTerm, term-begins, term-goes-on, BeginsCount, count-begins, count-goes-on, refused-by}
-use Rattle.text_promises.proofs.Feeds.{IsTerm, IsCount, feed-term, feed-count}
+use Rattle.text_promises.proofs.Prefixes.{Begins-term, term-begins, term-goes-on, Begins-count, count-begins, count-goes-on, refused-by}
+use Rattle.text_promises.proofs.Feeds.{Is-term, Is-count, feed-term, feed-count}
 pub use Rattle.text_promises.proofs.Counted.{cut}
 use Rattle.text_promises.proofs.Counted.{counted, uncounted-out}
 use Rattle.text_promises.proofs.Decided.{decided, decided-so-far}
-use Rattle.text_promises.specs.Decided.{Answers, AnswersSoFar}
+use Rattle.text_promises.specs.Decided.{Answers, Answers-so-far}
 use Rattle.series_lines.specs.declared.Line.{Line}
 use Rattle.series_lines.specs.Lexer.{spot-decimal, spot-count, spot-after, fresh, lex, lexes}
 use Rattle.text_promises.proofs.TakenTexts.{rest-in}
@@ -68,7 +68,7 @@ pub ended-again : (r : Reader) → ended (ended r) ≡ ended r
 ended-again r = repeats-end (ended r) (ended-stops r)
 
 -- A text that follows the grammar within the limits, and has room, is accepted; the output holds its packed form, the rest of it untouched.
-pub read-text : (ks : List Block) (out : List ℕ) → GoodText ks → InLimits ks → length (blocks-bytes ks) ≤ last-offset
+pub read-text : (ks : List Block) (out : List ℕ) → Good-text ks → In-limits ks → length (blocks-bytes ks) ≤ last-offset
     → length (pack (blocks-of-lines ks)) ≤ length out
     → (told (whole (blocks-bytes ks) out .reader) ≡ Accepted (length (pack (blocks-of-lines ks))))
     × (whole (blocks-bytes ks) out .out ≡ sets out 0 (pack (blocks-of-lines ks)))
@@ -121,7 +121,7 @@ decided-cut text out ps e c =
 
 -- So are the answer after some calls, and the output, where the text has not ended.
 pub decided-calls : (out : List ℕ) (ps : List (List ℕ)) → length (joined ps) ≤ last-offset
-    → AnswersSoFar (joined ps) out (told (calls begun out ps .reader)) (calls begun out ps .out)
+    → Answers-so-far (joined ps) out (told (calls begun out ps .reader)) (calls begun out ps .out)
 decided-calls out ps c =
     let q = cutting begun out ps in
     let i = ap (λ (x : Run). told (x .reader)) q in
@@ -130,7 +130,7 @@ decided-calls out ps c =
 
 -- Any text, however long, leaves in the output the packed form of the lines of a good beginning of its bytes that can be counted, and nothing
 -- else; what comes after these lines is refused at a byte, or is a line that can go on, or the series is whole.
-pub output : (text out : List ℕ) → (o : Outcome) × AnswersSoFar (take last-offset text) out o (run begun out text .out)
+pub output : (text out : List ℕ) → (o : Outcome) × Answers-so-far (take last-offset text) out o (run begun out text .out)
 output text out =
     let t = take last-offset text in
     (told (run begun out t .reader), rw (uncounted-out text out) (decided-so-far t out (omega (arith, length-take last-offset text))))
@@ -146,20 +146,20 @@ module _ (r : Reader) (out xs : List ℕ) (going : Going r) where
     unfolding lexes
     one-more l e = ap (λ (x : Line). lex x byte .spot) e ∙ ap (λ (x : Line). x .spot) (sym (lexes-append l xs (byte ∷ [])))
 
-    pub bad-term : r .line ≡ lexes (fresh spot-decimal) xs → Exactly (step r out byte ≡ stopped r bad-byte) (BeginsTerm (xs ++ (byte ∷ [])))
+    pub bad-term : r .line ≡ lexes (fresh spot-decimal) xs → Exactly (step r out byte ≡ stopped r bad-byte) (Begins-term (xs ++ (byte ∷ [])))
     bad-term e =
         let s = one-more (fresh spot-decimal) e in
-        refused-by r out byte going no-feed (BeginsTerm (xs ++ (byte ∷ [])))
+        refused-by r out byte going no-feed (Begins-term (xs ++ (byte ∷ [])))
         (λ k. term-begins (xs ++ (byte ∷ [])) (λ q. k (s ∙ q))) (λ b q. term-goes-on (xs ++ (byte ∷ [])) b (sym s ∙ q))
 
-    pub bad-count : r .line ≡ lexes (fresh spot-count) xs → Exactly (step r out byte ≡ stopped r bad-byte) (BeginsCount (xs ++ (byte ∷ [])))
+    pub bad-count : r .line ≡ lexes (fresh spot-count) xs → Exactly (step r out byte ≡ stopped r bad-byte) (Begins-count (xs ++ (byte ∷ [])))
     bad-count e =
         let s = one-more (fresh spot-count) e in
-        refused-by r out byte going no-feed (BeginsCount (xs ++ (byte ∷ [])))
+        refused-by r out byte going no-feed (Begins-count (xs ++ (byte ∷ [])))
         (λ k. count-begins (xs ++ (byte ∷ [])) (λ q. k (s ∙ q))) (λ b q. count-goes-on (xs ++ (byte ∷ [])) b (sym s ∙ q))
 
-  pub bad-term-feed : r .line ≡ lexes (fresh spot-decimal) xs → Exactly (step r out feed ≡ stopped r bad-byte) (IsTerm xs)
+  pub bad-term-feed : r .line ≡ lexes (fresh spot-decimal) xs → Exactly (step r out feed ≡ stopped r bad-byte) (Is-term xs)
   bad-term-feed e = feed-term r out going xs e
 
-  pub bad-count-feed : r .line ≡ lexes (fresh spot-count) xs → Exactly (step r out feed ≡ stopped r bad-byte) (IsCount xs)
+  pub bad-count-feed : r .line ≡ lexes (fresh spot-count) xs → Exactly (step r out feed ≡ stopped r bad-byte) (Is-count xs)
   bad-count-feed e = feed-count r out going xs e

@@ -23,7 +23,7 @@ use Rattle.series_lines.specs.Lexer.{spot-done, spot-bad, fresh, lex, lexes, wh
 use Rattle.series_lines.specs.Judge.{Verdict, signed, term-on-line, count-refusal, term-line-refusal}
 use Rattle.text.specs.Reader.{verdict}
 use Rattle.series_lines.specs.Reader.{next-spot, after-line, fits, wrote}
-use Rattle.series_lines.specs.Grammar.{size, value, CountLine, count, GoodCount, TermLine, term-of-line, TermInLimits}
+use Rattle.series_lines.specs.Grammar.{size, value, Count-line, count, Good-count, Term-line, term-of-line, Term-in-limits}
 use Rattle.series_lines.proofs.Digits.{early}
 use Rattle.integers.proofs.Tests.{by-cases}
 use Rattle.text.proofs.Branches.{verdict-count, verdict-term, verdict-early}
@@ -56,7 +56,7 @@ unfolding signed flag
 signed-flag true v = refl
 signed-flag false v = refl
 
-pub term-is : (t : TermLine) → term-on-line (line-of-term t) ≡ term-of-line t
+pub term-is : (t : Term-line) → term-on-line (line-of-term t) ≡ term-of-line t
 unfolding value
 term-is t = rw (signed-flag (t .a .minus) (size (t .a)), signed-flag (t .c .minus) (size (t .c)))
 
@@ -70,7 +70,7 @@ module _ (spot at w k m : ℕ) (s : Tally) where
   count-verdict n L h e =
       let q = verdict-count (moved (sp spot at w k 0 s) L m) h in (rw (q, e), rw (q, e), rw (q, e))
 
-  pub term-verdict : (n : ℕ) (t : TermLine)
+  pub term-verdict : (n : ℕ) (t : Term-line)
       → (verdict (moved (sp spot at w k n s) (line-of-term t) m) .refusal ≡ term-line-refusal (factor (k - 1)) s (flag (t .b .minus)) (term-of-line t))
       × (verdict (moved (sp spot at w k n s) (line-of-term t) m) .bytes ≡ pack-term (term-of-line t))
       × (after-line (moved (sp spot at w k n s) (line-of-term t) m) (verdict (moved (sp spot at w k n s) (line-of-term t) m))
@@ -86,23 +86,23 @@ unfolding count-refusal
 count-zero k s n h e = rw (lt-ltb k block-count h, e)
 
 -- The limits of a term line are the tests that its term passes, and b without a minus.
-pub within-passes : (f : ℕ) (s : Tally) (t : TermLine) → TermInLimits f s t → Passes f s (term-of-line t)
+pub within-passes : (f : ℕ) (s : Tally) (t : Term-line) → Term-in-limits f s t → Passes f s (term-of-line t)
 within-passes f s t l = record { a = l .a; total = l .total; b = l .b; c = l .c; coarse = l .coarse }
 
-pub passes-within : (f : ℕ) (s : Tally) (t : TermLine) → t .b .minus ≡ false → Passes f s (term-of-line t) → TermInLimits f s t
+pub passes-within : (f : ℕ) (s : Tally) (t : Term-line) → t .b .minus ≡ false → Passes f s (term-of-line t) → Term-in-limits f s t
 passes-within f s t e p = record { from-zero = e; a = p .a; b = p .b; c = p .c; total = p .total; coarse = p .coarse }
 
-pub term-zero : (f : ℕ) (s : Tally) (t : TermLine) → TermInLimits f s t → term-line-refusal f s (flag (t .b .minus)) (term-of-line t) ≡ 0
+pub term-zero : (f : ℕ) (s : Tally) (t : Term-line) → Term-in-limits f s t → term-line-refusal f s (flag (t .b .minus)) (term-of-line t) ≡ 0
 unfolding term-line-refusal flag
 term-zero f s t l =
     ap (λ (m : Bool). cond (eqb (flag m) 0) (term-refusal f s (term-of-line t)) over-limit) (l .from-zero)
     ∙ refused-not f s (term-of-line t) (within-passes f s t l)
 
-pub term-limits : (f : ℕ) (s : Tally) (t : TermLine) → term-line-refusal f s (flag (t .b .minus)) (term-of-line t) ≡ 0 → TermInLimits f s t
+pub term-limits : (f : ℕ) (s : Tally) (t : Term-line) → term-line-refusal f s (flag (t .b .minus)) (term-of-line t) ≡ 0 → Term-in-limits f s t
 unfolding term-line-refusal flag
 term-limits f s t = go (t .b .minus) refl
   where
-    go : (m : Bool) → t .b .minus ≡ m → _≡_ {A = ℕ} (cond (eqb (flag m) 0) (term-refusal f s (term-of-line t)) over-limit) 0 → TermInLimits f s t
+    go : (m : Bool) → t .b .minus ≡ m → _≡_ {A = ℕ} (cond (eqb (flag m) 0) (term-refusal f s (term-of-line t)) over-limit) 0 → Term-in-limits f s t
     go true e h = absurd (omega arith)
     go false e h = passes-within f s t e (not-refused f s (term-of-line t) h)
 
@@ -161,7 +161,7 @@ ends-count r xs e g = by-cases (whole-count (lexes (fresh 20) xs)) (λ p. p) (λ
 pub ends-term : (r : Reader) (xs : List ℕ) → r .line ≡ lexes (fresh 0) xs → verdict r .refusal ≡ 0 → whole-term (lexes (fresh 0) xs) ≡ true
 ends-term r xs e g = by-cases (whole-term (lexes (fresh 0) xs)) (λ p. p) (λ p. early-never r (rw e (not-count xs)) (rw e p) g)
 
-pub is-whole : (c : CountLine) → GoodCount c → whole-count (put (fresh 20) (21 + length (c .more)) 0 (count c)) ≡ true
+pub is-whole : (c : Count-line) → Good-count c → whole-count (put (fresh 20) (21 + length (c .more)) 0 (count c)) ≡ true
 unfolding whole-count
 is-whole c g = rw (lt-ltb 20 (21 + length (c .more)) (omega arith), lt-ltb (21 + length (c .more)) 25 (omega (arith, g .few)))
 

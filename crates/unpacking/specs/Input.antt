@@ -28,5 +28,5 @@ pub record Answered (input before : List ℕ) (r : Printed) (after : List ℕ) :
   pub room : (k : ℕ) → r ≡ NoText (NoRoom k) → ⊥
 
 -- So for every input of which the buffer holds n bytes.
-abbrev pub AnswersAny : ℕ → List ℕ → List ℕ → Printed → List ℕ → Type 0
-AnswersAny n buffer before r after = (input : List ℕ) → Input n buffer input → Answered input before r after
+abbrev pub Answers-any : ℕ → List ℕ → List ℕ → Printed → List ℕ → Type 0
+Answers-any n buffer before r after = (input : List ℕ) → Input n buffer input → Answered input before r after

@@ -7,13 +7,13 @@ use libc::STDERR_FILENO;
 use libc::STDIN_FILENO;
 use printer::Printed;
 use printer::TEXT_LIMIT;
-ghost use Rattle.unpacking.specs.Input.{Roomy, AnswersAny};
+ghost use Rattle.unpacking.specs.Input.{Roomy, Answers-any};
 
 // The text of the input, of which the first n packed bytes are all or, where they fill the buffer, the beginning: whatever follows,
 // the whole input is then refused as they are, by the theorem `decided` of packed_promises/proofs/Theorems.antt.
 fn text_of(packed: &[u8], n: usize, text: &mut [u8]) -> Printed
     requires { ⌜ Roomy n (now packed) (now text) ⌝ }
-    ensures { λ r. ⌜ AnswersAny n (now (packed .entry)) (now (text .entry)) r (now (text .exit)) ⌝ }
+    ensures { λ r. ⌜ Answers-any n (now (packed .entry)) (now (text .entry)) r (now (text .exit)) ⌝ }
 {
     printer::print(&packed[..n], text)
 }

@@ -11,7 +11,7 @@ abbrev pub eighth : ℕ
 eighth = quarter / (2 * angle-step) + 1
 
 -- Where v of an angle lies.
-pub record InRange (v : ℕ) : Type 0 where
+pub record In-range (v : ℕ) : Type 0 where
   pub low : U - eighth ≤ v
   pub high : v ≤ U + eighth
 

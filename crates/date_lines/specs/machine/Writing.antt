@@ -9,6 +9,6 @@ use Rattle.date_lines.specs.declared.Progress.{Progress}
 use Rattle.date_lines.specs.declared.reader.Line.{Line}
 
 -- One byte b of the input: the line after it, and what is printed at it.
-abbrev pub AnsweredByte : Line → ℕ → List ℕ → ℕ → Progress → List ℕ → Type 0
-AnsweredByte s b out at r result =
+abbrev pub Answered-byte : Line → ℕ → List ℕ → ℕ → Progress → List ℕ → Type 0
+Answered-byte s b out at r result =
     (r .line ≡ after s b) × (r .at ≡ at + length (said s b)) × (result ≡ sets out at (said s b))

@@ -2,11 +2,11 @@
 use native.Mathlib.Omega.{arith}
 use Rattle.limits.specs.Limits.{added}
 use Rattle.limits.specs.machine.Magnitudes.{unsigned}
-use Rattle.limits.proofs.Passing.{GoodTerm, good-of, all-passed}
+use Rattle.limits.proofs.Passing.{Good-term, good-of, all-passed}
 use Rattle.limits.proofs.add_term.Statement.{statement}
 use Rattle.limits.proofs.add_term.Tie as tie
 
-good : (c : tie.Start) → GoodTerm (c .args .f) (c .args .tally) (unsigned (c .args .m) (c .args .b) (c .args .n))
+good : (c : tie.Start) → Good-term (c .args .f) (c .args .tally) (unsigned (c .args .m) (c .args .b) (c .args .n))
 good c =
     let a = c .args in
     let t = unsigned (a .m) (a .b) (a .n) in

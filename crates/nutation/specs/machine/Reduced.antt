@@ -54,7 +54,7 @@ abbrev pub sum-limit : ℕ
 sum-limit = row-count * coefficient-limit
 
 -- The nutation at t, and its size.
-pub record NutationAt (t : ℤ) (n : Nutation) : Type 0 where
+pub record Nutation-at (t : ℤ) (n : Nutation) : Type 0 where
   pub longitude-is : n .longitude ≡ longitude-nutation t
   pub obliquity-is : n .obliquity ≡ obliquity-nutation t
   pub longitude-small : natAbs (n .longitude) ≤ sum-limit

@@ -27,7 +27,7 @@ pub record Usual (s : List ℕ) (at v to : ℕ) : Type 0 where
   pub read : at-offset number at s ≡ got v to (drop to s)
 
 -- The numbers a, b, c stand at an offset one after the other, and the last ends before to.
-pub record UsualTerm (s : List ℕ) (at a b c to : ℕ) : Type 0 where
+pub record Usual-term (s : List ℕ) (at a b c to : ℕ) : Type 0 where
   pub at-b : ℕ
   pub at-c : ℕ
   pub read-a : at-offset number at s ≡ got a at-b (drop at-b s)

@@ -6,12 +6,12 @@ use lib.IntN.{ℤ, pos, natAbs, _+ℤ_}
 use lib.ListN.{length, getD, set}
 use Rattle.units.specs.Units.{a-limit, series-limit}
 use Rattle.cosine.specs.Terms.{term-value}
-use Rattle.cosine.specs.machine.Parity.{even-value, odd-value, value-by-parity, InRange}
+use Rattle.cosine.specs.machine.Parity.{even-value, odd-value, value-by-parity, In-range}
 use Rattle.cosine.specs.machine.Prepared.{Ready}
 use Rattle.cosine.specs.declared.term.Prepared.{Prepared}
 use Rattle.cosine.specs.declared.term.ReducedTerm.{ReducedTerm}
 use Rattle.limits.specs.declared.Term.{Term}
-use Rattle.limits.specs.Allowed.{BlockFits}
+use Rattle.limits.specs.Allowed.{Block-fits}
 use Rattle.packed.specs.machine.Table.{Sized, terms-at}
 use Rattle.pieces.specs.declared.Counts.{Counts}
 use Rattle.pieces.specs.Sums.{block-sum}
@@ -30,7 +30,7 @@ pub record Piece (p : Prepared) (rows : List (List ℕ)) (from to : ℕ) : Type 
   pub order : from ≤ to
   pub space : to ≤ series-limit
   pub short : to ≤ from + piece-limit
-  pub limits : BlockFits (terms-at rows from (to - from))
+  pub limits : Block-fits (terms-at rows from (to - from))
 
 -- The tables have room for a piece.
 pub record Rooms (ea : List ℤ) (ev : List ℕ) (oa : List ℤ) (ov : List ℕ) : Type 0 where
@@ -40,11 +40,11 @@ pub record Rooms (ea : List ℤ) (ev : List ℕ) (oa : List ℤ) (ov : List ℕ)
   pub odds-v : length ov ≡ room
 
 -- A term at the instant t with its angle worked out.
-pub record WorkedFor (t : ℤ) (x : Term) (w : ReducedTerm) : Type 0 where
+pub record Worked-for (t : ℤ) (x : Term) (w : ReducedTerm) : Type 0 where
   pub value : value-by-parity (w .odd) (w .a) (w .v) ≡ term-value (x .a) (x .b) (x .c) t
   pub size : natAbs (w .a) ≡ natAbs (x .a)
   pub parity : w .odd ≤ 1
-  pub offset : InRange (w .v)
+  pub offset : In-range (w .v)
 
 -- The sum of the values f a v at the first n places.
 unfoldable pub half-sum : (ℤ → ℕ → ℤ) → List ℤ → List ℕ → ℕ → ℤ
@@ -52,7 +52,7 @@ half-sum f la lv zero = pos 0
 half-sum f la lv (suc n) = half-sum f la lv n +ℤ f (getD la n (pos 0)) (getD lv n 0)
 
 -- A term is put at the next free place of both tables; only the count of the one that it belongs to moves on.
-pub record PutInBoth (w : ReducedTerm) (n : Counts)
+pub record Put-in-both (w : ReducedTerm) (n : Counts)
     (ea₀ : List ℤ) (ev₀ : List ℕ) (oa₀ : List ℤ) (ov₀ : List ℕ)
     (ea : List ℤ) (ev : List ℕ) (oa : List ℤ) (ov : List ℕ) (r : Counts) : Type 0 where
   pub evens-a : ea ≡ set ea₀ (n .evens) (w .a)
@@ -64,7 +64,7 @@ pub record PutInBoth (w : ReducedTerm) (n : Counts)
 -- a and v are within their limits, and so is the value.
 pub record Small (f : ℤ → ℕ → ℤ) (a : ℤ) (v : ℕ) : Type 0 where
   pub a-below : natAbs a < a-limit
-  pub v-within : InRange v
+  pub v-within : In-range v
   pub value-below : natAbs (f a v) < a-limit
 
 -- A table whose first n places are filled.

@@ -8,9 +8,9 @@ use lib.ListN.{length}
 use Rattle.series_lines.specs.Lexer.{spot-bad}
 use Rattle.series_lines.specs.Reader.{last-offset}
 use Rattle.published_records.specs.declared.Row.{Row}
-use Rattle.published_records.specs.Layout.{version-column, coordinate-column, power-column, count-last, number-first, number-last, a-first, NoFeed}
+use Rattle.published_records.specs.Layout.{version-column, coordinate-column, power-column, count-last, number-first, number-last, a-first, No-feed}
 use Rattle.published_records.specs.Rows.{column-limit, lex-rows}
-use Rattle.published_records.specs.machine.Runs.{between, GoesOn}
+use Rattle.published_records.specs.machine.Runs.{between, Runs-on}
 
 -- After the count of a heading all columns are free: no column is so large.
 abbrev pub no-end : ℕ
@@ -49,12 +49,12 @@ put-column r c =
 pub record Run (text : List ℕ) (from end next : ℕ) : Type 0 where
   pub onward : from ≤ next
   pub inside : from ≤ end → next ≤ end
-  pub no-feed : NoFeed (between text from next)
+  pub no-feed : No-feed (between text from next)
 
 -- A row after the bytes from one index to another, with no line feed among them; a record that was good goes on with each.
 pub record Skips (heading : Bool) (r : Row) (text : List ℕ) (from : ℕ) (after : Row) (next : ℕ) : Type 0 where
   pub onward : from ≤ next
   pub inside : from ≤ length text → next ≤ length text
-  pub no-feed : NoFeed (between text from next)
+  pub no-feed : No-feed (between text from next)
   pub same : after ≡ lex-rows heading r (between text from next)
-  pub goes-on : (r .line .spot ≡ spot-bad → ⊥) → GoesOn heading r (between text from next)
+  pub goes-on : (r .line .spot ≡ spot-bad → ⊥) → Runs-on heading r (between text from next)

@@ -19,14 +19,14 @@ unfoldable pub is-bad : Row → Bool
 is-bad r = eqb (r .line .spot) spot-bad
 
 -- The record goes on with each of these bytes: none is a line feed, and after none it is bad.
-unfoldable pub GoesOn : Bool → Row → List ℕ → Type 0
-GoesOn heading r [] = Unit {0}
-GoesOn heading r (byte ∷ bytes) =
-    (byte ≡ feed → ⊥) × ((lex-row heading r byte .line .spot ≡ spot-bad → ⊥) × GoesOn heading (lex-row heading r byte) bytes)
+unfoldable pub Runs-on : Bool → Row → List ℕ → Type 0
+Runs-on heading r [] = Unit {0}
+Runs-on heading r (byte ∷ bytes) =
+    (byte ≡ feed → ⊥) × ((lex-row heading r byte .line .spot ≡ spot-bad → ⊥) × Runs-on heading (lex-row heading r byte) bytes)
 
 -- A row after the bytes from one index to another, with which the record goes on.
 pub record Takes (heading : Bool) (r : Row) (text : List ℕ) (from : ℕ) (after : Row) (next : ℕ) : Type 0 where
   pub onward : from ≤ next
   pub inside : from ≤ length text → next ≤ length text
-  pub goes-on : GoesOn heading r (between text from next)
+  pub goes-on : Runs-on heading r (between text from next)
   pub same : after ≡ lex-rows heading r (between text from next)

@@ -13,11 +13,11 @@ pub record Table (rows : List (List ℕ)) : Type 0 where
   pub allowed : Allowed (table-blocks rows)
 
 -- The table of a series.
-pub record TableOf (rows : List (List ℕ)) (blocks : List (List Term)) : Type 0 where
+pub record Table-of (rows : List (List ℕ)) (blocks : List (List Term)) : Type 0 where
   pub table : Table rows
   pub same : table-blocks rows ≡ blocks
 
 -- The table after a packed series was read into it. After a refusal nothing is said of it.
 unfoldable pub filled : Parsed → List (List ℕ) → Type 0
-filled (accepted blocks) rows = TableOf rows blocks
+filled (accepted blocks) rows = Table-of rows blocks
 filled (refused r) rows = Unit

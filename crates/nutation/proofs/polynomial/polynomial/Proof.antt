@@ -12,12 +12,12 @@ use Rattle.arith.proofs.Cells.{Cell, cell}
 use Rattle.arith.proofs.Signs.{back, ok}
 use Rattle.nutation.specs.Nutation.{polynomial}
 use Rattle.nutation.specs.machine.Reduced.{By, centuries}
-use Rattle.nutation.proofs.Polynomials.{WorkedDown, worked-none, worked-more, worked-all, worked-asks}
+use Rattle.nutation.proofs.Polynomials.{Worked-down, worked-none, worked-more, worked-all, worked-asks}
 use Rattle.nutation.proofs.polynomial.polynomial.Statement.{statement}
 use Rattle.nutation.proofs.polynomial.polynomial.Tie as tie
 
 abbrev Inv-loop : tie.InvT-loop
-Inv-loop n d c v₀ i₀ v i = WorkedDown (toZ w64 n) d c (toZ w64 v) i
+Inv-loop n d c v₀ i₀ v i = Worked-down (toZ w64 n) d c (toZ w64 v) i
 
 abbrev μ-loop : tie.MeasureT-loop
 μ-loop n d c v₀ i₀ v i = i

@@ -8,7 +8,7 @@ use mir.Val.{toZ, ofZ}
 use Rattle.arith.proofs.Signs.{back}
 use Rattle.units.specs.Units.{t-limit}
 use Rattle.nutation_table.specs.machine.Small.{row-count}
-use Rattle.nutation.specs.machine.Reduced.{NutationAt}
+use Rattle.nutation.specs.machine.Reduced.{Nutation-at}
 use Rattle.nutation.proofs.Sums.{Summed, summed-none, summed-more, summed-all, summed-room}
 use Rattle.nutation.proofs.rows.nutation_at.Statement.{statement}
 use Rattle.nutation.proofs.rows.nutation_at.Tie as tie
@@ -55,7 +55,7 @@ returns c =
     let l = c .before in
     let s = l .before .before in
     let e = back (s .args .t) (s .fits .t) in
-    subst (λ z. NutationAt z (l .loop .sum)) e (summed-all _ _ _ (l .loop .inv) (omega arith))
+    subst (λ z. Nutation-at z (l .loop .sum)) e (summed-all _ _ _ (l .loop .inv) (omega arith))
 
 pub nutation-at-spec : {M : Type 1} → statement M
 nutation-at-spec =

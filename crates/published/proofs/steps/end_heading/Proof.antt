@@ -6,7 +6,7 @@ use borrow.Author.Needs.{needs}
 use Rattle.limits.specs.Limits.{count-fits}
 use Rattle.series_lines.specs.Judge.{tally}
 use Rattle.series_lines.proofs.Branches.{wrote-refused}
-use Rattle.published_headings.proofs.Judged.{InOrder, unrefused, no-terms-fit, skipped-fits}
+use Rattle.published_headings.proofs.Judged.{In-order, unrefused, no-terms-fit, skipped-fits}
 use Rattle.published.specs.Reader.{heading-end}
 use Rattle.published.proofs.Branches.{heading-full, heading-next}
 use Rattle.published.proofs.steps.end_heading.Statement.{statement}
@@ -17,7 +17,7 @@ good : (c : tie.Else1) → heading-end (c .before .before .before .before .befor
 good c = sym (c .before .heading-refusal .ensures) ∙ c .if1 .left
 
 orderly : (c : tie.Else1) → let p = c .before .before .before .before .before .before .args .p in
-    InOrder (p .reader .blocks) (p .row .coordinate) (p .row .power) × (count-fits (tally (p .reader)) (p .row .line .value) ≡ true)
+    In-order (p .reader .blocks) (p .row .coordinate) (p .row .power) × (count-fits (tally (p .reader)) (p .row .line .value) ≡ true)
 orderly c = unrefused _ _ _ _ _ _ (good c)
 
 heading-refusal-requires : tie.Need-heading-refusal-requires
