@@ -11,20 +11,20 @@ use lib.Dec.{lit<}
 use lib.ListN.{length, getD, drop, drop-of-length-le}
 use lib.Seq.{drop-cons}
 use Rattle.units.specs.declared.Refusal.the-variants.{OverLimit, EndedEarly, NotShortest}
-use Rattle.packed_numbers.specs.Numbers.{got, bad, closed, groups-from, number}
+use Rattle.packed_numbers.specs.Numbers.{group, got, bad, closed, groups-from, number}
 
-pub power-small : (k : ℕ) → k ≤ 8 → 128 ^ k ≤ 72057594037927936
+pub power-small : (k : ℕ) → k ≤ 8 → group ^ k ≤ 72057594037927936
 power-small k h = pow-le-pow-right (lit< tt) h
 
-pub power-next : (k : ℕ) → 128 ^ (k + 1) ≡ 128 * 128 ^ k
-power-next k = rw add-one (pow-succ' 128 k)
+pub power-next : (k : ℕ) → group ^ (k + 1) ≡ group * group ^ k
+power-next k = rw add-one (pow-succ' group k)
 
 -- One group more.
-pub more-small : (acc x s : ℕ) → acc < s → x ≤ 127 → acc + x * s < 128 * s
+pub more-small : (acc x s : ℕ) → acc < s → x ≤ 127 → acc + x * s < group * s
 more-small acc x s h l = omega (arith, mul-le-mul-right s l)
 
 -- A number of at most nine groups fits.
-pub group-fits : (k scale acc x : ℕ) → scale ≡ 128 ^ k → k ≤ 8 → acc < 128 ^ k → x ≤ 127 → acc + x * scale < 2 ^ 63
+pub group-fits : (k scale acc x : ℕ) → scale ≡ group ^ k → k ≤ 8 → acc < group ^ k → x ≤ 127 → acc + x * scale < 2 ^ 63
 group-fits k scale acc x e h l m =
     let a : acc < scale = rw e l in
     omega (arith, more-small acc x scale a m, power-small k h)
@@ -34,21 +34,21 @@ module _ (s : List ℕ) (i k acc b : ℕ) (e : b ≡ getD s i 0) (h : i < length
   first = rw (e, add-one) (drop-cons s i 0 h)
 
   -- A last group of 0: as the only group it is the number 0, and after another it is not the shortest form.
-  pub last-padded : b < 128 → b ≡ 0 → 0 < k → groups-from k acc i (drop i s) ≡ bad (NotShortest i)
+  pub last-padded : b < group → b ≡ 0 → 0 < k → groups-from k acc i (drop i s) ≡ bad (NotShortest i)
   unfolding groups-from closed
-  last-padded l z p = rw (first, lt-ltb b 128 l, eq-eqb b 0 z, ne-eqb k 0 (λ (w : k ≡ 0). omega (arith, w)))
+  last-padded l z p = rw (first, lt-ltb b group l, eq-eqb b 0 z, ne-eqb k 0 (λ (w : k ≡ 0). omega (arith, w)))
 
-  pub last-value : b < 128 → (b ≡ 0 → ⊥) → groups-from k acc i (drop i s) ≡ got (acc + b * 128 ^ k) (i + 1) (drop (i + 1) s)
+  pub last-value : b < group → (b ≡ 0 → ⊥) → groups-from k acc i (drop i s) ≡ got (acc + b * group ^ k) (i + 1) (drop (i + 1) s)
   unfolding groups-from closed
-  last-value l z = rw (first, lt-ltb b 128 l, ne-eqb b 0 z)
+  last-value l z = rw (first, lt-ltb b group l, ne-eqb b 0 z)
 
-  pub too-long : 128 ≤ b → 8 ≤ k → groups-from k acc i (drop i s) ≡ bad (OverLimit i)
+  pub too-long : group ≤ b → 8 ≤ k → groups-from k acc i (drop i s) ≡ bad (OverLimit i)
   unfolding groups-from
-  too-long l m = rw (first, le-ltb b 128 l, le-leb 8 k m)
+  too-long l m = rw (first, le-ltb b group l, le-leb 8 k m)
 
-  pub more-groups : 128 ≤ b → k < 8 → groups-from k acc i (drop i s) ≡ groups-from (k + 1) (acc + (b - 128) * 128 ^ k) (i + 1) (drop (i + 1) s)
+  pub more-groups : group ≤ b → k < 8 → groups-from k acc i (drop i s) ≡ groups-from (k + 1) (acc + (b - group) * group ^ k) (i + 1) (drop (i + 1) s)
   unfolding groups-from
-  more-groups l m = rw (first, le-ltb b 128 l, lt-leb 8 k m)
+  more-groups l m = rw (first, le-ltb b group l, lt-leb 8 k m)
 
 pub no-group : (s : List ℕ) (i k acc : ℕ) → length s ≤ i → groups-from k acc i (drop i s) ≡ bad (EndedEarly i)
 unfolding groups-from
@@ -56,15 +56,15 @@ no-group s i k acc h = rw (drop-of-length-le s h)
 
 -- The first byte of a number.
 module _ (s : List ℕ) (at b : ℕ) (e : b ≡ getD s at 0) (h : at < length s) where
-  pub one-group : b < 128 → number at (drop at s) ≡ got b (at + 1) (drop (at + 1) s)
+  pub one-group : b < group → number at (drop at s) ≡ got b (at + 1) (drop (at + 1) s)
   unfolding number groups-from closed
   one-group l = go (ℕ-discrete b 0)
     where
       go : Dec (b ≡ 0) → number at (drop at s) ≡ got b (at + 1) (drop (at + 1) s)
-      go (yes z) = rw (first s at 0 0 b e h, lt-ltb b 128 l, eq-eqb b 0 z, z)
+      go (yes z) = rw (first s at 0 0 b e h, lt-ltb b group l, eq-eqb b 0 z, z)
       go (no z) = last-value s at 0 0 b e h l z ∙ ap (λ (n : ℕ). got n (at + 1) (drop (at + 1) s)) (omega arith)
 
-  pub more-than-one : 128 ≤ b → number at (drop at s) ≡ groups-from 1 (b - 128) (at + 1) (drop (at + 1) s)
+  pub more-than-one : group ≤ b → number at (drop at s) ≡ groups-from 1 (b - group) (at + 1) (drop (at + 1) s)
   unfolding number
   more-than-one l = more-groups s at 0 0 b e h l (omega arith) ∙ ap (λ (n : ℕ). groups-from 1 n (at + 1) (drop (at + 1) s)) (omega arith)
 

@@ -11,7 +11,7 @@ use lib.IntN.{ℤ}
 use lib.ListN.{drop}
 use Rattle.units.specs.declared.Refusal.{Refusal}
 use Rattle.packed_numbers.specs.declared.Number.the-variants.{Value, Bad}
-use Rattle.packed_numbers.specs.Numbers.{Read, got, bad, next, closed, groups-from, number, folded, unfolded}
+use Rattle.packed_numbers.specs.Numbers.{group, Read, got, bad, next, closed, groups-from, number, folded, unfolded}
 use Rattle.packed_numbers.specs.machine.Answers.{shown, plain}
 use Rattle.packed_numbers.proofs.Folding.{unfolded-folded, folded-unfolded}
 
@@ -49,9 +49,9 @@ unfolding groups-from closed
 groups-after s [] k acc at e = stopped
 groups-after s (b ∷ x) k acc at e =
     let t = tail at s b x e in
-    cond-after (ltb b 128)
+    cond-after (ltb b group)
     (cond-after (eqb b 0) (cond-after (eqb k 0) (moved t (omega arith)) stopped) (moved t (omega arith)))
-    (cond-after (leb 8 k) stopped (later (at + 1) (omega arith) (groups-after s x (k + 1) (acc + (b - 128) * 128 ^ k) (at + 1) t)))
+    (cond-after (leb 8 k) stopped (later (at + 1) (omega arith) (groups-after s x (k + 1) (acc + (b - group) * group ^ k) (at + 1) t)))
 
 pub number-after : (s : List ℕ) (at : ℕ) → After s (at + 1) (number at (drop at s))
 unfolding number

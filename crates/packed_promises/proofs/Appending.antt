@@ -9,7 +9,7 @@ use lib.Dec.{leb, ltb, eqb}
 use lib.IntN.{ℤ}
 use Rattle.units.specs.declared.Refusal.{Refusal}
 use Rattle.units.specs.declared.Refusal.the-variants.{OverLimit, TotalOverLimit, TooCoarse, EndedEarly}
-use Rattle.packed_numbers.specs.Numbers.{Read, got, bad, next, closed, groups-from, number, unfolded}
+use Rattle.packed_numbers.specs.Numbers.{group, Read, got, bad, next, closed, groups-from, number, unfolded}
 use Rattle.units.specs.Units.{block-count}
 use Rattle.limits.specs.declared.Term.{Term}
 use Rattle.limits.specs.declared.Tally.{Tally}
@@ -42,8 +42,8 @@ groups-longer : (y x : List ℕ) (k acc at : ℕ) → Longer y (groups-from k ac
 unfolding groups-from closed
 groups-longer y [] k acc at = early
 groups-longer y (b ∷ x) k acc at =
-    either (ltb b 128) (either (eqb b 0) (either (eqb k 0) same no-more) same)
-    (either (leb 8 k) no-more (groups-longer y x (k + 1) (acc + (b - 128) * 128 ^ k) (at + 1)))
+    either (ltb b group) (either (eqb b 0) (either (eqb k 0) same no-more) same)
+    (either (leb 8 k) no-more (groups-longer y x (k + 1) (acc + (b - group) * group ^ k) (at + 1)))
 
 number-longer : (y : List ℕ) (at : ℕ) (x : List ℕ) → Longer y (number at x) (number at (x ++ y))
 unfolding number

@@ -14,7 +14,7 @@ use Rattle.units.specs.declared.Refusal.{Refusal}
 use Rattle.units.specs.declared.Refusal.the-variants.{OverLimit, TotalOverLimit, TooCoarse}
 use Rattle.units.specs.declared.Refusal.the-variants.{EndedEarly, NotShortest}
 use Rattle.units.specs.Units.{a-limit, b-limit, c-limit, series-limit, block-count}
-use Rattle.packed_numbers.specs.Numbers.{Read, got, bad, next, closed, groups-from, number, unfolded}
+use Rattle.packed_numbers.specs.Numbers.{group, Read, got, bad, next, closed, groups-from, number, unfolded}
 use Rattle.packed_numbers.proofs.Folding.{natAbs-unfolded}
 use Rattle.limits.specs.declared.Term.{Term}
 use Rattle.limits.specs.declared.Tally.{Tally}
@@ -69,25 +69,25 @@ passed false refusal to h k = stopped (λ n e. absurd (h (to - 1) n e))
 
 -- A number v read from offset at, after k groups: at least so large, and no longer than its size tells.
 record Few (k at v to : ℕ) : Type 0 where
-  large : 0 < k → 128 ^ k ≤ v
-  few : (g : ℕ) → v < 128 ^ (k + suc g) → to ≤ at + suc g
+  large : 0 < k → group ^ k ≤ v
+  few : (g : ℕ) → v < group ^ (k + suc g) → to ≤ at + suc g
 
-power-next : (k : ℕ) → 128 ^ (k + 1) ≡ 128 * 128 ^ k
-power-next k = rw add-one (pow-succ' 128 k)
+power-next : (k : ℕ) → group ^ (k + 1) ≡ group * group ^ k
+power-next k = rw add-one (pow-succ' group k)
 
 one-more : (k at v to : ℕ) → Few (k + 1) (at + 1) v to → Few k at v to
 one-more k at v to h = record { large = λ p. omega (arith, h .large (omega arith), power-next k); few = go }
   where
-    go : (g : ℕ) → v < 128 ^ (k + suc g) → to ≤ at + suc g
+    go : (g : ℕ) → v < group ^ (k + suc g) → to ≤ at + suc g
     go zero l = let m = h .large (omega arith) in absurd (omega (arith, l, m))
     go (suc g) l =
         let e : k + suc (suc g) ≡ k + 1 + suc g = omega arith in
         omega (arith, h .few g (rw e at l))
 
-last-group : (k acc b : ℕ) → (b ≡ 0 → ⊥) → 128 ^ k ≤ acc + b * 128 ^ k
+last-group : (k acc b : ℕ) → (b ≡ 0 → ⊥) → group ^ k ≤ acc + b * group ^ k
 last-group k acc b h =
     let p : 1 ≤ b = omega (arith, h) in
-    omega (arith, mul-le-mul-right (128 ^ k) p)
+    omega (arith, mul-le-mul-right (group ^ k) p)
 
 closed-bounded : (k acc at b : ℕ) (s : List ℕ) (most : ℕ) → Bounded (Few k at) most (closed k acc at b s)
 unfolding closed
@@ -100,21 +100,21 @@ closed-bounded k acc at b s most = go (ℕ-discrete b 0) (ℕ-discrete k 0)
     go (yes p) (no q) = rw (eq-eqb b 0 p, ne-eqb k 0 q) (stopped (λ n e. absurd (padded at n e)))
     go (no p) q =
         rw (ne-eqb b 0 p)
-        (within {x = acc + b * 128 ^ k} {to = at + 1} (record { large = λ h. last-group k acc b p; few = λ g h. omega arith }))
+        (within {x = acc + b * group ^ k} {to = at + 1} (record { large = λ h. last-group k acc b p; few = λ g h. omega arith }))
 
 groups-bounded : (x : List ℕ) (k acc at : ℕ) → k ≤ 8 → Bounded (Few k at) (at + (8 - k)) (groups-from k acc at x)
 unfolding groups-from
 groups-bounded [] k acc at h = stopped {r = EndedEarly at} (λ n e. let p : at ≡ n = cc in omega arith)
-groups-bounded (b ∷ x) k acc at h = go (λ l. groups-bounded x (k + 1) (acc + (b - 128) * 128 ^ k) (at + 1) l) (decLe 128 b) (decLe 8 k)
+groups-bounded (b ∷ x) k acc at h = go (λ l. groups-bounded x (k + 1) (acc + (b - group) * group ^ k) (at + 1) l) (decLe group b) (decLe 8 k)
   where
-    go : (k + 1 ≤ 8 → Bounded (Few (k + 1) (at + 1)) (at + 1 + (8 - (k + 1))) (groups-from (k + 1) (acc + (b - 128) * 128 ^ k) (at + 1) x))
-        → Dec (128 ≤ b) → Dec (8 ≤ k) → Bounded (Few k at) (at + (8 - k)) (groups-from k acc at (b ∷ x))
-    go r (no l) q = let u : b < 128 = omega (arith, l) in rw (lt-ltb b 128 u) (closed-bounded k acc at b x (at + (8 - k)))
-    go r (yes l) (yes q) = rw (le-ltb b 128 l, le-leb 8 k q) (stopped (λ n e. absurd (over at n e)))
+    go : (k + 1 ≤ 8 → Bounded (Few (k + 1) (at + 1)) (at + 1 + (8 - (k + 1))) (groups-from (k + 1) (acc + (b - group) * group ^ k) (at + 1) x))
+        → Dec (group ≤ b) → Dec (8 ≤ k) → Bounded (Few k at) (at + (8 - k)) (groups-from k acc at (b ∷ x))
+    go r (no l) q = let u : b < group = omega (arith, l) in rw (lt-ltb b group u) (closed-bounded k acc at b x (at + (8 - k)))
+    go r (yes l) (yes q) = rw (le-ltb b group l, le-leb 8 k q) (stopped (λ n e. absurd (over at n e)))
     go r (yes l) (no q) =
         let u : k < 8 = omega (arith, q) in
         let m : at + 1 + (8 - (k + 1)) ≤ at + (8 - k) = omega arith in
-        rw (le-ltb b 128 l, lt-leb 8 k u) (weaker (at + (8 - k)) m (one-more k at) (r (omega arith)))
+        rw (le-ltb b group l, lt-leb 8 k u) (weaker (at + (8 - k)) m (one-more k at) (r (omega arith)))
 
 number-bounded : (at : ℕ) (x : List ℕ) → Bounded (Few 0 at) (at + 8) (number at x)
 unfolding number

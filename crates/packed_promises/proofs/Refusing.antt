@@ -10,7 +10,7 @@ use lib.ListN.{length}
 use Rattle.units.specs.declared.Refusal.{Refusal}
 use Rattle.units.specs.declared.Refusal.the-variants.{OverLimit, TotalOverLimit, TooCoarse}
 use Rattle.units.specs.Units.{block-count}
-use Rattle.packed_numbers.specs.Numbers.{Read, got, bad, next, closed, groups-from, number, unfolded}
+use Rattle.packed_numbers.specs.Numbers.{group, Read, got, bad, next, closed, groups-from, number, unfolded}
 use Rattle.limits.specs.declared.Tally.{Tally}
 use Rattle.limits.specs.Limits.{no-tally, opened, added, after-block, factor, count-fits, a-fits, b-fits, c-fits, total-fits, coarse-fits}
 use Rattle.packed.specs.Series.{judged, read-a, read-b, read-c, read-term, read-terms, read-block, read-blocks, read-series}
@@ -47,12 +47,12 @@ module _ (bytes : List ℕ) where
   unfolding groups-from closed
   groups-placed [] k acc at e = off (early {n = at} (omega arith))
   groups-placed (b ∷ x) k acc at e =
-      either (ltb b 128)
+      either (ltb b group)
       (either (eqb b 0)
       (either (eqb k 0) (on (omega arith) (omega arith)) (off (unshortened {at = at} (omega arith))))
       (on (omega arith) (omega arith)))
       (either (leb 8 k) (off (over {at = at} (omega arith)))
-      (later (at + 1) (omega arith) (groups-placed x (k + 1) (acc + (b - 128) * 128 ^ k) (at + 1) (omega arith))))
+      (later (at + 1) (omega arith) (groups-placed x (k + 1) (acc + (b - group) * group ^ k) (at + 1) (omega arith))))
 
   number-placed : (at : ℕ) (x : List ℕ) → at + length x ≡ length bytes → Placed 1 (number at x)
   unfolding number

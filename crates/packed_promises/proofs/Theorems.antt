@@ -7,7 +7,7 @@ use lib.ListN.{length, replicate}
 use Rattle.units.specs.Refusals as refusals
 use Rattle.units.specs.declared.Refusal.{Refusal}
 use Rattle.units.specs.declared.Refusal.the-variants.{EndedEarly, ByteAfterEnd, NotShortest}
-use Rattle.packed_numbers.specs.Numbers.{Read, got, bad, next, closed, groups-from, number, groups, encode}
+use Rattle.packed_numbers.specs.Numbers.{group, Read, got, bad, next, closed, groups-from, number, groups, encode}
 use Rattle.packed_numbers.proofs.Shortest.{All-bytes}
 use Rattle.units.specs.Units.{block-count}
 use Rattle.limits.specs.declared.Term.{Term}
@@ -128,7 +128,7 @@ unfolding encode groups
 three-hundred = refl
 
 -- 80 00 is refused 10, at the offset of its last byte.
-pub padded : parse (128 ∷ 0 ∷ []) ≡ refused (NotShortest 1)
+pub padded : parse (group ∷ 0 ∷ []) ≡ refused (NotShortest 1)
 unfolding parse read-series read-blocks read-block number groups-from closed next ended
 padded = refl
 

@@ -32,7 +32,8 @@ fraction-length below k n = go below
     go true = omega (arith, both)
     go false = omega (arith, both)
 
-line-length : (name measure : List ℕ) (k : ℤ) (places n : ℕ) → length (line-text name k places n measure) ≤ length name + (numbers-most + places) + length measure
+line-length : (name measure : List ℕ) (k : ℤ) (places n : ℕ)
+    → length (line-text name k places n measure) ≤ length name + (numbers-most + places) + length measure
 unfolding line-text
 line-length name measure k places n =
     let f = fraction-length (negative k) places n in

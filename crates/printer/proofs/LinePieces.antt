@@ -31,7 +31,12 @@ decimal-pieces minus v = rw (append-nil (digits (last-digits part-digits v)))
 pub decimal-size : (minus : Bool) (v : ℕ) → length (decimal (plain-decimal minus v)) ≡ length (sign minus) + length (whole-text (v / parts)) + (1 + part-digits)
 unfolding total
 decimal-size minus v =
-    omega (arith, ap length (decimal-pieces minus v) ∙ length-joined (decimal-parts minus v), length-digits (last-digits part-digits v), length-last part-digits v)
+    omega (
+      arith,
+      ap length (decimal-pieces minus v) ∙ length-joined (decimal-parts minus v),
+      length-digits (last-digits part-digits v),
+      length-last part-digits v,
+    )
 
 pub sign-length : (m : Bool) → length (sign m) ≤ 1
 unfolding sign

@@ -51,7 +51,8 @@ block-short k s ts g =
     let e : count-bytes (plain-count (length ts)) ≡ whole-text (length ts) = unfold whole-text in refl in
     omega (arith, ap length e, length-append (count-bytes (plain-count (length ts))) (feed ∷ lines-text ts), lines-short (g .terms))
 
-pub text-short : {k : ℕ} {s : Tally} {bs : List (List Term)} → judged.Good-blocks k s bs → length (plain-text bs) ≤ count-line-limit * length bs + term-line-limit * term-count bs
+pub text-short : {k : ℕ} {s : Tally} {bs : List (List Term)} → judged.Good-blocks k s bs
+    → length (plain-text bs) ≤ count-line-limit * length bs + term-line-limit * term-count bs
 unfolding term-count
 text-short judged.none = rw text-none (omega arith)
 text-short {k} {s} {bs = ts ∷ bs} (judged.more g h) =

@@ -9,7 +9,8 @@ use Rattle.integers.proofs.Division.{sgn-natAbs}
 use Rattle.integers.proofs.Order.{natAbs-sgn}
 use Rattle.units.specs.Units as units
 use Rattle.limits.specs.declared.Term.{Term}
-use Rattle.series_lines.specs.Grammar.{part-digits, numeral, Decimal, size, value, Good-decimal, Count-line, count, Good-count, Term-line, Good-term, term-of-line}
+use Rattle.series_lines.specs.Grammar.{part-digits, numeral, Decimal, size, value, Good-decimal, Count-line, count, Good-count}
+use Rattle.series_lines.specs.Grammar.{Term-line, Good-term, term-of-line}
 use Rattle.printer.specs.Printer.{last-digits, plain-decimal, plain-count, plain-term}
 use Rattle.printer.proofs.DigitsWritten.{length-last}
 use Rattle.printer_promises.proofs.Spacing.{Plain-line}

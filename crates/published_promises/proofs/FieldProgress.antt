@@ -9,7 +9,7 @@ use borrow.Author.Tests.{eqb-true, eqb-false, eq-eqb, ne-eqb, ltb-true, ltb-fals
 use lib.Dec.{eqb, ltb, leb, lit<}
 use Rattle.integers.proofs.Tests.{by-cases}
 use Rattle.series_lines.specs.declared.Line.{Line}
-use Rattle.series_lines.specs.Lexer.{spot-bad, value-limit, takes-digit, with-digit, with-point, lex}
+use Rattle.series_lines.specs.Lexer.{spot-done, spot-bad, value-limit, takes-digit, with-digit, with-point, lex}
 use Rattle.series_lines.proofs.Digits.{in-parts, at-last-part, later-digit}
 use Rattle.series_lines.specs.Grammar.{feed}
 use Rattle.published_records.specs.Rows.{no-digit, unbegun, may-begin, in-whole}
@@ -164,7 +164,7 @@ taken-field w most l b _ (signed e i j h k) y = refl
 -- ---- The columns after the point.
 
 pub record Parting (left : ℕ) (l : Line) : Type 0 where
-  pub spot : l .spot + left ≡ 18
+  pub spot : l .spot + left ≡ spot-done
   pub low : 7 ≤ l .spot
   pub value : l .value < 10 ^ l .spot
 

@@ -13,7 +13,7 @@ use Rattle.integers.proofs.Tests.{by-cases, both}
 use Rattle.series_lines.specs.declared.Line.{Line}
 use Rattle.series_lines.specs.Grammar.{spaces, sign, digits, All-digits, numeral, Natural, Decimal}
 use Rattle.series_lines.specs.Grammar.{size, decimal, Good-decimal, Count-line, count, count-bytes, Good-count}
-use Rattle.series_lines.specs.Lexer.{spot-bad, fresh, bad, takes-digit, lex, lexes}
+use Rattle.series_lines.specs.Lexer.{spot-done, spot-bad, fresh, bad, takes-digit, lex, lexes}
 use Rattle.published_records.specs.Rows.{no-digit, unbegun, may-begin, in-whole}
 use Rattle.text_promises.proofs.GoodLines.{put, flag, lex-point}
 use Rattle.text_promises.proofs.OneByte.{Lexed, none, digit, pointed, spaced, kept, negated, view, never, last-part, whole-more, count-more}
@@ -300,7 +300,7 @@ pub record Parts-in (l : Line) (m v n : ℕ) (xs : List ℕ) (G : Line) : Type 0
   pub all : All-digits ds
   pub long : length ds ≡ n
   pub sized : (m ≡ 0) ⊎ (0 < numeral v ds)
-  pub line : G ≡ put l 18 m (numeral v ds)
+  pub line : G ≡ put l spot-done m (numeral v ds)
 
 module _ (l : Line) (s m v b : ℕ) (low : 7 ≤ s) where
   parts-last : s ≡ 17 → (L : Line) → Lexed (put l s m v) b L → (L .spot ≡ spot-bad → ⊥) → Parts-in l m v 1 (b ∷ []) L
@@ -340,7 +340,7 @@ module _ (l : Line) (s m v b : ℕ) (low : 7 ≤ s) where
   parts-more n bs e rec _ (kept i h k) y = absurd (omega arith)
   parts-more n bs e rec _ (negated i h k) y = absurd (omega arith)
 
-parts-in : (n : ℕ) (xs : List ℕ) (l : Line) (s m v : ℕ) → 7 ≤ s → s + suc n ≡ 18 → length xs ≡ suc n → (lexes (put l s m v) xs .spot ≡ spot-bad → ⊥)
+parts-in : (n : ℕ) (xs : List ℕ) (l : Line) (s m v : ℕ) → 7 ≤ s → s + suc n ≡ spot-done → length xs ≡ suc n → (lexes (put l s m v) xs .spot ≡ spot-bad → ⊥)
     → Parts-in l m v (suc n) xs (lexes (put l s m v) xs)
 unfolding lexes
 parts-in n [] l s m v h k e y = absurd (omega arith)
@@ -365,7 +365,7 @@ pub record Decimal-in (l : Line) (xs : List ℕ) (G : Line) : Type 0 where
   pub d : Decimal
   pub good : Good-decimal d
   pub is : xs ≡ spaces n ++ decimal d
-  pub line : G ≡ put l 18 (flag (d .minus)) (size d)
+  pub line : G ≡ put l spot-done (flag (d .minus)) (size d)
 
 sized-minus : (m : Bool) (v : ℕ) → (flag m ≡ 0) ⊎ (0 < v) → m ≡ true → 0 < v
 unfolding flag

@@ -34,7 +34,8 @@ use Rattle.published_promises.proofs.Lines.{in-record, st, kind, run-no
 use Rattle.published_promises.proofs.Judged.{verdict-early, Says, begins, live, no-feed}
 use Rattle.published_promises.proofs.Judged.{whole-in, heading-can, record-can, heading-says, record-says}
 use Rattle.published_promises.proofs.Judged.{heading-judged, order-refused, heading-count-refused, heading-zero}
-use Rattle.published_promises.proofs.Judged.{record-judged, record-number-refused, record-limit-refused, record-total-refused, record-coarse-refused, record-zero}
+use Rattle.published_promises.proofs.Judged.{record-judged, record-number-refused, record-limit-refused, record-zero}
+use Rattle.published_promises.proofs.Judged.{record-total-refused, record-coarse-refused}
 
 -- The reader p refuses the bytes xs, before the end and at it, and nothing is written.
 pub record Halts (p : Published) (o xs : List ℕ) (f : Refusal) : Type 0 where

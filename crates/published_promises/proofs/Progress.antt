@@ -12,7 +12,7 @@ use lib.Dec.{eqb, ltb, leb}
 use lib.ListN.{length, length-append}
 use Rattle.integers.proofs.Tests.{by-cases}
 use Rattle.series_lines.specs.declared.Line.{Line}
-use Rattle.series_lines.specs.Lexer.{spot-bad, fresh, bad, lex}
+use Rattle.series_lines.specs.Lexer.{spot-done, spot-bad, fresh, bad, lex}
 use Rattle.series_lines.specs.Grammar.{part-digits}
 use Rattle.published_records.specs.declared.Column.{Column}
 use Rattle.published_records.specs.declared.Column.the-variants.{Filler, Digit, Count, Whole}
@@ -259,7 +259,7 @@ data Ready-record (c : ℕ) (l : Line) : Type 0 where
   turn : Turn c l → Ready-record c l
 
 -- After a whole decimal.
-turn-after : (s : Which) (c : ℕ) (l : Line) → c ≡ point-of s + 12 → l .spot ≡ 18 → l .field ≡ order s → Turn c l
+turn-after : (s : Which) (c : ℕ) (l : Line) → c ≡ point-of s + 12 → l .spot ≡ spot-done → l .field ≡ order s → Turn c l
 turn-after at-a c l e h f =
     field at-b (keep l (l .minus) (l .value)) e
     (ap (λ (x : ℕ). enter false 98 (put l x (l .minus) (l .value))) h ∙ enter-b l (l .minus) (l .value) (omega arith)) (omega arith)

@@ -11,7 +11,7 @@ use lib.Dec.{eqb, ltb}
 use lib.ListN.{length, length-append}
 use Rattle.integers.proofs.Tests.{by-cases}
 use Rattle.series_lines.specs.declared.Line.{Line}
-use Rattle.series_lines.specs.Lexer.{spot-bad, spot-decimal, fresh, bad, with-space, lex, lexes, whole-count}
+use Rattle.series_lines.specs.Lexer.{spot-done, spot-bad, spot-decimal, fresh, bad, with-space, lex, lexes, whole-count}
 use Rattle.published_records.specs.declared.Row.{Row}
 use Rattle.published_records.specs.declared.Column.{Column}
 use Rattle.published_records.specs.declared.Column.the-variants.{Count, Whole}
@@ -129,7 +129,7 @@ lines-bad h (x ∷ xs) c l e =
     enter-bad false c l e =
         unfold enter in unfold with-space in
         let d = ne-eqb (l .spot) 0 (λ i. omega (arith, i)) in
-        let f = ne-eqb (l .spot) 18 (λ i. omega (arith, i)) in
+        let f = ne-eqb (l .spot) spot-done (λ i. omega (arith, i)) in
         let n = le-ltb (l .spot) 25 (omega arith) in
         let k : whole-count l ≡ false = unfold whole-count in by-cases (ltb 20 (l .spot)) (λ p. rw (p, n)) (λ p. rw p) in
         by-cases (eqb c 80)

@@ -10,7 +10,7 @@ use lib.ListN.{length, length-append}
 use Rattle.integers.proofs.Tests.{by-cases}
 use Rattle.series_lines.specs.declared.Line.{Line}
 use Rattle.series_lines.specs.Grammar.{spaces, Count-line, count, count-bytes, Good-count, Decimal, decimal, Good-decimal, size}
-use Rattle.series_lines.specs.Lexer.{spot-bad, fresh, bad, with-space, whole-count}
+use Rattle.series_lines.specs.Lexer.{spot-done, spot-bad, fresh, bad, with-space, whole-count}
 use Rattle.published_records.specs.declared.Column.{Column}
 use Rattle.published_records.specs.declared.Column.the-variants.{Filler, Digit, Count}
 use Rattle.published_records.specs.Layout.{No-feed, Free, heading-bytes, record-bytes}
@@ -273,7 +273,7 @@ record Field-in (n m e : ℕ) (l : Line) (xs : List ℕ) : Type 0 where
   right : indent + length (decimal d) ≡ n
   left : m ≤ length rest
   rest-free : No-feed rest
-  live : Live false e (put l 18 (flag (d .minus)) (size d)) rest
+  live : Live false e (put l spot-done (flag (d .minus)) (size d)) rest
 
 -- Such a field cut: whole columns, the point, and eleven columns.
 record Pieces (w m : ℕ) (xs : List ℕ) : Type 0 where
@@ -382,11 +382,11 @@ pub enter-a : (l : Line) → 20 < l .spot → l .spot < 25 → enter false 80 l 
 unfolding enter whole-count
 enter-a l h k = rw (lt-ltb 20 (l .spot) h, lt-ltb (l .spot) 25 k)
 
-pub enter-b : (l : Line) (m v : ℕ) → l .field < 2 → enter false 98 (put l 18 m v) ≡ put (keep l m v) 0 0 0
+pub enter-b : (l : Line) (m v : ℕ) → l .field < 2 → enter false 98 (put l spot-done m v) ≡ put (keep l m v) 0 0 0
 unfolding enter with-space
 enter-b l m v h = rw (lt-ltb (l .field) 2 h)
 
-pub enter-c : (l : Line) (m v : ℕ) → l .field < 2 → enter false 112 (put l 18 m v) ≡ put (keep l m v) 0 0 0
+pub enter-c : (l : Line) (m v : ℕ) → l .field < 2 → enter false 112 (put l spot-done m v) ≡ put (keep l m v) 0 0 0
 unfolding enter with-space
 enter-c l m v h = rw (lt-ltb (l .field) 2 h)
 
@@ -408,11 +408,11 @@ record-lines-in xs n f y =
     let f₂ = free-in false 11 69 52 80 L (k .rest) refl (k .left) (k .rest-free) (inside-heading 11 80 (lit≤ tt)) free-between (k .live) in
     let a = field-in 80 6 18 34 98 L (fresh 0) (f₂ .rest) refl refl (lit≤ tt) (f₂ .left) (f₂ .rest-free) inside-a a-columns
     (number-enters (k .k) (k .good)) (f₂ .live) in
-    let A = put (fresh 0) 18 (flag (a .d .minus)) (size (a .d)) in
+    let A = put (fresh 0) spot-done (flag (a .d .minus)) (size (a .d)) in
     let K = keep (fresh 0) (flag (a .d .minus)) (size (a .d)) in
     let b = field-in 98 2 14 20 112 A K (a .rest) refl refl (lit≤ tt) (a .left) (a .rest-free) inside-b b-columns
     (enter-b (fresh 0) (flag (a .d .minus)) (size (a .d)) (lit≤ tt)) (a .live) in
-    let B = put K 18 (flag (b .d .minus)) (size (b .d)) in
+    let B = put K spot-done (flag (b .d .minus)) (size (b .d)) in
     let J = keep K (flag (b .d .minus)) (size (b .d)) in
     let c = field-in 112 8 20 0 132 B J (b .rest) refl refl (lit≤ tt) (b .left) (b .rest-free) inside-c c-columns
     (enter-c K (flag (b .d .minus)) (size (b .d)) (lit≤ tt)) (b .live) in
@@ -448,7 +448,7 @@ record-lines-in xs n f y =
           record-strung (f₁ .front) (f₂ .front) xs (f₁ .rest) (k .rest) (f₂ .rest) (a .rest) (b .rest) (c .rest) (spaces (k .indent))
           (spaces (a .indent)) (spaces (b .indent)) (spaces (c .indent)) (count-bytes (k .k)) (decimal (a .d)) (decimal (b .d)) (decimal (c .d))
           (spaces (length (c .rest))) (f₁ .is) (k .is) (f₂ .is) (a .is) (b .is) (c .is)
-          (blank-in (c .rest) 132 (put J 18 (flag (c .d .minus)) (size (c .d))) (lit≤ tt) (c .live));
+          (blank-in (c .rest) 132 (put J spot-done (flag (c .d .minus)) (size (c .d))) (lit≤ tt) (c .live));
     }
 
 pub record-in : (xs : List ℕ) → No-feed xs → (lex-rows false fresh-row xs .line .spot ≡ spot-bad → ⊥) → whole-row false (lex-rows false fresh-row xs) ≡ true

@@ -5,6 +5,7 @@ use Prim.Native.Nat.{ℕ, suc, _+_, _-_, _≤_}
 use native.Mathlib.Omega.{arith}
 use lib.ListN.{length, length-append}
 use lib.Seq.{sets, length-sets}
+use Rattle.units.specs.Units.{block-count}
 use Rattle.limits.specs.declared.Tally.{Tally}
 use Rattle.limits.specs.Limits.{factor, opened, added}
 use Rattle.series_lines.specs.declared.Reader.{Reader}
@@ -115,7 +116,7 @@ runs (with-term {ls} {k} {n} {s} l b g f) out rest c h =
     one l f = unfold Terms-in-limits in (f, tt)
 
 -- A beginning has no more counts than a series.
-pub few : {ls : List Any-line} {k n : ℕ} {s : Tally} → Beginning ls k n s → k ≤ 18
+pub few : {ls : List Any-line} {k n : ℕ} {s : Tally} → Beginning ls k n s → k ≤ block-count
 few empty = omega arith
 few (with-count l b i g f) = omega arith
 few (with-term l b g f) = few b

@@ -16,7 +16,7 @@ use Rattle.limits.specs.Limits.{factor, no-tally, opened, added, count-fits, a-
 use Rattle.series_lines.specs.declared.Line.{Line}
 use Rattle.series_lines.specs.declared.Outcome.{Outcome}
 use Rattle.series_lines.specs.declared.Outcome.the-variants.{More, Accepted}
-use Rattle.series_lines.specs.Lexer.{fresh, lex, lexes, whole-count, whole-term}
+use Rattle.series_lines.specs.Lexer.{spot-done, fresh, lex, lexes, whole-count, whole-term}
 use Rattle.series_lines.specs.Reader.{last-offset, told}
 use Rattle.text.specs.Reader.{begun, Run, run, ended, whole}
 use Rattle.series_lines.specs.Grammar.{size, value, Count-line, count, count-bytes, Good-count, Term-line, term-bytes, Good-term, term-of-line, Term-in-limits}
@@ -57,16 +57,16 @@ module _ (text out : List ℕ) (c : length text ≤ last-offset) where
 
   module _ {ls : List Any-line} {s : Tally} {room : ℕ} (h : Stands text out ls block-count 0 s [] room) where
     to-end : run begun out text
-        ≡ record { reader = sp 30 (length (any-bytes ls)) (length (any-packed ls)) 18 0 s; out = sets out 0 (any-packed ls) }
+        ≡ record { reader = sp 30 (length (any-bytes ls)) (length (any-packed ls)) block-count 0 s; out = sets out 0 (any-packed ls) }
     unfolding run
     to-end =
         reads-to h
-        ∙ ap (λ (i : ℕ). run (sp i (length (any-bytes ls)) (length (any-packed ls)) 18 0 s) (sets out 0 (any-packed ls)) []) spot-after
+        ∙ ap (λ (i : ℕ). run (sp i (length (any-bytes ls)) (length (any-packed ls)) block-count 0 s) (sets out 0 (any-packed ls)) []) spot-after
 
   pub answers : {o : Outcome} {left : List ℕ} → Answers text out o left → (told (whole text out .reader) ≡ o) × (whole text out .out ≡ left)
   answers (accepts h) = (ap (λ (x : Run). told (ended (x .reader))) (to-end h) ∙ accept _ _ _, ap (λ (x : Run). x .out) (to-end h))
     where
-      accept : (at w : ℕ) (s : Tally) → told (ended (sp 30 at w 18 0 s)) ≡ Accepted w
+      accept : (at w : ℕ) (s : Tally) → told (ended (sp 30 at w block-count 0 s)) ≡ Accepted w
       accept at w s = unfold told ended in refl
   answers (refuses h r) =
       let q = stops h r in
@@ -79,7 +79,7 @@ module _ (text out : List ℕ) (c : length text ≤ last-offset) where
       → (told (run begun out text .reader) ≡ o) × (run begun out text .out ≡ left)
   answers-so-far (complete h) = (ap (λ (x : Run). told (x .reader)) (to-end h) ∙ reads _ _ _, ap (λ (x : Run). x .out) (to-end h))
     where
-      reads : (at w : ℕ) (s : Tally) → told (sp 30 at w 18 0 s) ≡ More w
+      reads : (at w : ℕ) (s : Tally) → told (sp 30 at w block-count 0 s) ≡ More w
       reads at w s = unfold told in refl
   answers-so-far (refused h r) =
       let q = stops h r in
@@ -233,12 +233,12 @@ finished text out ls s (b ∷ more) room h = to-refusal h (after-end b more)
 comes-by : (text out : List ℕ) (N : ℕ) → Shorter text out N → (ls : List Any-line) (k n : ℕ) (s : Tally) (rest : List ℕ) (room : ℕ)
     → length rest ≤ N → Stands text out ls k n s rest room → Comes text out
 comes-by text out N rec ls k zero s rest room c h =
-    by-cases (eqb k 18)
-    (λ z. finished text out ls s rest room (subst (λ (i : ℕ). Stands text out ls i 0 s rest room) (eqb-true k 18 z) h))
-    (λ z. count-comes text out N rec ls k s room (not-all (eqb-false k 18 z) (few (h .beginning))) rest
+    by-cases (eqb k block-count)
+    (λ z. finished text out ls s rest room (subst (λ (i : ℕ). Stands text out ls i 0 s rest room) (eqb-true k block-count z) h))
+    (λ z. count-comes text out N rec ls k s room (not-all (eqb-false k block-count z) (few (h .beginning))) rest
     (scan rest (fresh 20) (λ e. omega (arith, e))) c h)
   where
-    not-all : (k ≡ 18 → ⊥) → k ≤ 18 → k < block-count
+    not-all : (k ≡ block-count → ⊥) → k ≤ block-count → k < block-count
     not-all a b = omega arith
 comes-by text out N rec ls k (suc n) s rest room c h =
     term-comes text out N rec ls k s room n rest (scan rest (fresh 0) (λ e. omega (arith, e))) c h
@@ -272,7 +272,8 @@ module _ (text out : List ℕ) (c : length text ≤ last-offset) where
   pub decided-so-far : Answers-so-far text out (told (run begun out text .reader)) (run begun out text .out)
   decided-so-far = go (comes text out)
     where
-      given : {o : Outcome} {left : List ℕ} → Answers-so-far text out o left → Answers-so-far text out (told (run begun out text .reader)) (run begun out text .out)
+      given : {o : Outcome} {left : List ℕ} → Answers-so-far text out o left
+          → Answers-so-far text out (told (run begun out text .reader)) (run begun out text .out)
       given a = let e = answers-so-far text out c a in rw (e .0, e .1) a
 
       go : Comes text out → Answers-so-far text out (told (run begun out text .reader)) (run begun out text .out)

@@ -11,7 +11,7 @@ use lib.Dec.{eqb, lit<}
 use lib.ListN.{length}
 use Rattle.series_lines.specs.declared.Line.{Line}
 pub use Rattle.series_lines.specs.Lexer.{put, keep}
-use Rattle.series_lines.specs.Lexer.{value-limit, fresh, takes-digit, with-digit, with-point, with-space, with-minus, lex, lexes}
+use Rattle.series_lines.specs.Lexer.{spot-done, value-limit, fresh, takes-digit, with-digit, with-point, with-space, with-minus, lex, lexes}
 use Rattle.series_lines.specs.Grammar.{spaces, sign, digits, All-digits, numeral, Natural, Decimal, size, decimal, Good-decimal}
 use Rattle.series_lines.specs.Grammar.{Count-line, count, count-bytes, Good-count, Term-line, term-bytes, Good-term}
 use Rattle.series_lines.proofs.Digits.{in-whole, in-parts, at-last-part, in-count, first-digit, later-digit}
@@ -88,10 +88,10 @@ natural-run base top S l m d ds n g h k =
     ∙ more-run base top S ds l (base + 1) m d 1 (g .digits) (omega arith) (omega (arith, g .few)) (g .digit) (omega (arith, g .few)) (g .leading)
 
 -- The eleven decimals.
-pub parts-run : (ds : List ℕ) (l : Line) (s m v n : ℕ) → All-digits ds → 7 ≤ s → s + length ds ≡ 18 → v < 10 ^ n → n + length ds ≤ 18
-    → (m ≡ 0) ⊎ (0 < numeral v ds) → lexes (put l s m v) (digits ds) ≡ put l 18 m (numeral v ds)
+pub parts-run : (ds : List ℕ) (l : Line) (s m v n : ℕ) → All-digits ds → 7 ≤ s → s + length ds ≡ spot-done → v < 10 ^ n → n + length ds ≤ 18
+    → (m ≡ 0) ⊎ (0 < numeral v ds) → lexes (put l s m v) (digits ds) ≡ put l spot-done m (numeral v ds)
 unfolding lexes digits numeral All-digits
-parts-run [] l s m v n a h k p q z = let e : s ≡ 18 = omega arith in rw e
+parts-run [] l s m v n a h k p q z = let e : s ≡ spot-done = omega arith in rw e
 parts-run (d ∷ []) l s m v n a h k p q z =
     let e : s ≡ 17 = omega arith in
     rw e (lex-digit l 17 m v d (a .0) (takes-last m v d (under n v (omega arith) p) (⊎-elim (λ x. inl x) (λ x. inr (omega arith)) z)))
@@ -108,7 +108,7 @@ pub lex-point : (l : Line) (s m v : ℕ) → 1 ≤ s → s ≤ 6 → lex (put l 
 unfolding lex with-point
 lex-point l s m v h k = rw (le-leb 1 s h, le-leb s 6 k)
 
-pub lex-keep : (l : Line) (m v : ℕ) → l .field < 2 → lex (put l 18 m v) 32 ≡ keep l m v
+pub lex-keep : (l : Line) (m v : ℕ) → l .field < 2 → lex (put l spot-done m v) 32 ≡ keep l m v
 unfolding lex with-space
 lex-keep l m v h = rw (lt-ltb (l .field) 2 h)
 
@@ -129,7 +129,7 @@ numeral-bound (d ∷ ds) v n a h =
     let e : n + 1 + length ds ≡ n + suc (length ds) = omega arith in
     rw e at (numeral-bound ds (10 * v + d) (n + 1) (a .1) (omega (arith, ten n, a .0)))
 
-pub decimal-run : (l : Line) (d : Decimal) → Good-decimal d → lexes (put l 0 0 0) (decimal d) ≡ put l 18 (flag (d .minus)) (size d)
+pub decimal-run : (l : Line) (d : Decimal) → Good-decimal d → lexes (put l 0 0 0) (decimal d) ≡ put l spot-done (flag (d .minus)) (size d)
 unfolding decimal size
 decimal-run l d g =
     let m = flag (d .minus) in
@@ -146,7 +146,7 @@ decimal-run l d g =
   where
     after-point : (l : Line) (s m v n : ℕ) (ds : List ℕ) → 1 ≤ s → s ≤ 6 → All-digits ds → length ds ≡ 11 → v < 10 ^ n → n ≤ 6
         → (m ≡ 0) ⊎ (0 < numeral v ds)
-        → lexes (put l s m v) (46 ∷ digits ds) ≡ put l 18 m (numeral v ds)
+        → lexes (put l s m v) (46 ∷ digits ds) ≡ put l spot-done m (numeral v ds)
     after-point l s m v n ds h k a e b c z =
         unfold lexes in
         ap (λ (x : Line). lexes x (digits ds)) (lex-point l s m v h k)
@@ -161,7 +161,7 @@ count-run k g = natural-run 20 24 count-spots (fresh 20) 0 (k .first) (k .more) 
 abbrev pub line-of-term : Term-line → Line
 line-of-term t =
     record {
-      spot = 18;
+      spot = spot-done;
       field = 2;
       minus = flag (t .c .minus);
       value = size (t .c);
@@ -171,14 +171,14 @@ line-of-term t =
       b = size (t .b);
     }
 
-gap-run : (l : Line) (m v n : ℕ) → l .field < 2 → lexes (put l 18 m v) (32 ∷ spaces n) ≡ keep l m v
+gap-run : (l : Line) (m v n : ℕ) → l .field < 2 → lexes (put l spot-done m v) (32 ∷ spaces n) ≡ keep l m v
 unfolding lexes
 gap-run l m v n h = ap (λ (x : Line). lexes x (spaces n)) (lex-keep l m v h) ∙ spaces-run n (keep l m v) 0
 
 next-run : (l : Line) (m v n : ℕ) (d : Decimal) → l .field < 2 → Good-decimal d
-    → lexes (put l 18 m v) ((32 ∷ spaces n) ++ decimal d) ≡ put (keep l m v) 18 (flag (d .minus)) (size d)
+    → lexes (put l spot-done m v) ((32 ∷ spaces n) ++ decimal d) ≡ put (keep l m v) spot-done (flag (d .minus)) (size d)
 next-run l m v n d h g =
-    lexes-append (put l 18 m v) (32 ∷ spaces n) (decimal d)
+    lexes-append (put l spot-done m v) (32 ∷ spaces n) (decimal d)
     ∙ ap (λ (x : Line). lexes x (decimal d)) (gap-run l m v n h)
     ∙ decimal-run (keep l m v) d g
 
@@ -188,9 +188,9 @@ term-run t g =
     let c : List ℕ = (32 ∷ spaces (t .after-b)) ++ decimal (t .c) in
     let b : List ℕ = decimal (t .b) ++ c in
     let s : List ℕ = 32 ∷ spaces (t .after-a) in
-    let l₁ = put (fresh 0) 18 (flag (t .a .minus)) (size (t .a)) in
+    let l₁ = put (fresh 0) spot-done (flag (t .a .minus)) (size (t .a)) in
     let k₁ = keep (fresh 0) (flag (t .a .minus)) (size (t .a)) in
-    let l₂ = put k₁ 18 (flag (t .b .minus)) (size (t .b)) in
+    let l₂ = put k₁ spot-done (flag (t .b .minus)) (size (t .b)) in
     lexes-append (fresh 0) (spaces (t .lead)) (decimal (t .a) ++ (s ++ b))
     ∙ ap (λ (x : Line). lexes x (decimal (t .a) ++ (s ++ b))) (spaces-run (t .lead) (fresh 0) 0)
     ∙ lexes-append (fresh 0) (decimal (t .a)) (s ++ b)

@@ -7,6 +7,7 @@ use native.Mathlib.Nat.{add-zero}
 use native.Mathlib.Omega.{arith}
 use lib.ListN.{length, length-append}
 use lib.Seq.{sets, length-sets}
+use Rattle.units.specs.Units.{block-count}
 use Rattle.packed_numbers.specs.Numbers.{encode}
 use Rattle.limits.specs.declared.Tally.{Tally}
 use Rattle.limits.specs.Limits.{opened, added, summed, after-block, factor, count-fits}
@@ -54,7 +55,7 @@ term-line t at w k n s out ys g l c h =
     ∙ (rw (v .2, v .1))
 
 -- A count line.
-pub count-line : (c : Count-line) (at w k : ℕ) (s : Tally) (out ys : List ℕ) → Good-count c → k < 18 → count-fits s (count c) ≡ true
+pub count-line : (c : Count-line) (at w k : ℕ) (s : Tally) (out ys : List ℕ) → Good-count c → k < block-count → count-fits s (count c) ≡ true
     → at + length (count-bytes c) < last-offset
     → w + length (count-packed c) ≤ length out
     → run (sp 20 at w k 0 s) out (count-bytes c ++ (10 ∷ ys))
@@ -110,20 +111,20 @@ unfolding run
 run-none r out = refl
 
 same-run : (s : Tally) (a a′ w w′ : ℕ) (o o′ : List ℕ) → a ≡ a′ → w ≡ w′ → o ≡ o′
-    → _≡_ {A = Run} record { reader = st a w 18 0 s; out = o } record { reader = st a′ w′ 18 0 s; out = o′ }
+    → _≡_ {A = Run} record { reader = st a w block-count 0 s; out = o } record { reader = st a′ w′ block-count 0 s; out = o′ }
 same-run s a a′ w w′ o o′ p q r = rw (p, q, r)
 
 -- Blocks to the eighteenth.
-pub blocks-run : (ks : List Block) (at w k : ℕ) (s : Tally) (out : List ℕ) → Good-blocks ks → Blocks-in-limits k s ks → k + length ks ≡ 18
+pub blocks-run : (ks : List Block) (at w k : ℕ) (s : Tally) (out : List ℕ) → Good-blocks ks → Blocks-in-limits k s ks → k + length ks ≡ block-count
     → at + length (blocks-bytes ks) ≤ last-offset
     → w + length (pack (blocks-of-lines ks)) ≤ length out
     → run (st at w k 0 s) out (blocks-bytes ks)
     ≡ record {
-      reader = st (at + length (blocks-bytes ks)) (w + length (pack (blocks-of-lines ks))) 18 0 (after-blocks k s ks);
+      reader = st (at + length (blocks-bytes ks)) (w + length (pack (blocks-of-lines ks))) block-count 0 (after-blocks k s ks);
       out = sets out w (pack (blocks-of-lines ks));
     }
 unfolding Good-blocks Blocks-in-limits blocks-bytes blocks-of-lines pack pack-block after-blocks after-block
-blocks-run [] at w k s out g l e c h = let i : k ≡ 18 = omega arith in run-none (st at w k 0 s) out ∙ (rw (i, add-zero at, add-zero w))
+blocks-run [] at w k s out g l e c h = let i : k ≡ block-count = omega arith in run-none (st at w k 0 s) out ∙ (rw (i, add-zero at, add-zero w))
 blocks-run (b ∷ bs) at w k s out g l e c h =
     let ls = b .lines in
     let n = count (b .head) in
@@ -152,7 +153,7 @@ blocks-run (b ∷ bs) at w k s out g l e c h =
     let s₂ = after-block k s (terms-of-lines ls) in
     let s₃ = after-blocks (k + 1) s₂ bs in
     let pb : pack (blocks-of-lines (b ∷ bs)) ≡ (x ++ y) ++ z = rw f in
-    let k₁ : k < 18 = omega arith in
+    let k₁ : k < block-count = omega arith in
     let t₁ : Terms-in-limits (factor (k + 1 - 1)) s₁ ls = rw (less k) (l .1) in
     ap (λ (i : ℕ). run (sp i at w k 0 s) out (count-bytes (b .head) ++ (10 ∷ (lines-bytes ls ++ blocks-bytes bs)))) (spot-count k (λ i. omega (arith, i)))
     ∙ count-line (b .head) at w k s out (lines-bytes ls ++ blocks-bytes bs) (g .0) k₁ (l .0) (omega (arith, p)) (omega (arith, q, h′))

@@ -284,19 +284,19 @@ module _ (at w k : ℕ) (s : Tally) (o : List ℕ) where
         (inside-line at (term-bytes l) 10 more m) more (v .0 ∙ term-zero (factor (k - 1)) s l e) (rw (v .1) u))
 
 -- A byte after block 18.
-after-halts : (at w : ℕ) (s : Tally) (o : List ℕ) (b : ℕ) (more : List ℕ) → at < last-offset → Halts (st at w 18 0 s) o (b ∷ more) (ByteAfterEnd at)
+after-halts : (at w : ℕ) (s : Tally) (o : List ℕ) (b : ℕ) (more : List ℕ) → at < last-offset → Halts (st at w block-count 0 s) o (b ∷ more) (ByteAfterEnd at)
 unfolding run of-number
 after-halts at w s o b more h =
-    let r = sp 30 at w 18 0 s in
+    let r = sp 30 at w block-count 0 s in
     let t = by-after (λ e. omega (arith, e)) in
-    subst (λ (i : ℕ). Halts (sp i at w 18 0 s) o (b ∷ more) (ByteAfterEnd at)) (sym spot-after)
+    subst (λ (i : ℕ). Halts (sp i at w block-count 0 s) o (b ∷ more) (ByteAfterEnd at)) (sym spot-after)
     (halts r o (b ∷ more) (ByteAfterEnd at) r byte-after-end
     (ap (λ (y : List ℕ). run (step r o b) y more) (t .1) ∙ ap (λ (q : Reader). run q o more) (t .0)
     ∙ stays more (stopped r byte-after-end) o (λ q. omega (arith, q)))
     refl refl refl)
   where
     by-after : (at ≡ last-offset → ⊥)
-        → (step (sp 30 at w 18 0 s) o b ≡ stopped (sp 30 at w 18 0 s) byte-after-end) × (step-out (sp 30 at w 18 0 s) o b ≡ o)
+        → (step (sp 30 at w block-count 0 s) o b ≡ stopped (sp 30 at w block-count 0 s) byte-after-end) × (step-out (sp 30 at w block-count 0 s) o b ≡ o)
     by-after n = let t = ne-eqb at last-offset n in unfold step step-out uncounted in (rw t, rw t)
 
 pub refusals : {at : ℕ} {s : Tally} {room k n : ℕ} {rest : List ℕ} {f : Refusal} → Refuses at s room k n rest f → (w : ℕ) (o : List ℕ)

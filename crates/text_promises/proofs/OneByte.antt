@@ -8,7 +8,7 @@ use native.Mathlib.Omega.{arith}
 use borrow.Author.Tests.{ltb-true, ltb-false, leb-true, eqb-true, ne-eqb}
 use lib.Dec.{leb, ltb, eqb}
 use Rattle.series_lines.specs.declared.Line.{Line}
-use Rattle.series_lines.specs.Lexer.{bad, takes-digit, with-digit, with-point, with-space, with-minus, lex, lexes, whole-count, whole-term}
+use Rattle.series_lines.specs.Lexer.{spot-done, bad, takes-digit, with-digit, with-point, with-space, with-minus, lex, lexes, whole-count, whole-term}
 use Rattle.integers.proofs.Tests.{by-cases}
 use Rattle.series_lines.proofs.Digits.{in-whole, before-point, at-last-part, in-count, after-value, small, early}
 use Rattle.text_promises.proofs.GoodLines.{put, keep}
@@ -20,7 +20,7 @@ pub data Lexed (l : Line) (byte : ℕ) : Line → Type 0 where
       → Lexed l byte (put l (l .spot + 1) (l .minus) (10 * l .value + d))
   pointed : byte ≡ 46 → 1 ≤ l .spot → l .spot ≤ 6 → Lexed l byte (put l 7 (l .minus) (l .value))
   spaced : byte ≡ 32 → l .spot ≡ 0 → l .minus ≡ 0 → Lexed l byte l
-  kept : byte ≡ 32 → l .spot ≡ 18 → l .field < 2 → Lexed l byte (keep l (l .minus) (l .value))
+  kept : byte ≡ 32 → l .spot ≡ spot-done → l .field < 2 → Lexed l byte (keep l (l .minus) (l .value))
   negated : byte ≡ 45 → l .spot ≡ 0 → l .minus ≡ 0 → Lexed l byte (put l 0 1 (l .value))
 
 module _ (l : Line) (byte : ℕ) where
@@ -43,7 +43,7 @@ module _ (l : Line) (byte : ℕ) where
   view-space e =
       by-cases (eqb (l .spot) 0)
       (λ p. by-cases (eqb (l .minus) 0) (λ q. rw (p, q) (spaced e (eqb-true _ _ p) (eqb-true _ _ q))) (λ q. rw (p, q) none))
-      (λ p. by-cases (eqb (l .spot) 18)
+      (λ p. by-cases (eqb (l .spot) spot-done)
       (λ q. by-cases (ltb (l .field) 2) (λ r. rw (p, q, r) (kept e (eqb-true _ _ q) (ltb-true _ _ r))) (λ r. rw (p, q, r) none))
       (λ q. rw (p, q) none))
 
@@ -85,13 +85,13 @@ pub never : {P : Type 0} → false ≡ true → P
 never h = let z : _≡_ {A = ℕ} 0 1 = cc in absurd (omega arith)
 
 pub record Term (l : Line) : Type 0 where
-  pub spot : l .spot ≡ 18
+  pub spot : l .spot ≡ spot-done
   pub field : l .field ≡ 2
 
 pub term-of : (l : Line) → whole-term l ≡ true → Term l
 unfolding whole-term
 term-of l h =
-    by-cases (eqb (l .spot) 18)
+    by-cases (eqb (l .spot) spot-done)
     (λ p. record { spot = eqb-true _ _ p; field = eqb-true _ _ (rw p at h) })
     (λ p. never (rw p at h))
 

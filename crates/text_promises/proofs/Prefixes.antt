@@ -11,7 +11,7 @@ use lib.Dec.{eqb, leb, lit<}
 use lib.ListN.{length}
 use Rattle.units.specs.Refusals.{bad-byte}
 use Rattle.series_lines.specs.declared.Line.{Line}
-use Rattle.series_lines.specs.Lexer.{fresh, lex, lexes, whole-count, whole-term}
+use Rattle.series_lines.specs.Lexer.{spot-done, fresh, lex, lexes, whole-count, whole-term}
 use Rattle.series_lines.specs.Grammar.{digits, All-digits, numeral, Natural, Decimal, size, decimal, Good-decimal}
 use Rattle.series_lines.specs.Grammar.{count-bytes}
 pub use Rattle.text_promises.specs.Decided.{Begins-term, Begins-count}
@@ -29,7 +29,7 @@ use Rattle.text.specs.Reader.{step}
 
 -- What holds of a term line as long as it is good.
 record Live (l : Line) : Type 0 where
-  spot : l .spot ≤ 18
+  spot : l .spot ≤ spot-done
   field : l .field ≤ 2
   value : l .value < 10 ^ l .spot
 
@@ -42,7 +42,7 @@ live-step l byte v = go (lex l byte) (view l byte)
     go : (m : Line) → Lexed l byte m → (m .spot ≡ 31 → ⊥) → Live m
     go _ none h = absurd (h refl)
     go _ (digit d i k t) h =
-        let n : l .spot ≡ 18 → ⊥ = λ e. no-digit (l .minus) (l .value) d (rw e at t) in
+        let n : l .spot ≡ spot-done → ⊥ = λ e. no-digit (l .minus) (l .value) d (rw e at t) in
         record { spot = omega (arith, v .spot, n); field = v .field; value = omega (arith, v .value, ten (l .spot)) }
     go _ (pointed i k j) h = record { spot = omega arith; field = v .field; value = omega (arith, v .value, seven (l .spot) (omega arith)) }
     go _ (spaced i k j) h = v
@@ -93,13 +93,13 @@ one-good =
     }
 
 -- After whole decimals.
-done-finish : (n : ℕ) (l : Line) (m v : ℕ) → l .field + n ≡ 2 → Finish (put l 18 m v)
+done-finish : (n : ℕ) (l : Line) (m v : ℕ) → l .field + n ≡ 2 → Finish (put l spot-done m v)
 unfolding lexes whole-term
 done-finish zero l m v h = record { ys = []; whole = eq-eqb (l .field) 2 (omega arith) }
 done-finish (suc n) l m v h =
     let k = keep l m v in
     let f = done-finish n k (flag (one .minus)) (size one) (omega arith) in
-    let e : lexes (lex (put l 18 m v) 32) (decimal one ++ f .ys) ≡ lexes (put k 18 (flag (one .minus)) (size one)) (f .ys) =
+    let e : lexes (lex (put l spot-done m v) 32) (decimal one ++ f .ys) ≡ lexes (put k spot-done (flag (one .minus)) (size one)) (f .ys) =
     ap (λ (x : Line). lexes x (decimal one ++ f .ys)) (lex-keep l m v (omega arith))
     ∙ lexes-append k (decimal one) (f .ys)
     ∙ ap (λ (x : Line). lexes x (f .ys)) (decimal-run k one one-good) in
@@ -110,11 +110,11 @@ by-bytes : (l k : Line) (xs : List ℕ) → lexes l xs ≡ k → Finish k → Fi
 by-bytes l k xs e f =
     record { ys = xs ++ f .ys; whole = ap (λ (x : Line). whole-term x) (lexes-append l xs (f .ys) ∙ ap (λ (x : Line). lexes x (f .ys)) e) ∙ f .whole }
 
-parts-finish : (n : ℕ) (l : Line) (s m v : ℕ) → l .field ≤ 2 → 7 ≤ s → s + suc n ≡ 18 → v < 10 ^ s → Finish (put l s m v)
+parts-finish : (n : ℕ) (l : Line) (s m v : ℕ) → l .field ≤ 2 → 7 ≤ s → s + suc n ≡ spot-done → v < 10 ^ s → Finish (put l s m v)
 parts-finish n l s m v f h e b =
     let w = numeral v (ones (suc n)) in
     let i = ones-length (suc n) in
-    by-bytes (put l s m v) (put l 18 m w) (digits (ones (suc n)))
+    by-bytes (put l s m v) (put l spot-done m w) (digits (ones (suc n)))
     (parts-run (ones (suc n)) l s m v s (ones-digits (suc n)) h (omega (arith, i)) b (omega (arith, i)) (inr (ones-above n v)))
     (done-finish (2 - l .field) l m w (omega arith))
 
@@ -136,11 +136,11 @@ first-finish l m f =
 
 finish : (l : Line) → Live l → Finish l
 finish l v =
-    by-cases (leb 18 (l .spot))
-    (λ p. let e : l .spot ≡ 18 = omega (arith, leb-true 18 (l .spot) p, v .spot) in
-    at-spot l 18 e (done-finish (2 - l .field) l (l .minus) (l .value) (omega (arith, v .field))))
+    by-cases (leb spot-done (l .spot))
+    (λ p. let e : l .spot ≡ spot-done = omega (arith, leb-true spot-done (l .spot) p, v .spot) in
+    at-spot l spot-done e (done-finish (2 - l .field) l (l .minus) (l .value) (omega (arith, v .field))))
     (λ p. by-cases (leb 7 (l .spot))
-    (λ q. parts-finish (17 - l .spot) l (l .spot) (l .minus) (l .value) (v .field) (leb-true 7 (l .spot) q) (omega (arith, leb-false 18 (l .spot) p))
+    (λ q. parts-finish (17 - l .spot) l (l .spot) (l .minus) (l .value) (v .field) (leb-true 7 (l .spot) q) (omega (arith, leb-false spot-done (l .spot) p))
     (v .value))
     (λ q. by-cases (leb 1 (l .spot))
     (λ r. point-finish l (l .spot) (l .minus) (l .value) (v .field) (leb-true 1 (l .spot) r) (omega (arith, leb-false 7 (l .spot) q))

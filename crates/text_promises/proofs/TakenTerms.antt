@@ -7,7 +7,7 @@ use Prim.Native.Nat.{ℕ, zero, suc, _+_, _*_, _≤_, _<_}
 use native.Mathlib.Omega.{arith}
 use lib.ListN.{length}
 use Rattle.series_lines.specs.declared.Line.{Line}
-use Rattle.series_lines.specs.Lexer.{fresh, takes-digit, lex, lexes, whole-term}
+use Rattle.series_lines.specs.Lexer.{spot-done, fresh, takes-digit, lex, lexes, whole-term}
 use Rattle.series_lines.specs.Grammar.{spaces, sign, digits, All-digits, numeral, Decimal, size, decimal, Good-decimal, Term-line, term-bytes, Good-term}
 use Rattle.text_promises.proofs.GoodLines.{put, keep, flag, line-of-term}
 use Rattle.text_promises.proofs.OneByte.{Lexed, none, digit, pointed, spaced, kept, negated, view, term-of, no-term, never, last-part, whole-more}
@@ -15,8 +15,8 @@ use Rattle.series_lines.proofs.Digits.{after-decimal, small}
 use lib.Dec.{lit<}
 
 -- No digit follows a whole decimal.
-pub no-digit : (m v d : ℕ) → takes-digit 18 m v d ≡ true → ⊥
-no-digit m v d t = never (sym (after-decimal 18 m v d (small 18 m v d t) (omega arith) (omega arith)) ∙ t)
+pub no-digit : (m v d : ℕ) → takes-digit spot-done m v d ≡ true → ⊥
+no-digit m v d t = never (sym (after-decimal spot-done m v d (small spot-done m v d t) (omega arith) (omega arith)) ∙ t)
 
 -- The decimals of a line that comes to be whole.
 record Parts (l : Line) (m v n : ℕ) (xs : List ℕ) (F : Line) : Type 0 where
@@ -26,7 +26,7 @@ record Parts (l : Line) (m v n : ℕ) (xs : List ℕ) (F : Line) : Type 0 where
   all : All-digits ds
   long : length ds ≡ n
   sized : (m ≡ 0) ⊎ (0 < numeral v ds)
-  rest : lexes (put l 18 m (numeral v ds)) ys ≡ F
+  rest : lexes (put l spot-done m (numeral v ds)) ys ≡ F
 
 -- One more decimal, the last or not.
 module _ (l : Line) (s m v : ℕ) (b : ℕ) (bs : List ℕ) (F : Line) (w : whole-term F ≡ true) (low : 7 ≤ s) where
@@ -68,7 +68,7 @@ module _ (l : Line) (s m v : ℕ) (b : ℕ) (bs : List ℕ) (F : Line) (w : whol
   parts-more n e rec _ (kept i h k) q = absurd (omega arith)
   parts-more n e rec _ (negated i h k) q = absurd (omega arith)
 
-parts : (n : ℕ) (xs : List ℕ) (l : Line) (s m v : ℕ) (F : Line) → whole-term F ≡ true → 7 ≤ s → s + suc n ≡ 18 → lexes (put l s m v) xs ≡ F
+parts : (n : ℕ) (xs : List ℕ) (l : Line) (s m v : ℕ) (F : Line) → whole-term F ≡ true → 7 ≤ s → s + suc n ≡ spot-done → lexes (put l s m v) xs ≡ F
     → Parts l m v (suc n) xs F
 unfolding lexes
 parts n [] l s m v F w h k q = let t = term-of F w in let e = ap (λ (x : Line). x .spot) q in absurd (omega (arith, t .spot))
@@ -205,7 +205,7 @@ record Decimal-in (l : Line) (xs : List ℕ) (F : Line) : Type 0 where
   ys : List ℕ
   good : Good-decimal d
   is : xs ≡ spaces n ++ (decimal d ++ ys)
-  rest : lexes (put l 18 (flag (d .minus)) (size d)) ys ≡ F
+  rest : lexes (put l spot-done (flag (d .minus)) (size d)) ys ≡ F
 
 sized-minus : (m : Bool) (v : ℕ) → (flag m ≡ 0) ⊎ (0 < v) → m ≡ true → 0 < v
 unfolding flag
@@ -251,12 +251,12 @@ record Kept (l : Line) (m v : ℕ) (xs : List ℕ) (F : Line) : Type 0 where
   is : xs ≡ 32 ∷ ys
   rest : lexes (keep l m v) ys ≡ F
 
-keeps : (xs : List ℕ) (l : Line) (m v : ℕ) (F : Line) → whole-term F ≡ true → l .field < 2 → lexes (put l 18 m v) xs ≡ F → Kept l m v xs F
+keeps : (xs : List ℕ) (l : Line) (m v : ℕ) (F : Line) → whole-term F ≡ true → l .field < 2 → lexes (put l spot-done m v) xs ≡ F → Kept l m v xs F
 unfolding lexes
 keeps [] l m v F w h q = let t = term-of F w in let e = ap (λ (x : Line). x .field) q in absurd (omega (arith, t .field))
-keeps (b ∷ bs) l m v F w h q = go (lex (put l 18 m v) b) (view (put l 18 m v) b) q
+keeps (b ∷ bs) l m v F w h q = go (lex (put l spot-done m v) b) (view (put l spot-done m v) b) q
   where
-    go : (L : Line) → Lexed (put l 18 m v) b L → lexes L bs ≡ F → Kept l m v (b ∷ bs) F
+    go : (L : Line) → Lexed (put l spot-done m v) b L → lexes L bs ≡ F → Kept l m v (b ∷ bs) F
     go _ none r = no-term bs F r w
     go _ (digit d i k t) r = absurd (no-digit m v d t)
     go _ (pointed i k j) r = absurd (omega arith)
@@ -264,12 +264,13 @@ keeps (b ∷ bs) l m v F w h q = go (lex (put l 18 m v) b) (view (put l 18 m v) 
     go _ (kept i k j) r = record { ys = bs; is = ap (λ (x : ℕ). x ∷ bs) i; rest = r }
     go _ (negated i k j) r = absurd (omega arith)
 
-ends : (xs : List ℕ) (l : Line) (m v : ℕ) (F : Line) → whole-term F ≡ true → l .field ≡ 2 → lexes (put l 18 m v) xs ≡ F → (xs ≡ []) × (put l 18 m v ≡ F)
+ends : (xs : List ℕ) (l : Line) (m v : ℕ) (F : Line) → whole-term F ≡ true → l .field ≡ 2
+    → lexes (put l spot-done m v) xs ≡ F → (xs ≡ []) × (put l spot-done m v ≡ F)
 unfolding lexes
 ends [] l m v F w h q = (refl, q)
-ends (b ∷ bs) l m v F w h q = go (lex (put l 18 m v) b) (view (put l 18 m v) b) q
+ends (b ∷ bs) l m v F w h q = go (lex (put l spot-done m v) b) (view (put l spot-done m v) b) q
   where
-    go : (L : Line) → Lexed (put l 18 m v) b L → lexes L bs ≡ F → (b ∷ bs ≡ []) × (put l 18 m v ≡ F)
+    go : (L : Line) → Lexed (put l spot-done m v) b L → lexes L bs ≡ F → (b ∷ bs ≡ []) × (put l spot-done m v ≡ F)
     go _ none r = no-term bs F r w
     go _ (digit d i k t) r = absurd (no-digit m v d t)
     go _ (pointed i k j) r = absurd (omega arith)

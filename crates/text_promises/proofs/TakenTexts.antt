@@ -8,6 +8,7 @@ use borrow.Author.Tests.{eqb-true, eqb-false, ne-eqb}
 use lib.Dec.{eqb}
 use lib.ListN.{length, length-append}
 use lib.Seq.{sets, length-sets}
+use Rattle.units.specs.Units.{block-count}
 use Rattle.units.specs.Refusals.{bad-byte, byte-after-end}
 use Rattle.packed_numbers.specs.Numbers.{encode}
 use Rattle.limits.specs.declared.Tally.{Tally}
@@ -131,7 +132,7 @@ pub record Rest (w k n : ℕ) (s : Tally) (out xs : List ℕ) (end : Run) : Type
   pub left : length lines ≡ n
   pub good : All-good lines
   pub limits : Terms-in-limits (factor (k - 1)) s lines
-  pub count : k + length ks ≡ 18
+  pub count : k + length ks ≡ block-count
   pub goods : Good-blocks ks
   pub all : Blocks-in-limits k (summed (factor (k - 1)) s (terms-of-lines lines)) ks
   pub room : w + length (packs lines ks) ≤ length out
@@ -220,8 +221,8 @@ term-rest at w k n s out xs end c r =
       written = rw q (join-written w x (packs (r .lines) (r .ks)) out (end .reader .written) (r .written));
     }
 
-none-rest : (xs : List ℕ) (at w k n : ℕ) (s : Tally) (out : List ℕ) → w ≤ length out → Taken (run (sp 30 at w 18 0 s) out xs)
-    → Rest w 18 0 s out xs (run (sp 30 at w 18 0 s) out xs)
+none-rest : (xs : List ℕ) (at w k n : ℕ) (s : Tally) (out : List ℕ) → w ≤ length out → Taken (run (sp 30 at w block-count 0 s) out xs)
+    → Rest w block-count 0 s out xs (run (sp 30 at w block-count 0 s) out xs)
 unfolding lines-bytes blocks-bytes All-good Good-blocks Terms-in-limits Blocks-in-limits pack-terms pack terms-of-lines blocks-of-lines run
 none-rest [] at w k n s out h t =
     record {
@@ -238,17 +239,17 @@ none-rest [] at w k n s out h t =
       wrote = refl;
       written = sym (add-zero w);
     }
-none-rest (x ∷ xs) at w k n s out h t = after-step x xs at w 18 0 s out t
+none-rest (x ∷ xs) at w k n s out h t = after-step x xs at w block-count 0 s out t
 
 pub spot-term : (k n : ℕ) → next-spot k (suc n) ≡ 0
 unfolding next-spot
 spot-term k n = rw (ne-eqb (suc n) 0 (λ e. omega (arith, e)))
 
-pub spot-count : (k : ℕ) → (k ≡ 18 → ⊥) → next-spot k 0 ≡ 20
+pub spot-count : (k : ℕ) → (k ≡ block-count → ⊥) → next-spot k 0 ≡ 20
 unfolding next-spot
-spot-count k h = rw (ne-eqb k 18 h)
+spot-count k h = rw (ne-eqb k block-count h)
 
-pub spot-after : next-spot 18 0 ≡ 30
+pub spot-after : next-spot block-count 0 ≡ 30
 unfolding next-spot
 spot-after = refl
 
@@ -280,9 +281,9 @@ module _ (xs : List ℕ) (rec : Shorter xs) (at w k : ℕ) (s : Tally) (out : Li
 
   rest-step : (n : ℕ) → w ≤ length out → Taken (run (st at w k n s) out xs) → Rest w k n s out xs (run (st at w k n s) out xs)
   rest-step zero h t =
-      by-cases (eqb k 18)
-      (λ z. let e = eqb-true k 18 z in rw (e, spot-after) (none-rest xs at w 18 0 s out h (rw (e, spot-after) at t)))
-      (λ z. let e = spot-count k (eqb-false k 18 z) in rw e (of-count (count-step xs at w k s out (rw e at t)) (rw e at t)))
+      by-cases (eqb k block-count)
+      (λ z. let e = eqb-true k block-count z in rw (e, spot-after) (none-rest xs at w block-count 0 s out h (rw (e, spot-after) at t)))
+      (λ z. let e = spot-count k (eqb-false k block-count z) in rw e (of-count (count-step xs at w k s out (rw e at t)) (rw e at t)))
   rest-step (suc n) h t =
       let e = spot-term k n in rw e (of-term n (term-step xs at w k (suc n) s out (rw e at t)) (rw e at t))
 

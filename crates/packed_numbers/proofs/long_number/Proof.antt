@@ -4,7 +4,7 @@ use Prim.Native.Nat.{ℕ, _+_, _*_, _-_, _^_, _≤_, _<_}
 use native.Mathlib.Omega.{arith}
 use lib.ListN.{length, drop}
 use borrow.Author.Needs.{needs}
-use Rattle.packed_numbers.specs.Numbers.{groups-from}
+use Rattle.packed_numbers.specs.Numbers.{group, groups-from}
 use Rattle.packed_numbers.specs.machine.Answers.{shown, plain}
 use Rattle.packed_numbers.proofs.Decode.{power-small, power-next, more-small, group-fits, last-padded, last-value, too-long, more-groups, no-group}
 use Rattle.packed_numbers.proofs.long_number.Statement.{statement}
@@ -12,7 +12,7 @@ use Rattle.packed_numbers.proofs.long_number.Tie as tie
 
 abbrev Inv-loop : tie.InvT-loop
 Inv-loop s from low i₀ k₀ scale₀ acc₀ i k scale acc =
-    (scale ≡ 128 ^ k) × (k ≤ 8) × (acc < 128 ^ k) × (0 < k) × (groups-from 1 low from (drop from s) ≡ groups-from k acc i (drop i s))
+    (scale ≡ group ^ k) × (k ≤ 8) × (acc < group ^ k) × (0 < k) × (groups-from 1 low from (drop from s) ≡ groups-from k acc i (drop i s))
 
 abbrev μ-loop : tie.MeasureT-loop
 μ-loop s from low i₀ k₀ scale₀ acc₀ i k scale acc = length s - i
@@ -27,10 +27,10 @@ wide-requires : tie.Need-wide-requires Inv-loop μ-loop
 wide-requires c κs = search needs
 
 -- What a byte is above its top bit.
-byte : {x y : ℕ} → x ≡ y → y < 256 → x - 128 ≤ 127
+byte : {x y : ℕ} → x ≡ y → y < 256 → x - group ≤ 127
 byte e h = omega (arith, e, h)
 
-low-bits : (w : tie.After-wide Inv-loop μ-loop) → w .wide .result - 128 ≤ 127
+low-bits : (w : tie.After-wide Inv-loop μ-loop) → w .wide .result - group ≤ 127
 low-bits w = byte (w .wide .ensures) (w .before .shared-slice-known2 .given (w .before .before .before .loop .i) .fits)
 
 -- A group of value x after those that are read.
@@ -72,10 +72,10 @@ returns-3 c =
     ∙ too-long _ _ _ _ _ (w .wide .ensures) (w .before .before .loop-test .taken) (c .before .if1 .left) (c .if3 .taken)))
 
 mul-acc : tie.Need-mul-acc Inv-loop μ-loop
-mul-acc c = let w = c .before .before in omega (arith, fits w (w .wide .result - 128) (low-bits w))
+mul-acc c = let w = c .before .before in omega (arith, fits w (w .wide .result - group) (low-bits w))
 
 add-acc : tie.Need-add-acc Inv-loop μ-loop
-add-acc c = let w = c .before .before in omega (arith, fits w (w .wide .result - 128) (low-bits w))
+add-acc c = let w = c .before .before in omega (arith, fits w (w .wide .result - group) (low-bits w))
 
 mul-scale : tie.Need-mul-scale Inv-loop μ-loop
 mul-scale c =
@@ -96,7 +96,7 @@ loop-again c =
     let w = c .before .before in
     let l = w .before .before .before .loop in
     let v = l .inv in
-    let m = more-small (l .acc) (w .wide .result - 128) (l .scale) (rw (← v .0) at (v .2)) (low-bits w) in
+    let m = more-small (l .acc) (w .wide .result - group) (l .scale) (rw (← v .0) at (v .2)) (low-bits w) in
     let e = power-next (l .k) in (
       omega (arith, e, v .0),
       omega arith,

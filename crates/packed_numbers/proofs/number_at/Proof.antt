@@ -3,13 +3,14 @@ use mathlib.Core.Path.{_≡_, sym, ap, _∙_}
 use Prim.Native.Nat.{ℕ, _-_, _<_}
 use native.Mathlib.Omega.{arith}
 use borrow.Author.Needs.{needs}
+use Rattle.packed_numbers.specs.Numbers.{group}
 use Rattle.packed_numbers.specs.machine.Answers.{shown, plain}
 use Rattle.packed_numbers.proofs.Decode.{one-group, more-than-one, no-number}
 use Rattle.packed_numbers.proofs.number_at.Statement.{statement}
 use Rattle.packed_numbers.proofs.number_at.Tie as tie
 
 -- What a byte is above 128.
-byte : {x y : ℕ} → x ≡ y → y < 256 → x - 128 < 128
+byte : {x y : ℕ} → x ≡ y → y < 256 → x - group < group
 byte e h = omega (arith, e, h)
 
 returns : tie.Need-returns
