@@ -1,8 +1,9 @@
 -- `place::steps::turned_z` meets its contract. Assumes nothing.
-use mathlib.Core.Path.{_≡_, _∙_}
+use mathlib.Core.Path.{_≡_, _∙_, ap₂}
 use Prim.Native.Nat.{ℕ, _^_, _≤_, _<_}
 use native.Mathlib.Omega.{arith}
 use lib.IntN.{_*ℤ_}
+use borrow.Author.Needs.{needs}
 use Rattle.integers.specs.Division.{rounded}
 use Rattle.integers.proofs.Order.{fits}
 use Rattle.arith.proofs.Signs.{back, ok}
@@ -15,18 +16,18 @@ below : (n : ℕ) → n ≤ 2 ^ 61 → n < 2 ^ 63
 below n h = omega arith
 
 scale-requires : tie.Need-scale-requires
-scale-requires c κs = rw (back (c .args .y) (c .fits .y), back (c .args .s) (c .fits .s)) (below _ (c .pre .0), c .pre .3)
+scale-requires c κs = let h = below _ (c .pre .0) in search needs
 
 at-y : (c : tie.After-scale) → c .scale .result ≡ rounded (c .before .args .y *ℤ c .before .args .s) U
-at-y c = let s = c .before in rw (back (s .args .y) (s .fits .y), back (s .args .s) (s .fits .s)) at (c .scale .ensures)
+at-y c = let s = c .before in c .scale .ensures ∙ ap₂ (λ x f. rounded (x *ℤ f) U) (back (s .args .y) (s .fits .y)) (back (s .args .s) (s .fits .s))
 
 scale-requires-2 : tie.Need-scale-requires-2
-scale-requires-2 c κs =
-    let s = c .before in
-    rw (back (s .args .z) (s .fits .z), back (s .args .c) (s .fits .c)) (below _ (s .pre .1), s .pre .2)
+scale-requires-2 c κs = let h = below _ (c .before .pre .1) in search needs
 
 at-z : (c : tie.After-scale2) → c .scale2 .result ≡ rounded (c .before .before .args .z *ℤ c .before .before .args .c) U
-at-z c = let s = c .before .before in rw (back (s .args .z) (s .fits .z), back (s .args .c) (s .fits .c)) at (c .scale2 .ensures)
+at-z c =
+    let s = c .before .before in
+    c .scale2 .ensures ∙ ap₂ (λ x f. rounded (x *ℤ f) U) (back (s .args .z) (s .fits .z)) (back (s .args .c) (s .fits .c))
 
 add-requires : tie.Need-add-requires
 add-requires c κs =
