@@ -6,6 +6,7 @@ mod answer;
 mod lines;
 
 ghost use Prim.Native.Nat.{_≤_};
+ghost use Rattle.command_line.specs.Arguments.{first-limit};
 use crate::answer::LIST_MOST;
 use crate::answer::put_list;
 use command_line::arguments::Three;
@@ -31,7 +32,7 @@ enum Asked {
 
 // The arguments from YEAR on, where PLANET is argument `first`.
 fn window_asked(first: usize) -> Asked
-    requires { ⌜ first ≤ 900 ⌝ }
+    requires { ⌜ first ≤ first-limit ⌝ }
 {
     let Three::Numbers(date) = three_arguments(first + 2) else {
         return Asked::Unclear;
@@ -60,7 +61,7 @@ fn list_of_files(
     window: Triple,
     keep_out: i64,
 )
-    requires { ⌜ first ≤ 900 ⌝ }
+    requires { ⌜ first ≤ first-limit ⌝ }
 {
     let Both::Bytes(m, n) = read_both(first, planet, earth) else {
         return;
@@ -76,7 +77,7 @@ fn list_of_files(
 
 // The nine arguments from `first` on, answered on standard output.
 pub fn list_of_arguments(first: usize)
-    requires { ⌜ first ≤ 900 ⌝ }
+    requires { ⌜ first ≤ first-limit ⌝ }
 {
     let mut planet = [0u8; ROOM];
     let mut earth = [0u8; ROOM];

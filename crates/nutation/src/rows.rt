@@ -24,7 +24,7 @@ use arith::signed::wide;
 use cosine::working::Trig;
 use cosine::working::cosine_sine;
 use direction::units_angle;
-use nutation_table::ROWS;
+use nutation_table::ROW_COUNT;
 use nutation_table::Row;
 use nutation_table::row_at;
 
@@ -115,7 +115,7 @@ pub fn nutation_at(t: i64) -> Nutation
         obliquity: 0,
     };
     let mut i: usize = 0;
-    while i < ROWS {
+    while i < ROW_COUNT {
         sum = add_row(sum, t, row_at(i), a);
         i += 1;
     }

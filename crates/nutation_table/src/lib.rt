@@ -21,7 +21,7 @@ pub struct Row(
 );
 
 // The rows of the table, of its parts but the last, and of the last; and where the later parts begin.
-pub const ROWS: usize = 106;
+pub const ROW_COUNT: usize = 106;
 
 const PART_SIZE: usize = 27;
 
@@ -29,7 +29,7 @@ const TWO_PARTS: usize = 2 * PART_SIZE;
 
 const THREE_PARTS: usize = 3 * PART_SIZE;
 
-const LAST_PART: usize = ROWS - THREE_PARTS;
+const LAST_PART: usize = ROW_COUNT - THREE_PARTS;
 
 const FIRST: [Row; PART_SIZE] = [
     Row(-171996, -1742, 92025, 89, 0, 0, 0, 0, 1),
