@@ -13,7 +13,7 @@ fn packed(planet: &str) -> Vec<u8> {
     packed
 }
 
-/// Document 000's worked example: Mercury on 2005-01-01 at 0h TD, 17h 10min 10.349s, -21° 17′ 23.81″, 1.059197986 AU. Its frame
+/// A worked example from outside this project: Mercury on 2005-01-01 at 0h TD, 17h 10min 10.349s, -21° 17′ 23.81″, 1.059197986 AU. Its frame
 /// turn is not applied here, which 0.2 arcsecond allow for.
 #[test]
 fn mercury_in_2005() {

@@ -118,7 +118,7 @@ has-number n w = is-day n (day-of-date (w .year) (w .month) (w .day))
 abbrev pub written-as : ℕ → Date
 written-as k = record { year = pos (k / 10000) -ℤ pos years-before-zero; month = pos (k / 100 % 100); day = pos (k % 100) }
 
--- The date with the day number n, looked for downward among those that are written as a number below k.
+-- The date with the day number n, looked for downward among those that are written as a number below k. (Month 0, where none has it: no call reaches that.)
 unfoldable pub date-below : ℕ → ℤ → Date
 date-below zero n = written-as 0
 date-below (suc k) n = cond (has-number n (written-as k)) (written-as k) (date-below k n)

@@ -1,7 +1,7 @@
 // Arguments that are numbers, and a clock time made of them. For the programs.
 ghost use mathlib.Core.Path.{_≡_};
 ghost use Prim.Native.Nat.{_≤_};
-ghost use Rattle.command_line.specs.Arguments.{argument-limit};
+ghost use Rattle.command_line.specs.machine.Arguments.{argument-limit};
 ghost use Rattle.command_line.specs.Clock.{ms-of-day, instant-of-clock, minute-of-day};
 use arith::signed::natural_or;
 use arith::signed::wide;
@@ -66,7 +66,7 @@ pub fn three_arguments(i: usize) -> Three
 }
 
 // The milliseconds of a clock time, or -1, which no day has.
-pub fn ms_of_day(hour: i64, minute: i64, second: i64) -> i64
+fn ms_of_day(hour: i64, minute: i64, second: i64) -> i64
     ensures { λ r. ⌜ r ≡ ms-of-day hour minute second ⌝ }
 {
     let h = natural_or(hour, HOURS);

@@ -2,7 +2,7 @@
 ghost use mathlib.Core.Path.{_≡_};
 ghost use Prim.Native.Nat.{_≤_};
 ghost use lib.ListN.{take};
-ghost use Rattle.command_line.specs.Arguments.{argument-limit};
+ghost use Rattle.command_line.specs.machine.Arguments.{argument-limit};
 use libc::PATH_MAX;
 use libc::STDOUT_FILENO;
 use units::SERIES_LIMIT;

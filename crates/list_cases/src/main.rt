@@ -1,4 +1,4 @@
-// Nine runs of the program `list` in one, for its stored cases: each 9 arguments are a run.
+// Eleven runs of the program `list` in one, for its stored cases: each 9 arguments are a run.
 use list_lines::list_of_arguments;
 
 fn main() {
@@ -11,4 +11,6 @@ fn main() {
     list_of_arguments(55);
     list_of_arguments(64);
     list_of_arguments(73);
+    list_of_arguments(82);
+    list_of_arguments(91);
 }

@@ -1,11 +1,10 @@
 -- What the functions that write a run leave in the output is its line. Assumes nothing.
 use mathlib.Core.Path.{_≡_, refl}
-use mathlib.Core.List.{List, [], _∷_, _++_}
+use mathlib.Core.List.{List, _++_}
 use Prim.Native.Nat.{ℕ, _+_, _/_, _%_, _≤_}
 use native.Mathlib.Numerals.{add-one}
 use native.Mathlib.Omega.{arith}
 use lib.ListN.{length, set, length-append}
-use lib.Seq.{sets}
 use Rattle.decimals.specs.Texts.{text}
 use Rattle.decimals.specs.Decimals.{zero-digit, most-digits, decimal}
 use Rattle.decimals.specs.Writing.{Put}

@@ -1,1 +1,2 @@
+-- The buffers of pack have room for every series.
 pub mod Room

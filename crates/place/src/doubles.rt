@@ -6,7 +6,7 @@ ghost use Rattle.place.specs.Mount.{degrees as degrees-of, astronomical-
 use crate::Equatorial;
 use crate::MountPlace;
 
-// The divisors, as doubles: hundredths of an arcsecond in a degree, parts in an AU.
+// The divisors of the rules as doubles: 360000.0 hundredths of an arcsecond in a degree, 1e11 parts in an AU.
 const HUNDREDTHS_PER_DEGREE: f64 = crate::HUNDREDTHS_PER_DEGREE as f64;
 
 const PARTS: f64 = units::PARTS as f64;

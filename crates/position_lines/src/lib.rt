@@ -6,7 +6,7 @@ mod answer;
 mod lines;
 
 ghost use Prim.Native.Nat.{_≤_};
-ghost use Rattle.command_line.specs.Arguments.{first-limit};
+ghost use Rattle.command_line.specs.machine.Arguments.{first-limit};
 use crate::answer::put_position;
 use crate::lines::PLACE_MOST;
 use command_line::arguments::Three;

@@ -38,7 +38,7 @@ halted p status = record { reader = stopped (p .reader) status; row = p .row; la
 abbrev pub further : Published → Row → Published
 further p row = record { reader = in-line (p .reader) (p .reader .line) (p .reader .at + 1); row = row; last = p .last }
 
--- A byte that is no line feed, and may not continue the record.
+-- A byte that is no line feed: a bad byte where it cannot continue the record.
 unfoldable pub other : Published → ℕ → Published
 other p byte =
     cond (eqb (lex-row (at-heading p) (p .row) byte .line .spot) spot-bad)
@@ -83,7 +83,7 @@ verdict p = cond (whole-row (at-heading p) (p .row)) (cond (at-heading p) (headi
 unfoldable pub next-last : Published → ℕ
 next-last p = cond (at-heading p) 0 (p .row .number)
 
--- After the judgement of a record, whose bytes may not fit.
+-- After the judgement of a record: refused also where its bytes do not fit.
 abbrev pub judged : Published → List ℕ → Published
 judged p out = record { reader = wrote (p .reader) out (verdict p); row = fresh-row; last = next-last p }
 

@@ -29,7 +29,7 @@ pub fn block_of(coordinate: u64, power: u64) -> u64
 }
 
 // A heading is of the theory's version, of a block, and comes after `done` blocks in its order.
-pub fn in_order(done: u64, version: u64, coordinate: u64, power: u64) -> bool
+fn in_order(done: u64, version: u64, coordinate: u64, power: u64) -> bool
     ensures { λ r. ⌜ r ≡ in-order done version coordinate power ⌝ }
 {
     if version != THEORY_VERSION {

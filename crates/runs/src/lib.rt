@@ -1,4 +1,4 @@
-// The runs of listed minutes of a window, from a byte for each minute. For the crate `sunlist`.
+// The runs of listed minutes of a window, from a byte for each minute. For the crates above.
 ghost use mathlib.Core.Path.{_≡_};
 ghost use Prim.Native.Nat.{_+_, _≤_};
 ghost use lib.ListN.{length, drop};

@@ -104,7 +104,7 @@ after-line r v = advanced r (r .written + length (v .bytes)) (v .blocks) (v .lef
 unfoldable pub fits : List ℕ → ℕ → List ℕ → Bool
 fits bytes written out = leb (written + length bytes) (length out)
 
--- The reader after the judgement of a line, whose bytes may not fit.
+-- The reader after the judgement of a line: refused also where its bytes do not fit.
 unfoldable pub wrote : Reader → List ℕ → Verdict → Reader
 wrote r out v =
     cond (eqb (v .refusal) 0)

@@ -25,7 +25,7 @@ early-end r = record { refusal = bad-byte; bytes = []; blocks = r .blocks; left 
 unfoldable pub verdict : Reader → Verdict
 verdict r = cond (whole-count (r .line)) (count-end r) (cond (whole-term (r .line)) (term-end r) (early-end r))
 
--- A byte that is no line feed, and may not continue the line.
+-- A byte that is no line feed: a bad byte where it cannot continue the line.
 unfoldable pub other : Reader → ℕ → Reader
 other r byte = cond (eqb (lex (r .line) byte .spot) spot-bad) (stopped r bad-byte) (further-in-line r (lex (r .line) byte))
 

@@ -16,7 +16,7 @@ use Rattle.limits.specs.Limits.{factor, no-tally, opened, added, count-fits, a-
 use Rattle.series_lines.specs.declared.Line.{Line}
 use Rattle.series_lines.specs.declared.Outcome.{Outcome}
 use Rattle.series_lines.specs.declared.Outcome.the-variants.{More, Accepted}
-use Rattle.series_lines.specs.Lexer.{spot-done, fresh, lex, lexes, whole-count, whole-term}
+use Rattle.series_lines.specs.Lexer.{fresh, lex, lexes, whole-count, whole-term}
 use Rattle.series_lines.specs.Reader.{last-offset, told}
 use Rattle.text.specs.Reader.{begun, Run, run, ended, whole}
 use Rattle.series_lines.specs.Grammar.{size, value, Count-line, count, count-bytes, Good-count, Term-line, term-bytes, Good-term, term-of-line, Term-in-limits}

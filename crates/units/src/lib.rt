@@ -108,7 +108,7 @@ pub enum Refusal {
     NoSuchDate(u64),
     // 2: an instant past the limit.
     PastLimit(Instant),
-    // 3: the offset of a text byte that cannot continue a line.
+    // 3: the offset of a byte of a text or a published file that cannot continue its line.
     BadByte(usize),
     // 4: the offset where a number or a count passes its limit, or a packed number goes past nine groups.
     OverLimit(usize),
@@ -116,7 +116,7 @@ pub enum Refusal {
     TotalOverLimit(usize),
     // 6: the offset where the series becomes too coarse.
     TooCoarse(usize),
-    // 7: the length that the output would need, or the offset in a text.
+    // 7: the length that the output would need; in a text or a published file the offset.
     NoRoom(usize),
     // 8: the length of an input that ended too early.
     EndedEarly(usize),

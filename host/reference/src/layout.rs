@@ -1,4 +1,4 @@
-//! Published files, written: the records of VSOP87D (paper 02, C-11) of a series.
+//! Published files, written: the records of VSOP87D (docs/RULES.md, "Published files") of a series.
 
 use crate::plain::packed::Series;
 use crate::plain::PARTS;

@@ -1,4 +1,4 @@
-//! Document 01 in plain Rust, written from the paper alone and with wide integers.
+//! The rules of docs/RULES.md in plain Rust, written from the paper that they follow alone, with wide integers.
 //!
 //! Nothing here is proved and nothing here is used by the command line: the tests compare the proved library with it,
 //! and the benchmark measures it beside the library.

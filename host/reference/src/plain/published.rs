@@ -1,4 +1,4 @@
-//! The published files (paper 02, C-11), line by line over the whole input.
+//! The published files (docs/RULES.md, "Published files"), line by line over the whole input.
 
 use super::packed::{put_number, put_term, Judge, Term};
 use super::{refused, Refused};
