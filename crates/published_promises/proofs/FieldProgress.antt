@@ -16,7 +16,8 @@ use Rattle.published_records.specs.Rows.{no-digit, unbegun, may-begin, in-whole
 use Rattle.text_promises.proofs.GoodLines.{put, ten, Spots, whole-spots, count-spots}
 use Rattle.text_promises.proofs.OneByte.{Lexed, none, digit, pointed, spaced, kept, negated}
 use Rattle.published_promises.proofs.RowLaws.{begun-digit}
-use Rattle.published_promises.proofs.Fields.{Taken, spoilt, blank, figure, signed, taken, Kind, whole-kind, count-kind, unbegun-spot, at-point}
+use Rattle.published_promises.proofs.WholeColumns.{Taken, spoilt, blank, figure, signed, taken, Kind, whole-kind, count-kind, unbegun-spot}
+use Rattle.published_promises.proofs.Fields.{at-point}
 
 -- ---- A byte that goes on.
 

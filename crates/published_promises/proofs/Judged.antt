@@ -35,7 +35,8 @@ use Rattle.text_promises.proofs.Halts.{number-refused, total-refused, coarse-re
 use Rattle.published_promises.proofs.Lines.{in-record, st, kind, run-one, step-feed, row-run}
 use Rattle.published_promises.proofs.Records.{heading-row, record-row, heading-run, record-run, heading-whole, record-whole}
 use Rattle.published_promises.proofs.Records.{heading-live, record-live, heading-no-feed, record-no-feed}
-use Rattle.published_promises.proofs.TakenRecords.{heading-in, record-in}
+use Rattle.published_promises.proofs.TakenHeadings.{heading-in}
+use Rattle.published_promises.proofs.TakenRecords.{record-in}
 use Rattle.published_promises.proofs.Progress.{heading-begins, record-begins}
 
 -- The kind of a record, by the terms that are left.

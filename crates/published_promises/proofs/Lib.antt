@@ -1,13 +1,17 @@
 -- Laws of the reader of published files that no code needs, each file on those above it. RowLaws: what bytes do to a row, in any record.
--- Stretches: what they do in each stretch of columns. GoodFields, Records: the bytes of good records are taken. Fields, RowLines,
--- TakenRecords: a record that was taken follows the layout, shown for one field, for the line of a row by itself, and for records.
+-- Stretches: what they do in each stretch of columns. GoodFields, Records: the bytes of good records are taken. WholeColumns,
+-- Fields, RowLines, TakenStretches, TakenHeadings, TakenRecords: a record that was taken follows the layout, shown for whole columns and
+-- for one field, for the line of a row by itself, for stretches of columns, and for records.
 -- FieldProgress, Progress: what is taken so far begins a record.
 pub mod RowLaws
 pub mod Stretches
 pub mod GoodFields
 pub mod Records
+pub mod WholeColumns
 pub mod Fields
 pub mod RowLines
+pub mod TakenStretches
+pub mod TakenHeadings
 pub mod TakenRecords
 pub mod FieldProgress
 pub mod Progress

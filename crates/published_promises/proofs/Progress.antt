@@ -1,5 +1,6 @@
 -- The prefix rule of a published record: bytes that are taken so far begin a record of the layout. From each good line on the way some byte
--- goes on, so that the record can be finished; what is whole then follows the layout (TakenRecords). Assumes nothing.
+-- goes on, so that the record can be finished; what is whole then follows the layout (TakenHeadings,
+-- TakenRecords). Assumes nothing.
 use mathlib.Core.Path.{_≡_, refl, sym, ap, _∙_, subst}
 use mathlib.Core.Bool.{Bool, true, false, cond}
 use mathlib.Core.List.{List, [], _∷_, _++_}
@@ -24,10 +25,14 @@ use Rattle.text_promises.proofs.OneByte.{view}
 use Rattle.published_promises.proofs.RowLaws.{in-field}
 use Rattle.published_promises.proofs.Stretches.{heading-after, decimal-whole, decimal-part, term-before, term-after}
 use Rattle.published_promises.proofs.Records.{no-feed-append}
-use Rattle.published_promises.proofs.Fields.{taken, at-point}
+use Rattle.published_promises.proofs.WholeColumns.{taken}
+use Rattle.published_promises.proofs.Fields.{at-point}
 use Rattle.published_promises.proofs.RowLines.{column-of, enter, line-step, lines, lines-append, enters-none, lines-bad, Inside, Are}
-use Rattle.published_promises.proofs.TakenRecords.{Live, heading-lines-in, record-lines-in, first-line, enter-a, enter-b, enter-c}
-use Rattle.published_promises.proofs.TakenRecords.{count-heading, number-columns, free-between, a-columns, b-columns, c-columns}
+use Rattle.published_promises.proofs.TakenStretches.{Live}
+use Rattle.published_promises.proofs.TakenHeadings.{heading-lines-in, first-line}
+use Rattle.published_promises.proofs.TakenRecords.{record-lines-in, enter-a, enter-b, enter-c}
+use Rattle.published_promises.proofs.TakenHeadings.{count-heading}
+use Rattle.published_promises.proofs.TakenRecords.{number-columns, free-between, a-columns, b-columns, c-columns}
 use Rattle.published_promises.proofs.TakenRecords.{inside-a, inside-b, inside-c}
 use Rattle.published_promises.proofs.FieldProgress.{Good, Onwards, Figuring, nothing, minus, digits, decimals, counts, taken-field, Parting}
 use Rattle.published_promises.proofs.FieldProgress.{parts-step, parts-onwards, point-step, point-onwards, figure-keeps, figure-onwards}

@@ -20,7 +20,8 @@ use Rattle.published_records.specs.Rows.{heading-column, decimal-column, term-c
 use Rattle.published_promises.proofs.RowLaws.{in-field, in-line, field-bad, held, held-under, held-over, next-under, row-column}
 use Rattle.published_promises.proofs.Stretches.{field-lines}
 use Rattle.published_promises.proofs.Stretches.{heading-after, term-after, decimal-whole, decimal-part}
-use Rattle.published_promises.proofs.Fields.{whole-bytes, at-point, decimal-line}
+use Rattle.published_promises.proofs.WholeColumns.{whole-bytes}
+use Rattle.published_promises.proofs.Fields.{at-point, decimal-line}
 
 -- ---- The line alone.
 

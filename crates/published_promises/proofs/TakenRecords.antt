@@ -1,265 +1,30 @@
--- A record of a published file that was taken follows the layout: stretch by stretch of its columns. Assumes nothing.
+-- A term record of a published file that was taken follows the layout: stretch by stretch of its columns. Assumes nothing.
 use mathlib.Core.Path.{_≡_, refl, sym, ap, _∙_, subst}
-use mathlib.Core.Bool.{Bool, true, false, cond}
+use mathlib.Core.Bool.{true, false, cond}
 use mathlib.Core.List.{List, [], _∷_, _++_, append-assoc}
-use Prim.Native.Nat.{ℕ, zero, suc, _+_, _-_, _≤_, _<_}
+use Prim.Native.Nat.{ℕ, suc, _+_, _-_, _≤_, _<_}
 use native.Mathlib.Omega.{arith}
-use borrow.Author.Tests.{eqb-true, leb-true, ltb-true, lt-ltb, ltb-false}
-use lib.Dec.{eqb, leb, ltb, lit≤}
+use borrow.Author.Tests.{eqb-true, lt-ltb}
+use lib.Dec.{eqb, lit≤}
 use lib.ListN.{length, length-append}
 use Rattle.integers.proofs.Tests.{by-cases}
 use Rattle.series_lines.specs.declared.Line.{Line}
 use Rattle.series_lines.specs.Grammar.{spaces, Count-line, count, count-bytes, Good-count, Decimal, decimal, Good-decimal, size}
 use Rattle.series_lines.specs.Lexer.{spot-done, spot-bad, fresh, bad, with-space, whole-count}
 use Rattle.published_records.specs.declared.Column.{Column}
-use Rattle.published_records.specs.declared.Column.the-variants.{Filler, Digit, Count}
-use Rattle.published_records.specs.Layout.{No-feed, Free, heading-bytes, record-bytes}
-use Rattle.published_records.specs.Rows.{heading-column, decimal-column, fresh-row, lex-rows, whole-row}
-use Rattle.published_promises.specs.Decided.{Is-heading, Is-record}
+use Rattle.published_records.specs.declared.Column.the-variants.{Filler, Count}
+use Rattle.published_records.specs.Layout.{No-feed, record-bytes}
+use Rattle.published_records.specs.Rows.{decimal-column, fresh-row, lex-rows, whole-row}
+use Rattle.published_promises.specs.Decided.{Is-record}
 use Rattle.text_promises.proofs.GoodLines.{put, keep, flag}
-use Rattle.published_promises.proofs.RowLaws.{in-field, held, held-under, rows-column}
-use Rattle.published_promises.proofs.Stretches.{field-lines, filler-lines, heading-filler, heading-count}
+use Rattle.published_promises.proofs.RowLaws.{in-field}
+use Rattle.published_promises.proofs.Stretches.{field-lines}
 use Rattle.published_promises.proofs.Stretches.{term-before, term-number, term-between, term-a, term-b, term-c, term-after}
-use Rattle.published_promises.proofs.Fields.{whole-bytes, decimal-line, count-field, decimal-field}
-use Rattle.published_promises.proofs.RowLines.{enter, line-step, lines, enters-none, rows-lines, lines-bad, Inside, Are}
-use Rattle.published_promises.proofs.RowLines.{inside-run, field-run, count-columns, decimal-columns}
-
--- ---- Lists cut in two.
-
-pub record Cut (n : ℕ) (xs : List ℕ) : Type 0 where
-  pub front : List ℕ
-  pub rest : List ℕ
-  pub is : xs ≡ front ++ rest
-  pub long : length front ≡ n
-  pub left : n + length rest ≡ length xs
-  pub free : No-feed front
-  pub rest-free : No-feed rest
-
-pub cut : (n : ℕ) (xs : List ℕ) → n ≤ length xs → No-feed xs → Cut n xs
-unfolding No-feed
-cut zero xs h f = record { front = []; rest = xs; is = refl; long = refl; left = omega arith; free = tt; rest-free = f }
-cut (suc n) [] h f = absurd (omega arith)
-cut (suc n) (x ∷ xs) h f =
-    let c = cut n xs (omega arith) (f .1) in
-    record {
-      front = x ∷ c .front;
-      rest = c .rest;
-      is = ap (λ (y : List ℕ). x ∷ y) (c .is);
-      long = ap suc (c .long);
-      left = omega (arith, c .left);
-      free = (f .0, c .free);
-      rest-free = c .rest-free;
-    }
-
-pub record Next (xs : List ℕ) : Type 0 where
-  pub b : ℕ
-  pub rest : List ℕ
-  pub is : xs ≡ b ∷ rest
-  pub left : suc (length rest) ≡ length xs
-  pub rest-free : No-feed rest
-
-pub next : (xs : List ℕ) → 1 ≤ length xs → No-feed xs → Next xs
-unfolding No-feed
-next [] h f = absurd (omega arith)
-next (x ∷ xs) h f = record { b = x; rest = xs; is = refl; left = refl; rest-free = f .1 }
-
-pub spaces-length : (n : ℕ) → length (spaces n) ≡ n
-unfolding spaces
-spaces-length zero = refl
-spaces-length (suc n) = ap suc (spaces-length n)
-
--- ---- Stretches that were taken.
-
--- The line is good.
-abbrev pub Live : Bool → ℕ → Line → List ℕ → Type 0
-Live h c l xs = lines h c l xs .spot ≡ spot-bad → ⊥
-
--- Free columns.
-record Free-in (h : Bool) (n m e : ℕ) (l : Line) (xs : List ℕ) : Type 0 where
-  front : List ℕ
-  rest : List ℕ
-  is : xs ≡ front ++ rest
-  free : Free n front
-  left : m ≤ length rest
-  rest-free : No-feed rest
-  live : Live h e l rest
-
-free-in : (h : Bool) (c n m e : ℕ) (l : Line) (xs : List ℕ) → c + n ≡ e → n + m ≤ length xs → No-feed xs → Inside c e → Are h (λ k. Filler) c e
-    → Live h c l xs → Free-in h n m e l xs
-free-in h c n m e l xs i k f s a y =
-    let p = cut n xs (omega arith) f in
-    let q : lines h c l xs ≡ lines h e l (p .rest) =
-    ap (λ (z : List ℕ). lines h c l z) (p .is)
-    ∙ inside-run h (λ k. Filler) e (p .front) (p .rest) c l (omega (arith, p .long)) s a
-    ∙ ap (λ (z : Line). lines h e z (p .rest)) (filler-lines l (p .front)) in
-    record {
-      front = p .front;
-      rest = p .rest;
-      is = p .is;
-      free = record { columns = p .long; no-feed = p .free };
-      left = omega (arith, p .left);
-      rest-free = p .rest-free;
-      live = λ z. y (ap (λ (x : Line). x .spot) q ∙ z);
-    }
-
--- A digit of a heading.
-record Figure-in (m e : ℕ) (l : Line) (xs : List ℕ) : Type 0 where
-  d : ℕ
-  rest : List ℕ
-  is : xs ≡ (48 + d) ∷ rest
-  digit : d < 10
-  left : m ≤ length rest
-  rest-free : No-feed rest
-  live : Live true e l rest
-
-figure-byte : (c : ℕ) (l : Line) (b : ℕ) (rest : List ℕ) → heading-column c ≡ Digit → Live true c l (b ∷ rest)
-    → ((48 ≤ b) × (b < 58)) × Live true (suc c) l rest
-unfolding lines line-step in-field enter
-figure-byte c l b rest k y =
-    let z : lines true (suc c) (in-field Digit l b) rest .spot ≡ spot-bad → ⊥ =
-    subst (λ (q : Column). lines true (suc c) (in-field q l b) rest .spot ≡ spot-bad → ⊥) k y in
-    by-cases (leb 48 b)
-    (λ p. by-cases (ltb b 58)
-    (λ q. ((leb-true 48 b p, ltb-true b 58 q), rw (p, q) at z))
-    (λ q. absurd (z (rw (p, q) (lines-bad true rest (suc c) bad refl)))))
-    (λ p. absurd (z (rw p (lines-bad true rest (suc c) bad refl))))
-
-figure-in : (c m : ℕ) (l : Line) (xs : List ℕ) → heading-column c ≡ Digit → 1 + m ≤ length xs → No-feed xs → Live true c l xs → Figure-in m (suc c) l xs
-figure-in c m l xs k h f y =
-    let p = next xs (omega arith) f in
-    let g = figure-byte c l (p .b) (p .rest) k (subst (λ (z : List ℕ). Live true c l z) (p .is) y) in
-    let e : p .b ≡ 48 + (p .b - 48) = omega (arith, g .0 .0) in
-    record {
-      d = p .b - 48;
-      rest = p .rest;
-      is = p .is ∙ ap (λ (x : ℕ). x ∷ p .rest) e;
-      digit = omega (arith, g .0 .0, g .0 .1);
-      left = omega (arith, p .left);
-      rest-free = p .rest-free;
-      live = g .1;
-    }
-
--- The columns of a count.
-record Number-in (h : Bool) (n m e : ℕ) (xs : List ℕ) : Type 0 where
-  indent : ℕ
-  k : Count-line
-  rest : List ℕ
-  is : xs ≡ spaces indent ++ (count-bytes k ++ rest)
-  good : Good-count k
-  right : indent + length (count-bytes k) ≡ n
-  left : m ≤ length rest
-  rest-free : No-feed rest
-  live : Live h e (put (fresh 20) (21 + length (k .more)) 0 (count k)) rest
-
-right-of : (n i : ℕ) (front figure : List ℕ) → length front ≡ n → front ≡ spaces i ++ figure → i + length figure ≡ n
-right-of n i front figure h e =
-    let s = ap length e ∙ length-append (spaces i) figure in omega (arith, s, spaces-length i)
-
-number-in : (h : Bool) (c n m e : ℕ) (xs : List ℕ) → c + n ≡ e → 1 ≤ n → n + m ≤ length xs → No-feed xs → Inside c e → Are h Count c e
-    → Live h c (fresh 20) xs → Number-in h n m e xs
-number-in h c n m e xs i o k f s a y =
-    let p = cut n xs (omega arith) f in
-    let q : lines h c (fresh 20) xs ≡ lines h e (whole-bytes 4 (fresh 20) (p .front)) (p .rest) =
-    ap (λ (z : List ℕ). lines h c (fresh 20) z) (p .is)
-    ∙ inside-run h Count e (p .front) (p .rest) c (fresh 20) (omega (arith, p .long)) s a
-    ∙ ap (λ (z : Line). lines h e z (p .rest)) (count-columns (p .front) (fresh 20)) in
-    let z : Live h e (whole-bytes 4 (fresh 20) (p .front)) (p .rest) = λ z. y (ap (λ (x : Line). x .spot) q ∙ z) in
-    let t = count-field (p .front) (omega (arith, p .long)) (λ b. z (lines-bad h (p .rest) e (whole-bytes 4 (fresh 20) (p .front)) b)) in
-    record {
-      indent = t .n;
-      k = t .k;
-      rest = p .rest;
-      is = p .is ∙ ap (λ (x : List ℕ). x ++ p .rest) (t .is) ∙ append-assoc (spaces (t .n)) (count-bytes (t .k)) (p .rest);
-      good = t .good;
-      right = right-of n (t .n) (p .front) (count-bytes (t .k)) (p .long) (t .is);
-      left = omega (arith, p .left);
-      rest-free = p .rest-free;
-      live = subst (λ (x : Line). Live h e x (p .rest)) (t .line) z;
-    }
-
--- ---- A heading.
-
--- So many bytes are whole.
-whole-long : (h : Bool) (n : ℕ) (xs : List ℕ) → n < 132 → ltb n (lex-rows h fresh-row xs .column) ≡ true → n ≤ length xs
-whole-long h n xs b w =
-    let e = rows-column h fresh-row xs (omega arith) in
-    let t = ltb-true n (lex-rows h fresh-row xs .column) w in
-    by-cases (ltb (length xs) n)
-    (λ p. let q = ltb-true (length xs) n p in absurd (omega (arith, e, t, held-under (1 + length xs) (omega (arith, q)))))
-    (λ p. ltb-false (length xs) n p)
-
-heading-strung : (f₁ f₂ f₃ xs r₁ r₂ r₃ r₄ r₅ r₆ r₇ s k : List ℕ) (v c p : ℕ)
-    → xs ≡ f₁ ++ r₁ → r₁ ≡ v ∷ r₂ → r₂ ≡ f₂ ++ r₃ → r₃ ≡ c ∷ r₄ → r₄ ≡ f₃ ++ r₅ → r₅ ≡ p ∷ r₆ → r₆ ≡ s ++ (k ++ r₇)
-    → xs ≡ f₁ ++ (v ∷ (f₂ ++ (c ∷ (f₃ ++ (p ∷ (s ++ (k ++ r₇)))))))
-heading-strung f₁ f₂ f₃ xs r₁ r₂ r₃ r₄ r₅ r₆ r₇ s k v c p e₁ e₂ e₃ e₄ e₅ e₆ e₇ = rw (e₁, e₂, e₃, e₄, e₅, e₆, e₇)
-
-inside-heading : (c e : ℕ) → e ≤ 80 → Inside c e
-inside-heading c e h k i j = (((λ z. omega (arith, z)), (λ z. omega (arith, z))), λ z. omega (arith, z))
-
-free-heading : (c e : ℕ) → e ≤ 60 → ((k : ℕ) → c ≤ k → k < e → (k ≡ 18 → ⊥) × (k ≡ 42 → ⊥)) → Are true (λ k. Filler) c e
-free-heading c e h n k i j = let t = n k i j in heading-filler k (t .0) (t .1) (λ z. omega (arith, z)) (omega arith)
-
-free-1 : Are true (λ k. Filler) 1 18
-free-1 = free-heading 1 18 (omega arith) (λ k i j. ((λ z. omega (arith, z)), (λ z. omega (arith, z))))
-
-free-19 : Are true (λ k. Filler) 19 42
-free-19 = free-heading 19 42 (omega arith) (λ k i j. ((λ z. omega (arith, z)), (λ z. omega (arith, z))))
-
-free-43 : Are true (λ k. Filler) 43 60
-free-43 = free-heading 43 60 (omega arith) (λ k i j. ((λ z. omega (arith, z)), (λ z. omega (arith, z))))
-
-pub count-heading : Are true Count 61 68
-count-heading k i j = let e : 67 - k ≡ 68 - k - 1 = omega arith in heading-count k i (omega arith) ∙ ap Count e
-
-pub heading-lines-in : (xs : List ℕ) → 67 ≤ length xs → No-feed xs → Live true 1 (fresh 20) xs → Is-heading xs
-unfolding heading-bytes heading-column
-heading-lines-in xs n f y =
-    let a = free-in true 1 17 50 18 (fresh 20) xs refl n f (inside-heading 1 18 (lit≤ tt)) free-1 y in
-    let v = figure-in 18 49 (fresh 20) (a .rest) refl (a .left) (a .rest-free) (a .live) in
-    let b = free-in true 19 23 26 42 (fresh 20) (v .rest) refl (v .left) (v .rest-free) (inside-heading 19 42 (lit≤ tt)) free-19 (v .live) in
-    let c = figure-in 42 25 (fresh 20) (b .rest) refl (b .left) (b .rest-free) (b .live) in
-    let d = free-in true 43 17 8 60 (fresh 20) (c .rest) refl (c .left) (c .rest-free) (inside-heading 43 60 (lit≤ tt)) free-43 (c .live) in
-    let p = figure-in 60 7 (fresh 20) (d .rest) refl (d .left) (d .rest-free) (d .live) in
-    let k = number-in true 61 7 0 68 (p .rest) refl (lit≤ tt) (p .left) (p .rest-free) (inside-heading 61 68 (lit≤ tt)) count-heading (p .live) in
-    record {
-      h =
-          record {
-            before-version = a .front;
-            version = v .d;
-            before-coordinate = b .front;
-            coordinate = c .d;
-            before-power = d .front;
-            power = p .d;
-            count-indent = k .indent;
-            count = k .k;
-            after = k .rest;
-          };
-      good =
-          record {
-            before-version = a .free;
-            version = v .digit;
-            before-coordinate = b .free;
-            coordinate = c .digit;
-            before-power = d .free;
-            power = p .digit;
-            count = k .good;
-            count-right = k .right;
-            after = k .rest-free;
-          };
-      is =
-          heading-strung (a .front) (b .front) (d .front) xs (a .rest) (v .rest) (b .rest) (c .rest) (d .rest) (p .rest) (k .rest)
-          (spaces (k .indent)) (count-bytes (k .k)) (48 + v .d) (48 + c .d) (48 + p .d) (a .is) (v .is) (b .is) (c .is) (d .is) (p .is) (k .is);
-    }
-
--- The first row.
-pub first-line : (h : Bool) (xs : List ℕ) → (lex-rows h fresh-row xs .line .spot ≡ spot-bad → ⊥) → Live h 1 (fresh 20) xs
-unfolding held
-first-line h xs y e = y (ap (λ (l : Line). l .spot) (rows-lines h xs fresh-row 1 refl) ∙ e)
-
-pub heading-in : (xs : List ℕ) → No-feed xs → (lex-rows true fresh-row xs .line .spot ≡ spot-bad → ⊥) → whole-row true (lex-rows true fresh-row xs) ≡ true
-    → Is-heading xs
-unfolding whole-row
-heading-in xs f y w = heading-lines-in xs (whole-long true 67 xs (omega arith) w) f (first-line true xs y)
+use Rattle.published_promises.proofs.Fields.{decimal-line, decimal-field}
+use Rattle.published_promises.proofs.RowLines.{enter, line-step, lines, enters-none, lines-bad, Inside, Are}
+use Rattle.published_promises.proofs.RowLines.{field-run, decimal-columns}
+use Rattle.published_promises.proofs.TakenStretches.{cut, next, Live, free-in, right-of, number-in}
+use Rattle.published_promises.proofs.TakenHeadings.{whole-long, inside-heading, first-line}
 
 -- ---- A term record.
 
