@@ -1,4 +1,5 @@
--- Where packed bytes are refused: the offset that a reader has come to and the bytes from there make up all the bytes. Assumes nothing.
+-- Where packed bytes are refused: the offset that a reader has come to and the bytes from there make up all the bytes; and no number is
+-- refused as a byte after the end. Assumes nothing.
 use mathlib.Core.Path.{_≡_}
 use mathlib.Core.Bool.{Bool, true, false, cond}
 use mathlib.Core.List.{List, [], _∷_}
@@ -7,8 +8,10 @@ use native.Mathlib.Omega.{arith}
 use lib.Dec.{leb, ltb, eqb}
 use lib.IntN.{ℤ}
 use lib.ListN.{length}
+use Rattle.units.specs.Refusals.{byte-after-end}
+use Rattle.units.specs.Refusals as refusals
 use Rattle.units.specs.declared.Refusal.{Refusal}
-use Rattle.units.specs.declared.Refusal.the-variants.{OverLimit, TotalOverLimit, TooCoarse}
+use Rattle.units.specs.declared.Refusal.the-variants.{OverLimit, TotalOverLimit, TooCoarse, EndedEarly, NotShortest}
 use Rattle.units.specs.Units.{block-count}
 use Rattle.packed_numbers.specs.Numbers.{group, Read, got, bad, next, closed, groups-from, number, unfolded}
 use Rattle.limits.specs.declared.Tally.{Tally}
@@ -17,10 +20,30 @@ use Rattle.packed.specs.Series.{judged, read-a, read-b, read-c, read-term, read
 use Rattle.packed_promises.specs.Bounds.{Where, over, total, coarse, early, unshortened}
 
 module _ (bytes : List ℕ) where
+  -- A refusal of a number: it says where, and is not that of a byte after the end.
+  pub record Of-number (r : Refusal) : Type 0 where
+    pub place : Where bytes r
+    pub not-after : refusals.number r ≡ byte-after-end → ⊥
+
+  over-at : (at : ℕ) → at < length bytes → Of-number (OverLimit at)
+  over-at at l = record { place = over l; not-after = λ e. omega (arith, e) }
+
+  total-at : (at : ℕ) → at < length bytes → Of-number (TotalOverLimit at)
+  total-at at l = record { place = total l; not-after = λ e. omega (arith, e) }
+
+  coarse-at : (at : ℕ) → at < length bytes → Of-number (TooCoarse at)
+  coarse-at at l = record { place = coarse l; not-after = λ e. omega (arith, e) }
+
+  early-at : (at : ℕ) → at ≡ length bytes → Of-number (EndedEarly at)
+  early-at at e = record { place = early e; not-after = λ e. omega (arith, e) }
+
+  unshortened-at : (at : ℕ) → at < length bytes → Of-number (NotShortest at)
+  unshortened-at at l = record { place = unshortened l; not-after = λ e. omega (arith, e) }
+
   -- A reader in these bytes that has come to at least the offset low, or a refusal that says where.
   pub data Placed {A : Type 0} (low : ℕ) : Read A → Type 0 where
     on : {x : A} {to : ℕ} {rest : List ℕ} → to + length rest ≡ length bytes → low ≤ to → Placed low (got x to rest)
-    off : {r : Refusal} → Where bytes r → Placed low (bad r)
+    off : {r : Refusal} → Of-number r → Placed low (bad r)
 
   either : {A : Type 0} {low : ℕ} {q r : Read A} (t : Bool) → Placed low q → Placed low r → Placed low (cond t q r)
   either true h k = h
@@ -38,20 +61,20 @@ module _ (bytes : List ℕ) where
 
   -- A refusal at the byte before the offset that a reader has come to.
   last : {A : Type 0} {low : ℕ} {r : Read A} (t : Bool) (refusal : ℕ → Refusal) (to : ℕ) (rest : List ℕ)
-      → ((at : ℕ) → at < length bytes → Where bytes (refusal at)) → to + length rest ≡ length bytes → 1 ≤ to
+      → ((at : ℕ) → at < length bytes → Of-number (refusal at)) → to + length rest ≡ length bytes → 1 ≤ to
       → Placed low r → Placed low (judged t refusal to r)
   unfolding judged
   last t refusal to rest w e h k = either t k (off (w (to - 1) (omega arith)))
 
   groups-placed : (x : List ℕ) (k acc at : ℕ) → at + length x ≡ length bytes → Placed (at + 1) (groups-from k acc at x)
   unfolding groups-from closed
-  groups-placed [] k acc at e = off (early {n = at} (omega arith))
+  groups-placed [] k acc at e = off (early-at at (omega arith))
   groups-placed (b ∷ x) k acc at e =
       either (ltb b group)
       (either (eqb b 0)
-      (either (eqb k 0) (on (omega arith) (omega arith)) (off (unshortened {at = at} (omega arith))))
+      (either (eqb k 0) (on (omega arith) (omega arith)) (off (unshortened-at at (omega arith))))
       (on (omega arith) (omega arith)))
-      (either (leb 8 k) (off (over {at = at} (omega arith)))
+      (either (leb 8 k) (off (over-at at (omega arith)))
       (later (at + 1) (omega arith) (groups-placed x (k + 1) (acc + (b - group) * group ^ k) (at + 1) (omega arith))))
 
   number-placed : (at : ℕ) (x : List ℕ) → at + length x ≡ length bytes → Placed 1 (number at x)
@@ -62,19 +85,19 @@ module _ (bytes : List ℕ) where
   unfolding read-a
   a-placed s at x e =
       then 1 (number at x) _ (number-placed at x e) (λ v to rest p h.
-      last (a-fits (unfolded v)) OverLimit to rest (λ at l. over l) p h
-      (last (total-fits s (unfolded v)) TotalOverLimit to rest (λ at l. total l) p h (on p h)))
+      last (a-fits (unfolded v)) OverLimit to rest over-at p h
+      (last (total-fits s (unfolded v)) TotalOverLimit to rest total-at p h (on p h)))
 
   b-placed : (at : ℕ) (x : List ℕ) → at + length x ≡ length bytes → Placed 1 (read-b at x)
   unfolding read-b
-  b-placed at x e = then 1 (number at x) _ (number-placed at x e) (λ v to rest p h. last (b-fits v) OverLimit to rest (λ at l. over l) p h (on p h))
+  b-placed at x e = then 1 (number at x) _ (number-placed at x e) (λ v to rest p h. last (b-fits v) OverLimit to rest over-at p h (on p h))
 
   c-placed : (f : ℕ) (s : Tally) (a : ℤ) (b at : ℕ) (x : List ℕ) → at + length x ≡ length bytes → Placed 1 (read-c f s a b at x)
   unfolding read-c
   c-placed f s a b at x e =
       then 1 (number at x) _ (number-placed at x e) (λ v to rest p h.
-      last (c-fits (unfolded v)) OverLimit to rest (λ at l. over l) p h
-      (last (coarse-fits f s a b (unfolded v)) TooCoarse to rest (λ at l. coarse l) p h (on p h)))
+      last (c-fits (unfolded v)) OverLimit to rest over-at p h
+      (last (coarse-fits f s a b (unfolded v)) TooCoarse to rest coarse-at p h (on p h)))
 
   term-placed : (f : ℕ) (s : Tally) (at : ℕ) (x : List ℕ) → at + length x ≡ length bytes → Placed 1 (read-term f s at x)
   unfolding read-term
@@ -94,7 +117,7 @@ module _ (bytes : List ℕ) where
   unfolding read-block
   block-placed k s at x e =
       then 0 (number at x) _ (number-placed at x e) (λ n to rest p h.
-      last (count-fits s n) OverLimit to rest (λ at l. over l) p h (terms-placed n (factor k) (opened k n s) to rest p))
+      last (count-fits s n) OverLimit to rest over-at p h (terms-placed n (factor k) (opened k n s) to rest p))
 
   blocks-placed : (n k : ℕ) (s : Tally) (at : ℕ) (x : List ℕ) → at + length x ≡ length bytes → Placed 0 (read-blocks n k s at x)
   unfolding read-blocks

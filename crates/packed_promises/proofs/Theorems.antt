@@ -22,24 +22,23 @@ use Rattle.packed_promises.proofs.Longest.{Bounded, within, stopped, By
 use Rattle.packed_promises.proofs.Packing.{blocks-begin, blocks-are-good, blocks-packed}
 
 -- An accepted series was read to the end of its bytes.
-record To-end (x : List ℕ) (blocks : List (List Term)) : Type 0 where
-  at : ℕ
-  is : read-blocks block-count 0 no-tally 0 x ≡ got blocks at []
-
-to-end : (x : List ℕ) (blocks : List (List Term)) → parse x ≡ accepted blocks → To-end x blocks
-unfolding parse read-series
-to-end x blocks e = go (read-blocks block-count 0 no-tally 0 x) refl e
+pub to-end : (x : List ℕ) (blocks : List (List Term)) → parse x ≡ accepted blocks → read-series 0 x ≡ got blocks (length x) []
+unfolding parse ended
+to-end x blocks e = go (read-series 0 x) refl (series-placed x) e
   where
-    go : (r : Read (List (List Term))) → read-blocks block-count 0 no-tally 0 x ≡ r → ended r ≡ accepted blocks → To-end x blocks
-    go (got bs at []) p q = unfold ended in let w : bs ≡ blocks = cc in record { at = at; is = rw w at p }
-    go (got bs at (b ∷ rest)) p q = unfold ended in let z : _≡_ {A = ℕ} 0 1 = cc in absurd (omega arith)
-    go (bad r) p q = unfold ended in let z : _≡_ {A = ℕ} 0 1 = cc in absurd (omega arith)
+    go : (r : Read (List (List Term))) → read-series 0 x ≡ r → Placed x 0 r → ended r ≡ accepted blocks → read-series 0 x ≡ got blocks (length x) []
+    go (got bs at []) p (on l _) q =
+        let w : bs ≡ blocks = cc in
+        let n : at ≡ length x = omega (arith, l) in
+        rw (w, n) at p
+    go (got bs at (b ∷ rest)) p l q = let z : _≡_ {A = ℕ} 0 1 = cc in absurd (omega arith)
+    go (bad r) p l q = let z : _≡_ {A = ℕ} 0 1 = cc in absurd (omega arith)
 
 -- The blocks of an accepted series are within the limits.
 pub accepted-allowed : (x : List ℕ) (blocks : List (List Term)) → parse x ≡ accepted blocks → Allowed blocks
+unfolding read-series
 accepted-allowed x blocks e =
-    let t = to-end x blocks e in
-    let g = blocks-are-good block-count 0 no-tally 0 x blocks (t .at) [] (t .is) in
+    let g = blocks-are-good block-count 0 no-tally 0 x blocks (length x) [] (to-end x blocks e) in
     good-allowed blocks (g .many) (g .good)
 
 -- Refused bytes say where: how many they are, or the offset of one of them; and they have no other refusal.
@@ -52,7 +51,7 @@ refused-where bytes r e = go (read-series 0 bytes) (series-placed bytes) e
     go (got bs at (b ∷ rest)) (on p l) q =
         let w : ByteAfterEnd at ≡ r = cc in
         subst (λ (s : Refusal). Where bytes s) w (after {at = at} (omega arith))
-    go (bad s) (off w) q = let p : s ≡ r = cc in rw p at w
+    go (bad s) (off w) q = let p : s ≡ r = cc in rw p at (w .place)
 
 -- So none is refused for want of room.
 pub room-where : {bytes : List ℕ} {r : Refusal} → Where bytes r → refusals.number r ≡ refusals.no-room → ⊥
@@ -102,7 +101,7 @@ decided x y l = go (read-series 0 x) refl (series-placed x) (series-bounded x)
     go (bad r) e (off w) (stopped h) = record { refusal = r; alone = rw e; with-more = rw (series-bad 0 x y r late e) }
       where
         late : (n : ℕ) → r ≡ EndedEarly n → ⊥
-        late n q = omega (arith, h n q, early-where x n (subst (λ (s : Refusal). Where x s) q w))
+        late n q = omega (arith, h n q, early-where x n (subst (λ (s : Refusal). Where x s) q (w .place)))
 
 -- The packed form of a series within the limits is accepted as that series.
 pub pack-parse : (blocks : List (List Term)) → Allowed blocks → parse (pack blocks) ≡ accepted blocks
@@ -118,9 +117,8 @@ longest-packed blocks a = longest-series (pack blocks) blocks (pack-parse blocks
 
 -- The bytes of an accepted series are the packed form of its blocks: no other bytes are accepted for them.
 pub parse-pack : (x : List ℕ) (blocks : List (List Term)) → All-bytes x → parse x ≡ accepted blocks → x ≡ pack blocks
-parse-pack x blocks b e =
-    let t = to-end x blocks e in
-    blocks-begin block-count 0 no-tally 0 x blocks (t .at) [] b (t .is) .form ∙ append-nil (pack blocks)
+unfolding read-series
+parse-pack x blocks b e = blocks-begin block-count 0 no-tally 0 x blocks (length x) [] b (to-end x blocks e) .form ∙ append-nil (pack blocks)
 
 -- 300 is AC 02.
 pub three-hundred : encode 300 ≡ 172 ∷ 2 ∷ []
