@@ -469,7 +469,9 @@ class PublishedReader(TextReader):
 
 
 def check(packed):
-    """How many terms a packed series has. Refused: 4, 5, 6, 8, 9, 10."""
+    """How many terms a packed series has. Refused: 4, 5, 6, 8, 9, 10.
+
+    Of series stored end to end 9 has, as its figure, the length of the first: the next one begins there."""
     _need_stack()
     with _Lent(packed) as slices:
         return _taken(_c["check"](*slices)).terms

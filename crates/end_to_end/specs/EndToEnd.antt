@@ -1,0 +1,92 @@
+-- Series stored end to end, with nothing between them (document 02, C-21): they are told apart in one way, and `check` finds where each ends.
+-- Strings and lists may have any length. proofs/Theorems.antt shows the statements: Told-apart of packed series, of series texts and of plain
+-- texts; Found-by-check; Found-by-read; Plain-texts.
+use mathlib.Core.Path.{_≡_}
+use mathlib.Core.List.{List, [], _∷_, _++_}
+use Prim.Native.Nat.{ℕ, _≤_, _<_}
+use lib.ListN.{length, take, drop}
+use Rattle.units.specs.declared.Refusal.the-variants.{ByteAfterEnd}
+use Rattle.packed_numbers.specs.Numbers.{All-bytes}
+use Rattle.packed.specs.declared.Checked.the-variants.{Terms, NoSeries}
+use Rattle.packed.specs.Series.{parse, checked}
+use Rattle.packed_promises.specs.Bounds.{packed-limit}
+use Rattle.series_lines.specs.declared.Outcome.the-variants.{Accepted, Refused}
+use Rattle.series_lines.specs.Reader.{last-offset, told}
+use Rattle.series_lines.specs.Calls.{joined}
+use Rattle.text.specs.Reader.{whole}
+use Rattle.printer.specs.declared.Printed.the-variants.{Length}
+use Rattle.printer.specs.Printer.{printed, printed-out}
+
+-- ---- What is stored.
+
+-- A packed series: `check` answers how many terms it has.
+pub record Packed-series (x : List ℕ) : Type 0 where
+  pub terms : ℕ
+  pub is : checked (parse x) ≡ Terms terms
+
+-- A series text: `read` accepts it, with some output.
+pub record Series-text (text : List ℕ) : Type 0 where
+  pub out : List ℕ
+  pub size : ℕ
+  pub is : told (whole text out .reader) ≡ Accepted size
+
+-- The text that `print` writes for packed bytes, into some output.
+pub record Prints (x text : List ℕ) : Type 0 where
+  pub bytes : All-bytes x
+  pub out : List ℕ
+  pub answer : printed (parse x) out ≡ Length (length text)
+  pub written : take (length text) (printed-out (parse x) out) ≡ text
+
+-- A plain text: `print` writes it for some packed bytes.
+pub record Plain-series (text : List ℕ) : Type 0 where
+  pub packed : List ℕ
+  pub prints : Prints packed text
+
+-- ---- Told apart.
+
+-- Each string of a list is P.
+unfoldable pub Each : (List ℕ → Type 0) → List (List ℕ) → Type 0
+Each P [] = Unit {0}
+Each P (x ∷ xs) = P x × Each P xs
+
+-- The strings that are P can be stored end to end.
+pub record Told-apart (P : List ℕ → Type 0) : Type 0 where
+  -- None of them is the beginning of another.
+  pub no-beginning : (x y : List ℕ) → P x → P (x ++ y) → y ≡ []
+  -- No string is made of them in two ways.
+  pub one-split : (xs ys : List (List ℕ)) → Each P xs → Each P ys → joined xs ≡ joined ys → xs ≡ ys
+
+-- ---- Found again.
+
+-- What `check` finds in bytes, series after series: where it accepts the rest, this is the last one; where it refuses the rest with 9, the
+-- bytes before that offset are one, and the next begins there.
+pub data Found : List ℕ → List (List ℕ) → Type 0 where
+  last : {x : List ℕ} {n : ℕ} → checked (parse x) ≡ Terms n → Found x (x ∷ [])
+  next : {bytes : List ℕ} {at : ℕ} {xs : List (List ℕ)} → checked (parse bytes) ≡ NoSeries (ByteAfterEnd at)
+      → Found (drop at bytes) xs → Found bytes (take at bytes ∷ xs)
+
+-- Packed series stored end to end are found, and nothing else is.
+pub record Found-by-check : Type 0 where
+  -- Where bytes follow a series, `check` refuses with 9 and the offset of the first of them,
+  pub followed : (x y : List ℕ) (b : ℕ) → Packed-series x → checked (parse (x ++ (b ∷ y))) ≡ NoSeries (ByteAfterEnd (length x))
+  -- and only there.
+  pub front : (bytes : List ℕ) (at : ℕ) → All-bytes bytes → checked (parse bytes) ≡ NoSeries (ByteAfterEnd at)
+      → Packed-series (take at bytes) × (at < length bytes)
+  -- So a list of series, joined, is found again,
+  pub finds : (x : List ℕ) (xs : List (List ℕ)) → Each Packed-series (x ∷ xs) → Found (joined (x ∷ xs)) (x ∷ xs)
+  -- and what is found are series, which make up all of the bytes.
+  pub found : (bytes : List ℕ) (xs : List (List ℕ)) → All-bytes bytes → Found bytes xs → Each Packed-series xs × (joined xs ≡ bytes)
+
+-- The same of texts whose bytes can be counted, by `read`, with every output that has room for the longest series.
+pub record Found-by-read : Type 0 where
+  pub followed : (text more out : List ℕ) (b : ℕ) → Series-text text → length (text ++ (b ∷ more)) ≤ last-offset → packed-limit ≤ length out
+      → told (whole (text ++ (b ∷ more)) out .reader) ≡ Refused (ByteAfterEnd (length text))
+  pub front : (text out : List ℕ) (at : ℕ) → length text ≤ last-offset → told (whole text out .reader) ≡ Refused (ByteAfterEnd at)
+      → Series-text (take at text) × (at < length text)
+
+-- ---- Printed.
+
+-- Plain texts are series texts, and two packed series have the same one only if they are equal.
+pub record Plain-texts : Type 0 where
+  pub read : (text : List ℕ) → Plain-series text → Series-text text
+  pub same : (x y text : List ℕ) → Prints x text → Prints y text → x ≡ y

@@ -1,0 +1,2 @@
+-- Series stored end to end.
+pub mod EndToEnd

@@ -1,0 +1,1 @@
+// Laws only: series stored end to end, told apart and found again.
