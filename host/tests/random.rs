@@ -4,37 +4,16 @@
 
 mod common;
 
-use common::calls::{Calls, Outcome, LIBRARY, PLAIN};
+use common::calls::{Outcome, LIBRARY, PLAIN};
 use common::edges::Window;
 use common::generate::{any_number, bodies, date, instant, packed, series, text};
 use common::layouts::{filled, published_file};
 use common::raw::RAW;
-use common::{cut, hex, published, Random};
+use common::{cut, hex, published, rounds, same, same_output, Random};
 use reference::layout;
 use reference::plain::packed::{pack, parse, Series, Term};
 use reference::plain::sun_list::threshold;
 use reference::plain::PARTS;
-use std::fmt::Debug;
-
-/// How many inputs a test tries: a hundredth where STEPHYLAX_SHORT is set, as under a memory checker.
-fn rounds(n: u64) -> u64 {
-    if std::env::var_os("STEPHYLAX_SHORT").is_some() {
-        return n.div_ceil(100);
-    }
-    n
-}
-
-/// Runs a call of all three: the answer that they agree on.
-fn same<A: PartialEq + Debug>(call: impl Fn(&Calls) -> A, input: impl Fn() -> String) -> A {
-    let wanted = call(&PLAIN);
-    for calls in [&LIBRARY, &RAW] {
-        let answer = call(calls);
-        if answer != wanted {
-            panic!("{} {answer:?}\nplain {wanted:?}\ninput {}", calls.name, input());
-        }
-    }
-    wanted
-}
 
 /// How often each refusal came, 0 for an answer: a test whose input never meets a case shows nothing of it.
 struct Seen([u64; 15]);
@@ -52,19 +31,6 @@ impl Seen {
             assert!(rounds(100) == 1 || 40 <= self.0[number], "refusal {number} came {} times", self.0[number]);
         }
     }
-}
-
-/// The same for a call with output: all begin with what `before` holds, and must leave the same in it.
-fn same_output<T: Copy + PartialEq + Debug>(
-    before: &[T],
-    call: impl Fn(&Calls, &mut [T]) -> Outcome<usize>,
-    input: impl Fn() -> String,
-) -> (Outcome<usize>, Vec<T>) {
-    let run = |calls: &Calls| {
-        let mut output = before.to_vec();
-        (call(calls, &mut output), output)
-    };
-    same(run, input)
 }
 
 #[test]

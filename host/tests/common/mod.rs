@@ -1,4 +1,4 @@
-//! What the tests share: the repository's files, the fields of a vector line, and a random source.
+//! What the tests share: the repository's files, the fields of a vector line, a random source, and answers compared.
 #![allow(dead_code)]
 
 pub mod calls;
@@ -7,8 +7,10 @@ pub mod generate;
 pub mod layouts;
 pub mod raw;
 
-use calls::{Outcome, PLAIN};
+use calls::{Calls, Outcome, LIBRARY, PLAIN};
+use raw::RAW;
 use std::collections::HashMap;
+use std::fmt::Debug;
 use std::path::PathBuf;
 
 pub fn repository(path: &str) -> PathBuf {
@@ -162,4 +164,38 @@ pub fn cut<'a>(text: &'a [u8], random: &mut Random) -> Vec<&'a [u8]> {
         rest = after;
     }
     pieces
+}
+
+/// How many inputs a test tries: a hundredth where STEPHYLAX_SHORT is set, as under a memory checker.
+pub fn rounds(n: u64) -> u64 {
+    if std::env::var_os("STEPHYLAX_SHORT").is_some() {
+        return n.div_ceil(100);
+    }
+    n
+}
+
+/// Runs a call of the library, through the wrapper and through the C interface, and of the independent implementation: the answer
+/// that all three agree on.
+pub fn same<A: PartialEq + Debug>(call: impl Fn(&Calls) -> A, input: impl Fn() -> String) -> A {
+    let wanted = call(&PLAIN);
+    for calls in [&LIBRARY, &RAW] {
+        let answer = call(calls);
+        if answer != wanted {
+            panic!("{} {answer:?}\nplain {wanted:?}\ninput {}", calls.name, input());
+        }
+    }
+    wanted
+}
+
+/// The same for a call with output: all begin with what `before` holds, and must leave the same in it.
+pub fn same_output<T: Copy + PartialEq + Debug>(
+    before: &[T],
+    call: impl Fn(&Calls, &mut [T]) -> Outcome<usize>,
+    input: impl Fn() -> String,
+) -> (Outcome<usize>, Vec<T>) {
+    let run = |calls: &Calls| {
+        let mut output = before.to_vec();
+        (call(calls, &mut output), output)
+    };
+    same(run, input)
 }
