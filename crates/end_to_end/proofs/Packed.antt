@@ -8,7 +8,7 @@ use lib.ListN.{length, take, drop, length-append, take-append-drop}
 use lib.Seq.{take-at, take-append-seam, drop-append-seam}
 use Rattle.units.specs.Refusals as refusals
 use Rattle.units.specs.declared.Refusal.{Refusal}
-use Rattle.units.specs.declared.Refusal.the-variants.{ByteAfterEnd}
+use Rattle.units.specs.declared.Refusal.the-variants.{EndedEarly, ByteAfterEnd}
 use Rattle.packed_numbers.specs.Numbers.{All-bytes, Read, got, bad, number, groups-from, next}
 use Rattle.units.specs.Units.{block-count}
 use Rattle.limits.specs.declared.Term.{Term}
@@ -17,13 +17,16 @@ use Rattle.limits.specs.Limits.{no-tally}
 use Rattle.limits.proofs.Series.{good-allowed}
 use Rattle.packed.specs.declared.Checked.the-variants.{Terms, NoSeries}
 use Rattle.packed.specs.Series.{Parsed, accepted, refused, read-block, read-blocks, read-series, ended, parse, checked, pack}
-use Rattle.packed_promises.proofs.Appending.{series-append}
+use Rattle.packed_promises.specs.Bounds.{Where, over, total, coarse, early, after, unshortened}
+use Rattle.packed_promises.proofs.Appending.{series-append, series-bad}
 use Rattle.packed_promises.proofs.Refusing.{Placed, on, off, series-placed}
 use Rattle.packed_promises.proofs.Packing.{blocks-begin, blocks-are-good}
 use Rattle.packed_promises.proofs.Theorems.{to-end, pack-parse}
 use Rattle.series_lines.specs.Calls.{joined}
 use Rattle.end_to_end.specs.EndToEnd as said
 use Rattle.end_to_end.specs.EndToEnd.{Packed-series, Each, Found, last}
+
+-- ---- A series, and more bytes.
 
 unlike : {r : Refusal} {n : ℕ} → NoSeries r ≡ Terms n → ⊥
 unlike e = let z : _≡_ {A = ℕ} 0 1 = cc in omega arith
@@ -45,7 +48,16 @@ pub followed : (x y : List ℕ) (b : ℕ) → Packed-series x → checked (parse
 unfolding parse checked ended
 followed x y b s = let p = blocks-of x s in rw (series-append 0 x (b ∷ y) (to-end x (p .blocks) (p .is)))
 
--- The bytes before a 9.
+pub not-empty : Packed-series [] → ⊥
+unfolding parse checked ended read-series read-blocks read-block number groups-from next
+not-empty s = unlike (s .is)
+
+pub no-beginning : (x y : List ℕ) → Packed-series x → Packed-series (x ++ y) → y ≡ []
+no-beginning x [] s t = refl
+no-beginning x (b ∷ y) s t = absurd (unlike (sym (followed x y b s) ∙ t .is))
+
+-- ---- The bytes before a 9.
+
 before : (bytes : List ℕ) (blocks : List (List Term)) (at b : ℕ) (rest : List ℕ) → All-bytes bytes → read-series 0 bytes ≡ got blocks at (b ∷ rest)
     → at + length (b ∷ rest) ≡ length bytes → Packed-series (take at bytes) × (at < length bytes)
 unfolding read-series checked
@@ -68,13 +80,39 @@ front bytes at all = go (read-series 0 bytes) refl (series-placed bytes)
     go (got blocks to (b ∷ rest)) p (on l _) q = let e : to ≡ at = cc in before bytes blocks at b rest all (rw e at p) (rw e at l)
     go (bad r) p (off w) q = let e : r ≡ ByteAfterEnd at = cc in absurd (w .not-after (ap refusals.number e))
 
-pub not-empty : Packed-series [] → ⊥
-unfolding parse checked ended read-series read-blocks read-block number groups-from next
-not-empty s = unlike (s .is)
+-- ---- A series that is cut short. What is read of it goes on as in the whole one, so it can only end early.
 
-pub no-beginning : (x y : List ℕ) → Packed-series x → Packed-series (x ++ y) → y ≡ []
-no-beginning x [] s t = refl
-no-beginning x (b ∷ y) s t = absurd (unlike (sym (followed x y b s) ∙ t .is))
+module _ (x y : List ℕ) (b : ℕ) (s : Packed-series (x ++ (b ∷ y))) where
+  all-read : (blocks : List (List Term)) × (read-series 0 (x ++ (b ∷ y)) ≡ got blocks (length (x ++ (b ∷ y))) [])
+  all-read = let p = blocks-of (x ++ (b ∷ y)) s in (p .blocks, to-end (x ++ (b ∷ y)) (p .blocks) (p .is))
+
+  not-got : (blocks : List (List Term)) (at : ℕ) (rest : List ℕ) → read-series 0 x ≡ got blocks at rest → ⊥
+  not-got blocks at rest p = omega (arith, ap length (nothing (sym (all-read .1) ∙ series-append 0 x (b ∷ y) p)), length-append rest (b ∷ y))
+    where
+      nothing : {bs : List (List Term)} {n : ℕ} → got bs n [] ≡ got blocks at (rest ++ (b ∷ y)) → [] ≡ rest ++ (b ∷ y)
+      nothing q = cc
+
+  not-bad : (r : Refusal) → (refusals.number r ≡ refusals.ended-early → ⊥) → read-series 0 x ≡ bad r → ⊥
+  not-bad r h p = unlike-got (sym (series-bad 0 x (b ∷ y) r (λ n q. h (ap refusals.number q)) p) ∙ all-read .1)
+    where
+      unlike-got : {blocks : List (List Term)} {at : ℕ} {rest : List ℕ} → bad r ≡ got blocks at rest → ⊥
+      unlike-got q = let z : _≡_ {A = ℕ} 0 1 = cc in omega arith
+
+  ends-early : {r : Refusal} → Where x r → read-series 0 x ≡ bad r → r ≡ EndedEarly (length x)
+  ends-early (early e) p = ap EndedEarly e
+  ends-early {r = r} (over l) p = absurd (not-bad r (λ q. omega (arith, q)) p)
+  ends-early {r = r} (total l) p = absurd (not-bad r (λ q. omega (arith, q)) p)
+  ends-early {r = r} (coarse l) p = absurd (not-bad r (λ q. omega (arith, q)) p)
+  ends-early {r = r} (after l) p = absurd (not-bad r (λ q. omega (arith, q)) p)
+  ends-early {r = r} (unshortened l) p = absurd (not-bad r (λ q. omega (arith, q)) p)
+
+  pub cut-short : checked (parse x) ≡ NoSeries (EndedEarly (length x))
+  unfolding parse checked ended
+  cut-short = go (read-series 0 x) refl (series-placed x)
+    where
+      go : (r : Read (List (List Term))) → read-series 0 x ≡ r → Placed x 0 r → checked (ended r) ≡ NoSeries (EndedEarly (length x))
+      go (got blocks at rest) p l = absurd (not-got blocks at rest p)
+      go (bad r) p (off w) = ap NoSeries (ends-early (w .place) p)
 
 -- ---- One after the other.
 

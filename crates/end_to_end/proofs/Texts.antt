@@ -1,7 +1,7 @@
 -- Series texts: with bytes after it a text is refused 9 at the first of them, and where a text is refused so, a series text stands before.
 -- Both come from the answer to every text (text_promises/specs/Decided.antt), not from the reader's steps. Assumes nothing.
 use mathlib.Core.Path.{_≡_, refl, sym, ap, _∙_, subst}
-use mathlib.Core.List.{List, [], _∷_, _++_, append-nil}
+use mathlib.Core.List.{List, [], _∷_, _++_, append-nil, append-assoc}
 use Prim.Native.Nat.{ℕ, suc, _+_, _≤_, _<_}
 use native.Mathlib.Omega.{arith}
 use lib.ListN.{length, take, replicate, length-append, length-replicate}
@@ -9,14 +9,14 @@ use lib.Seq.{take-append-seam}
 use Rattle.units.specs.Units.{block-count}
 use Rattle.units.specs.Refusals.{number, byte-after-end}
 use Rattle.units.specs.declared.Refusal.{Refusal}
-use Rattle.units.specs.declared.Refusal.the-variants.{ByteAfterEnd}
+use Rattle.units.specs.declared.Refusal.the-variants.{EndedEarly, ByteAfterEnd}
 use Rattle.limits.specs.declared.Tally.{Tally}
 use Rattle.packed_promises.specs.Bounds.{packed-limit}
 use Rattle.packed_promises.proofs.Theorems.{longest-packed}
 use Rattle.series_lines.specs.declared.Outcome.{Outcome}
 use Rattle.series_lines.specs.declared.Outcome.the-variants.{Accepted, Refused}
 use Rattle.series_lines.specs.Reader.{last-offset, told}
-use Rattle.series_lines.specs.Grammar.{feed, Block, count-bytes, lines-bytes, blocks-bytes, blocks-of-lines, Any-line, any-bytes, any-packed}
+use Rattle.series_lines.specs.Grammar.{feed, Block, count-bytes, term-bytes, lines-bytes, blocks-bytes, blocks-of-lines, Any-line, any-bytes, any-packed}
 use Rattle.text.specs.Reader.{whole}
 use Rattle.text_promises.specs.Decided.{Stands, Refuses, Answers, accepts, refuses, ends-early}
 use Rattle.text_promises.specs.Decided.{after-end, bad-byte, early-feed, count-over, number-over, total-over, too-coarse, no-room-count, no-room-term}
@@ -82,6 +82,40 @@ not-empty t = let r = accepted-text [] (t .out) (t .size) (t .is) in some (r .ks
     some [] n e = omega (arith, n)
     some (k ∷ ks) n e =
         omega (arith, ap length e, length-append (count-bytes (k .head)) (feed ∷ (lines-bytes (k .lines) ++ blocks-bytes ks)))
+
+-- ---- A text that is cut short.
+
+-- What is refused of a text is refused of a longer one.
+still : {at room k n : ℕ} {s : Tally} {rest : List ℕ} {r : Refusal} (y : List ℕ) → Refuses at s room k n rest r → Refuses at s room k n (rest ++ y) r
+still y (after-end b more) = after-end b (more ++ y)
+still y (bad-byte xs b more a i j k) = rw (append-assoc xs (b ∷ more) y) (bad-byte xs b (more ++ y) a i j k)
+still y (early-feed xs more a i j) = rw (append-assoc xs (feed ∷ more) y) (early-feed xs (more ++ y) a i j)
+still y (count-over l more a g i) = rw (append-assoc (count-bytes l) (feed ∷ more) y) (count-over l (more ++ y) a g i)
+still y (number-over l more g i) = rw (append-assoc (term-bytes l) (feed ∷ more) y) (number-over l (more ++ y) g i)
+still y (total-over l more g i j) = rw (append-assoc (term-bytes l) (feed ∷ more) y) (total-over l (more ++ y) g i j)
+still y (too-coarse l more g i j k) = rw (append-assoc (term-bytes l) (feed ∷ more) y) (too-coarse l (more ++ y) g i j k)
+still y (no-room-count l more a g i j) = rw (append-assoc (count-bytes l) (feed ∷ more) y) (no-room-count l (more ++ y) a g i j)
+still y (no-room-term l more g i j) = rw (append-assoc (term-bytes l) (feed ∷ more) y) (no-room-term l (more ++ y) g i j)
+
+pub cut-short : (text more out : List ℕ) (b : ℕ) → Series-text (text ++ (b ∷ more)) → packed-limit ≤ length out
+    → told (whole text out .reader) ≡ Refused (EndedEarly (length text))
+cut-short text more out b t room = go (decided text out c)
+  where
+    y : List ℕ
+    y = b ∷ more
+
+    c : length text ≤ last-offset
+    c = omega (arith, counted (text ++ y) t, length-append text y)
+
+    go : {o : Outcome} {left : List ℕ} → Answers text out o left → told (whole text out .reader) ≡ Refused (EndedEarly (length text))
+    go (accepts h) =
+        let s : Series-text text = record { out = out; size = _; is = answers text out c (accepts h) .0 } in
+        absurd (omega (arith, ap length (no-beginning text y s t)))
+    go (refuses {ls = ls} {k = k} {n = n} {s = s} {rest = rest} {room = left} h r) =
+        let e : text ++ y ≡ any-bytes ls ++ (rest ++ y) = ap (λ (x : List ℕ). x ++ y) (h .is) ∙ append-assoc (any-bytes ls) rest y in
+        let h′ : Stands (text ++ y) out ls k n s (rest ++ y) left = record { beginning = h .beginning; is = e; fits = h .fits } in
+        absurd (unlike (sym (answers (text ++ y) out (counted (text ++ y) t) (refuses h′ (still y r)) .0) ∙ elsewhere (text ++ y) t out room))
+    go (ends-early h a i) = answers text out c (ends-early h a i) .0
 
 -- ---- The bytes before a 9.
 

@@ -15,10 +15,11 @@ pub plain-apart : Told-apart Plain-series
 plain-apart = splits.part-apart plain.read texts-apart
 
 pub found-by-check : Found-by-check
-found-by-check = record { followed = packed.followed; front = packed.front; finds = packed.finds; found = packed.found }
+found-by-check =
+    record { followed = packed.followed; front = packed.front; cut-short = packed.cut-short; finds = packed.finds; found = packed.found }
 
 pub found-by-read : Found-by-read
-found-by-read = record { followed = texts.followed; front = texts.front }
+found-by-read = record { followed = texts.followed; front = texts.front; cut-short = texts.cut-short }
 
 pub plain-texts : Plain-texts
 plain-texts = record { read = plain.read; same = plain.same }

@@ -5,7 +5,7 @@ use mathlib.Core.Path.{_≡_}
 use mathlib.Core.List.{List, [], _∷_, _++_}
 use Prim.Native.Nat.{ℕ, _≤_, _<_}
 use lib.ListN.{length, take, drop}
-use Rattle.units.specs.declared.Refusal.the-variants.{ByteAfterEnd}
+use Rattle.units.specs.declared.Refusal.the-variants.{EndedEarly, ByteAfterEnd}
 use Rattle.packed_numbers.specs.Numbers.{All-bytes}
 use Rattle.packed.specs.declared.Checked.the-variants.{Terms, NoSeries}
 use Rattle.packed.specs.Series.{parse, checked}
@@ -72,6 +72,8 @@ pub record Found-by-check : Type 0 where
   -- and only there.
   pub front : (bytes : List ℕ) (at : ℕ) → All-bytes bytes → checked (parse bytes) ≡ NoSeries (ByteAfterEnd at)
       → Packed-series (take at bytes) × (at < length bytes)
+  -- Where a series is cut short, `check` refuses with 8 and the number of its bytes.
+  pub cut-short : (x y : List ℕ) (b : ℕ) → Packed-series (x ++ (b ∷ y)) → checked (parse x) ≡ NoSeries (EndedEarly (length x))
   -- So a list of series, joined, is found again,
   pub finds : (x : List ℕ) (xs : List (List ℕ)) → Each Packed-series (x ∷ xs) → Found (joined (x ∷ xs)) (x ∷ xs)
   -- and what is found are series, which make up all of the bytes.
@@ -83,6 +85,8 @@ pub record Found-by-read : Type 0 where
       → told (whole (text ++ (b ∷ more)) out .reader) ≡ Refused (ByteAfterEnd (length text))
   pub front : (text out : List ℕ) (at : ℕ) → length text ≤ last-offset → told (whole text out .reader) ≡ Refused (ByteAfterEnd at)
       → Series-text (take at text) × (at < length text)
+  pub cut-short : (text more out : List ℕ) (b : ℕ) → Series-text (text ++ (b ∷ more)) → packed-limit ≤ length out
+      → told (whole text out .reader) ≡ Refused (EndedEarly (length text))
 
 -- ---- Printed.
 
