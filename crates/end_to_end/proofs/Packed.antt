@@ -23,8 +23,7 @@ use Rattle.packed_promises.proofs.Refusing.{Placed, on, off, series-placed}
 use Rattle.packed_promises.proofs.Packing.{blocks-begin, blocks-are-good}
 use Rattle.packed_promises.proofs.Theorems.{to-end, pack-parse}
 use Rattle.series_lines.specs.Calls.{joined}
-use Rattle.end_to_end.specs.EndToEnd as said
-use Rattle.end_to_end.specs.EndToEnd.{Packed-series, Each, Found, last}
+use Rattle.end_to_end.specs.EndToEnd.{Packed-series, Each, Found, at-end, goes-on}
 
 -- ---- A series, and more bytes.
 
@@ -32,11 +31,11 @@ unlike : {r : Refusal} {n : ℕ} → NoSeries r ≡ Terms n → ⊥
 unlike e = let z : _≡_ {A = ℕ} 0 1 = cc in omega arith
 
 -- What `check` accepts is parsed to blocks.
-record Blocks-of (x : List ℕ) : Type 0 where
-  blocks : List (List Term)
-  is : parse x ≡ accepted blocks
+pub record Blocks-of (x : List ℕ) : Type 0 where
+  pub blocks : List (List Term)
+  pub is : parse x ≡ accepted blocks
 
-blocks-of : (x : List ℕ) → Packed-series x → Blocks-of x
+pub blocks-of : (x : List ℕ) → Packed-series x → Blocks-of x
 unfolding checked
 blocks-of x s = go (parse x) refl (s .is)
   where
@@ -119,7 +118,7 @@ module _ (x y : List ℕ) (b : ℕ) (s : Packed-series (x ++ (b ∷ y))) where
 -- Series stored end to end are found again.
 pub finds : (x : List ℕ) (xs : List (List ℕ)) → Each Packed-series (x ∷ xs) → Found (joined (x ∷ xs)) (x ∷ xs)
 unfolding Each joined
-finds x [] h = subst (λ (s : List ℕ). Found s (x ∷ [])) (sym (append-nil x)) (last (h .0 .is))
+finds x [] h = subst (λ (s : List ℕ). Found s (x ∷ [])) (sym (append-nil x)) (at-end (h .0 .is))
 finds x (y ∷ ys) h = go y refl (finds y ys (h .1))
   where
     go : (z : List ℕ) → z ≡ y → Found (joined (y ∷ ys)) (y ∷ ys) → Found (joined (x ∷ (y ∷ ys))) (x ∷ (y ∷ ys))
@@ -129,7 +128,7 @@ finds x (y ∷ ys) h = go y refl (finds y ys (h .1))
         let w : b ∷ (z ++ joined ys) ≡ rest = ap (λ (s : List ℕ). s ++ joined ys) e in
         let c : checked (parse (x ++ rest)) ≡ NoSeries (ByteAfterEnd (length x)) = rw w at (followed x (z ++ joined ys) b (h .0)) in
         subst (λ (s : List ℕ). Found (x ++ rest) (s ∷ (y ∷ ys))) (take-append-seam x rest)
-        (said.next c (subst (λ (s : List ℕ). Found s (y ∷ ys)) (sym (drop-append-seam x rest)) f))
+        (goes-on c (subst (λ (s : List ℕ). Found s (y ∷ ys)) (sym (drop-append-seam x rest)) f))
 
 drop-bytes : (n : ℕ) (s : List ℕ) → All-bytes s → All-bytes (drop n s)
 drop-bytes zero s h = h
@@ -138,7 +137,7 @@ drop-bytes (suc n) (b ∷ s) h = drop-bytes n s (h .1)
 
 pub found : (bytes : List ℕ) (xs : List (List ℕ)) → All-bytes bytes → Found bytes xs → Each Packed-series xs × (joined xs ≡ bytes)
 unfolding Each joined
-found bytes _ all (last {n = n} e) = ((record { terms = n; is = e }, tt), append-nil bytes)
-found bytes _ all (said.next {at = at} {xs = xs} e f) =
+found bytes _ all (at-end {n = n} e) = ((record { terms = n; is = e }, tt), append-nil bytes)
+found bytes _ all (goes-on {at = at} {xs = xs} e f) =
     let i = found (drop at bytes) xs (drop-bytes at bytes all) f in
     ((front bytes at all e .0, i .0), ap (λ (s : List ℕ). take at bytes ++ s) (i .1) ∙ take-append-drop at bytes)

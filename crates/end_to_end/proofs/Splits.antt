@@ -56,9 +56,9 @@ module _ (P : List ℕ → Type 0) (not-empty : P [] → ⊥) (no-beginning : (x
       rw (f, c)
 
   pub told-apart : Told-apart P
-  told-apart = record { no-beginning = no-beginning; one-split = one-split }
+  told-apart = record { not-empty = not-empty; no-beginning = no-beginning; one-split = one-split }
 
--- What is told apart is so in part too.
+-- Some of the strings that are told apart are told apart too.
 module _ {P Q : List ℕ → Type 0} (part : (x : List ℕ) → Q x → P x) where
   each-part : (xs : List (List ℕ)) → Each Q xs → Each P xs
   unfolding Each
@@ -68,6 +68,7 @@ module _ {P Q : List ℕ → Type 0} (part : (x : List ℕ) → Q x → P x) whe
   pub part-apart : Told-apart P → Told-apart Q
   part-apart t =
       record {
+        not-empty = λ h. t .not-empty (part [] h);
         no-beginning = λ x y h k. t .no-beginning x y (part x h) (part (x ++ y) k);
         one-split = λ xs ys h k e. t .one-split xs ys (each-part xs h) (each-part ys k) e;
       }

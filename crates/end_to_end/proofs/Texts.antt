@@ -20,15 +20,13 @@ use Rattle.series_lines.specs.Grammar.{feed, Block, count-bytes, term-bytes, li
 use Rattle.text.specs.Reader.{whole}
 use Rattle.text_promises.specs.Decided.{Stands, Refuses, Answers, accepts, refuses, ends-early}
 use Rattle.text_promises.specs.Decided.{after-end, bad-byte, early-feed, count-over, number-over, total-over, too-coarse, no-room-count, no-room-term}
+use Rattle.text_promises.proofs.Acceptance.{not-accepted}
 use Rattle.text_promises.proofs.Decided.{answers, decided}
 use Rattle.text_promises.proofs.Theorems.{accepted-text, accepted-elsewhere}
 use Rattle.text_promises.proofs.Series.{text-allowed}
-use Rattle.end_to_end.specs.EndToEnd.{Series-text}
+use Rattle.end_to_end.specs.EndToEnd.{Read-into, Series-text}
 
-unlike : {r : Refusal} {n : ℕ} → Refused r ≡ Accepted n → ⊥
-unlike e = let z : _≡_ {A = ℕ} 0 1 = cc in omega arith
-
--- ---- What an acceptance gives.
+-- ---- A text, and more bytes.
 
 -- A text is all the lines of a series, with an output.
 record Lines (text out : List ℕ) : Type 0 where
@@ -37,46 +35,48 @@ record Lines (text out : List ℕ) : Type 0 where
   room : ℕ
   stands : Stands text out ls block-count 0 s [] room
 
-lines : (text out : List ℕ) (n : ℕ) → length text ≤ last-offset → told (whole text out .reader) ≡ Accepted n → Lines text out
-lines text out n c = go (decided text out c)
-  where
-    go : {o : Outcome} {left : List ℕ} → Answers text out o left → o ≡ Accepted n → Lines text out
-    go (accepts h) e = record { ls = _; s = _; room = _; stands = h }
-    go (refuses h r) e = absurd (unlike e)
-    go (ends-early h a b) e = absurd (unlike e)
-
-module _ (text : List ℕ) (t : Series-text text) where
+module _ (out text : List ℕ) (t : Read-into out text) where
   counted : length text ≤ last-offset
-  counted = accepted-text text (t .out) (t .size) (t .is) .counted
+  counted = accepted-text text out (t .size) (t .is) .counted
 
-  -- Its packed form has room wherever the longest series has, and so it is accepted there.
-  elsewhere : (out : List ℕ) → packed-limit ≤ length out → told (whole text out .reader) ≡ Accepted (t .size)
-  elsewhere out h =
-      let r = accepted-text text (t .out) (t .size) (t .is) in
-      let n = longest-packed (blocks-of-lines (r .ks)) (text-allowed (r .ks) (r .good) (r .limits)) in
-      accepted-elsewhere text (t .out) out (t .size) (t .is) (omega (arith, n, h, r .long)) .0
+  lines : Lines text out
+  lines = go (decided text out counted) (t .is)
+    where
+      go : {o : Outcome} {left : List ℕ} → Answers text out o left → o ≡ Accepted (t .size) → Lines text out
+      go (accepts h) e = record { ls = _; s = _; room = _; stands = h }
+      go (refuses h r) e = absurd (not-accepted e)
+      go (ends-early h a b) e = absurd (not-accepted e)
 
--- ---- A text, and more bytes.
-
-pub followed : (text more out : List ℕ) (b : ℕ) → Series-text text → length (text ++ (b ∷ more)) ≤ last-offset → packed-limit ≤ length out
+pub followed : (text more out : List ℕ) (b : ℕ) → Read-into out text → length (text ++ (b ∷ more)) ≤ last-offset
     → told (whole (text ++ (b ∷ more)) out .reader) ≡ Refused (ByteAfterEnd (length text))
-followed text more out b t c h =
-    let l = lines text out (t .size) (counted text t) (elsewhere text t out h) in
+followed text more out b t c =
+    let l = lines out text t in
     let e : text ≡ any-bytes (l .ls) = l .stands .is ∙ append-nil (any-bytes (l .ls)) in
     let s : Stands (text ++ (b ∷ more)) out (l .ls) block-count 0 (l .s) (b ∷ more) (l .room) =
     record { beginning = l .stands .beginning; is = ap (λ (x : List ℕ). x ++ (b ∷ more)) e; fits = l .stands .fits } in
     answers (text ++ (b ∷ more)) out c (refuses s (after-end b more)) .0 ∙ ap (λ (x : List ℕ). Refused (ByteAfterEnd (length x))) (sym e)
+
+not-both : (text more out : List ℕ) (b : ℕ) → Read-into out text → Read-into out (text ++ (b ∷ more)) → ⊥
+not-both text more out b s t = not-accepted (sym (followed text more out b s (counted out (text ++ (b ∷ more)) t)) ∙ t .is)
+
+-- The packed form of a text has room where the longest series has.
+pub room : (text out : List ℕ) → Series-text text → packed-limit ≤ length out → Read-into out text
+room text out t h =
+    let n = t .read .size in
+    let r = accepted-text text (t .out) n (t .read .is) in
+    let l = longest-packed (blocks-of-lines (r .ks)) (text-allowed (r .ks) (r .good) (r .limits)) in
+    record { size = n; is = accepted-elsewhere text (t .out) out n (t .read .is) (omega (arith, l, h, r .long)) .0 }
 
 pub no-beginning : (x y : List ℕ) → Series-text x → Series-text (x ++ y) → y ≡ []
 no-beginning x [] s t = refl
 no-beginning x (b ∷ y) s t =
     let out : List ℕ = replicate packed-limit 0 in
     let h : packed-limit ≤ length out = omega (arith, length-replicate {A = ℕ} packed-limit 0) in
-    absurd (unlike (sym (followed x y out b s (counted (x ++ (b ∷ y)) t) h) ∙ elsewhere (x ++ (b ∷ y)) t out h))
+    absurd (not-both x y out b (room x out s h) (room (x ++ (b ∷ y)) out t h))
 
 pub not-empty : Series-text [] → ⊥
 unfolding blocks-bytes
-not-empty t = let r = accepted-text [] (t .out) (t .size) (t .is) in some (r .ks) (r .good .eighteen) (r .is)
+not-empty t = let r = accepted-text [] (t .out) (t .read .size) (t .read .is) in some (r .ks) (r .good .eighteen) (r .is)
   where
     some : (ks : List Block) → length ks ≡ block-count → [] ≡ blocks-bytes ks → ⊥
     some [] n e = omega (arith, n)
@@ -97,24 +97,22 @@ still y (too-coarse l more g i j k) = rw (append-assoc (term-bytes l) (feed ∷ 
 still y (no-room-count l more a g i j) = rw (append-assoc (count-bytes l) (feed ∷ more) y) (no-room-count l (more ++ y) a g i j)
 still y (no-room-term l more g i j) = rw (append-assoc (term-bytes l) (feed ∷ more) y) (no-room-term l (more ++ y) g i j)
 
-pub cut-short : (text more out : List ℕ) (b : ℕ) → Series-text (text ++ (b ∷ more)) → packed-limit ≤ length out
+pub cut-short : (text more out : List ℕ) (b : ℕ) → Read-into out (text ++ (b ∷ more))
     → told (whole text out .reader) ≡ Refused (EndedEarly (length text))
-cut-short text more out b t room = go (decided text out c)
+cut-short text more out b t = go (decided text out c)
   where
     y : List ℕ
     y = b ∷ more
 
     c : length text ≤ last-offset
-    c = omega (arith, counted (text ++ y) t, length-append text y)
+    c = omega (arith, counted out (text ++ y) t, length-append text y)
 
     go : {o : Outcome} {left : List ℕ} → Answers text out o left → told (whole text out .reader) ≡ Refused (EndedEarly (length text))
-    go (accepts h) =
-        let s : Series-text text = record { out = out; size = _; is = answers text out c (accepts h) .0 } in
-        absurd (omega (arith, ap length (no-beginning text y s t)))
+    go (accepts h) = absurd (not-both text more out b (record { size = _; is = answers text out c (accepts h) .0 }) t)
     go (refuses {ls = ls} {k = k} {n = n} {s = s} {rest = rest} {room = left} h r) =
         let e : text ++ y ≡ any-bytes ls ++ (rest ++ y) = ap (λ (x : List ℕ). x ++ y) (h .is) ∙ append-assoc (any-bytes ls) rest y in
         let h′ : Stands (text ++ y) out ls k n s (rest ++ y) left = record { beginning = h .beginning; is = e; fits = h .fits } in
-        absurd (unlike (sym (answers (text ++ y) out (counted (text ++ y) t) (refuses h′ (still y r)) .0) ∙ elsewhere (text ++ y) t out room))
+        absurd (not-accepted (sym (answers (text ++ y) out (counted out (text ++ y) t) (refuses h′ (still y r)) .0) ∙ t .is))
     go (ends-early h a i) = answers text out c (ends-early h a i) .0
 
 -- ---- The bytes before a 9.
@@ -156,12 +154,12 @@ module _ (text out : List ℕ) (at : ℕ) where
       inner e = cc
 
       go : {o : Outcome} {left : List ℕ} → Answers text out o left → o ≡ Refused (ByteAfterEnd at) → Lines-before text out at
-      go (accepts h) e = absurd (unlike (sym e))
+      go (accepts h) e = absurd (not-accepted (sym e))
       go (refuses h r) e = after h r (inner e)
       go (ends-early h a b) e = other (inner e) (λ q. omega (arith, q))
 
 pub front : (text out : List ℕ) (at : ℕ) → length text ≤ last-offset → told (whole text out .reader) ≡ Refused (ByteAfterEnd at)
-    → Series-text (take at text) × (at < length text)
+    → Read-into out (take at text) × (at < length text)
 front text out at c e =
     let l = before text out at c e in
     let x = any-bytes (l .ls) in
@@ -171,4 +169,4 @@ front text out at c e =
     let a = answers x out (omega (arith, n, c)) (accepts s) .0 in
     let t : take at text ≡ x =
     ap (λ (i : ℕ). take i text) (l .here) ∙ (ap (λ (y : List ℕ). take (length x) y) (l .stands .is) ∙ take-append-seam x (l .b ∷ l .more)) in
-    (subst Series-text (sym t) (record { out = out; size = length (any-packed (l .ls)); is = a }), omega (arith, n, l .here))
+    (subst (Read-into out) (sym t) (record { size = length (any-packed (l .ls)); is = a }), omega (arith, n, l .here))

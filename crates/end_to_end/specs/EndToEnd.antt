@@ -1,6 +1,7 @@
--- Series stored end to end, with nothing between them (document 02, C-21): they are told apart in one way, and `check` finds where each ends.
--- Strings and lists may have any length. proofs/Theorems.antt shows the statements: Told-apart of packed series, of series texts and of plain
--- texts; Found-by-check; Found-by-read; Plain-texts.
+-- RULES, "Series, as text and packed" (paper 02, C-21): series stored end to end, with nothing between them, are told apart in one way, and
+-- `check` finds where each ends. Strings are lists of any numbers and of any length; where they must be bytes, as those of every slice are, it
+-- is said. proofs/Theorems.antt shows the statements: Told-apart of packed series, series texts and printed texts; Found-by-check;
+-- Found-by-read; Plain-texts.
 use mathlib.Core.Path.{_≡_}
 use mathlib.Core.List.{List, [], _∷_, _++_}
 use Prim.Native.Nat.{ℕ, _≤_, _<_}
@@ -24,21 +25,25 @@ pub record Packed-series (x : List ℕ) : Type 0 where
   pub terms : ℕ
   pub is : checked (parse x) ≡ Terms terms
 
--- A series text: `read` accepts it, with some output.
-pub record Series-text (text : List ℕ) : Type 0 where
-  pub out : List ℕ
+-- A text that `read` accepts with this output.
+pub record Read-into (out text : List ℕ) : Type 0 where
   pub size : ℕ
   pub is : told (whole text out .reader) ≡ Accepted size
 
+-- A series text: `read` accepts it with some output.
+pub record Series-text (text : List ℕ) : Type 0 where
+  pub out : List ℕ
+  pub read : Read-into out text
+
 -- The text that `print` writes for packed bytes, into some output.
 pub record Prints (x text : List ℕ) : Type 0 where
-  pub bytes : All-bytes x
+  pub are-bytes : All-bytes x
   pub out : List ℕ
   pub answer : printed (parse x) out ≡ Length (length text)
   pub written : take (length text) (printed-out (parse x) out) ≡ text
 
--- A plain text: `print` writes it for some packed bytes.
-pub record Plain-series (text : List ℕ) : Type 0 where
+-- A text that `print` writes for some packed bytes.
+pub record Printed-text (text : List ℕ) : Type 0 where
   pub packed : List ℕ
   pub prints : Prints packed text
 
@@ -51,6 +56,8 @@ Each P (x ∷ xs) = P x × Each P xs
 
 -- The strings that are P can be stored end to end.
 pub record Told-apart (P : List ℕ → Type 0) : Type 0 where
+  -- None of them is empty.
+  pub not-empty : P [] → ⊥
   -- None of them is the beginning of another.
   pub no-beginning : (x y : List ℕ) → P x → P (x ++ y) → y ≡ []
   -- No string is made of them in two ways.
@@ -61,8 +68,8 @@ pub record Told-apart (P : List ℕ → Type 0) : Type 0 where
 -- What `check` finds in bytes, series after series: where it accepts the rest, this is the last one; where it refuses the rest with 9, the
 -- bytes before that offset are one, and the next begins there.
 pub data Found : List ℕ → List (List ℕ) → Type 0 where
-  last : {x : List ℕ} {n : ℕ} → checked (parse x) ≡ Terms n → Found x (x ∷ [])
-  next : {bytes : List ℕ} {at : ℕ} {xs : List (List ℕ)} → checked (parse bytes) ≡ NoSeries (ByteAfterEnd at)
+  at-end : {x : List ℕ} {n : ℕ} → checked (parse x) ≡ Terms n → Found x (x ∷ [])
+  goes-on : {bytes : List ℕ} {at : ℕ} {xs : List (List ℕ)} → checked (parse bytes) ≡ NoSeries (ByteAfterEnd at)
       → Found (drop at bytes) xs → Found bytes (take at bytes ∷ xs)
 
 -- Packed series stored end to end are found, and nothing else is.
@@ -79,18 +86,26 @@ pub record Found-by-check : Type 0 where
   -- and what is found are series, which make up all of the bytes.
   pub found : (bytes : List ℕ) (xs : List (List ℕ)) → All-bytes bytes → Found bytes xs → Each Packed-series xs × (joined xs ≡ bytes)
 
--- The same of texts whose bytes can be counted, by `read`, with every output that has room for the longest series.
+-- By `read`, texts whose bytes can be counted.
 pub record Found-by-read : Type 0 where
-  pub followed : (text more out : List ℕ) (b : ℕ) → Series-text text → length (text ++ (b ∷ more)) ≤ last-offset → packed-limit ≤ length out
+  -- Where bytes follow a text, `read` refuses with 9 and the offset of the first of them,
+  pub followed : (text more out : List ℕ) (b : ℕ) → Read-into out text → length (text ++ (b ∷ more)) ≤ last-offset
       → told (whole (text ++ (b ∷ more)) out .reader) ≡ Refused (ByteAfterEnd (length text))
+  -- and only there.
   pub front : (text out : List ℕ) (at : ℕ) → length text ≤ last-offset → told (whole text out .reader) ≡ Refused (ByteAfterEnd at)
-      → Series-text (take at text) × (at < length text)
-  pub cut-short : (text more out : List ℕ) (b : ℕ) → Series-text (text ++ (b ∷ more)) → packed-limit ≤ length out
+      → Read-into out (take at text) × (at < length text)
+  -- Where a text is cut short, `read` refuses with 8 and the number of its bytes.
+  pub cut-short : (text more out : List ℕ) (b : ℕ) → Read-into out (text ++ (b ∷ more))
       → told (whole text out .reader) ≡ Refused (EndedEarly (length text))
+  -- An output with room for the longest series does for every text.
+  pub room : (text out : List ℕ) → Series-text text → packed-limit ≤ length out → Read-into out text
 
 -- ---- Printed.
 
--- Plain texts are series texts, and two packed series have the same one only if they are equal.
 pub record Plain-texts : Type 0 where
-  pub read : (text : List ℕ) → Plain-series text → Series-text text
+  -- `print` writes a text for each packed series,
+  pub each : (x : List ℕ) → All-bytes x → Packed-series x → (text : List ℕ) × Prints x text
+  -- which is a series text,
+  pub read : (text : List ℕ) → Printed-text text → Series-text text
+  -- and the same one for two only if they are equal.
   pub same : (x y text : List ℕ) → Prints x text → Prints y text → x ≡ y

@@ -8,7 +8,6 @@ use native.Mathlib.Omega.{arith}
 use lib.Dec.{leb, ltb, eqb}
 use lib.IntN.{ℤ}
 use lib.ListN.{length}
-use Rattle.units.specs.Refusals.{byte-after-end}
 use Rattle.units.specs.Refusals as refusals
 use Rattle.units.specs.declared.Refusal.{Refusal}
 use Rattle.units.specs.declared.Refusal.the-variants.{OverLimit, TotalOverLimit, TooCoarse, EndedEarly, NotShortest}
@@ -23,22 +22,22 @@ module _ (bytes : List ℕ) where
   -- A refusal of a number: it says where, and is not that of a byte after the end.
   pub record Of-number (r : Refusal) : Type 0 where
     pub place : Where bytes r
-    pub not-after : refusals.number r ≡ byte-after-end → ⊥
+    pub not-after : refusals.number r ≡ refusals.byte-after-end → ⊥
 
   over-at : (at : ℕ) → at < length bytes → Of-number (OverLimit at)
-  over-at at l = record { place = over l; not-after = λ e. omega (arith, e) }
+  over-at at l = record { place = over l; not-after = λ q. omega (arith, q) }
 
   total-at : (at : ℕ) → at < length bytes → Of-number (TotalOverLimit at)
-  total-at at l = record { place = total l; not-after = λ e. omega (arith, e) }
+  total-at at l = record { place = total l; not-after = λ q. omega (arith, q) }
 
   coarse-at : (at : ℕ) → at < length bytes → Of-number (TooCoarse at)
-  coarse-at at l = record { place = coarse l; not-after = λ e. omega (arith, e) }
+  coarse-at at l = record { place = coarse l; not-after = λ q. omega (arith, q) }
 
   early-at : (at : ℕ) → at ≡ length bytes → Of-number (EndedEarly at)
-  early-at at e = record { place = early e; not-after = λ e. omega (arith, e) }
+  early-at at e = record { place = early e; not-after = λ q. omega (arith, q) }
 
   unshortened-at : (at : ℕ) → at < length bytes → Of-number (NotShortest at)
-  unshortened-at at l = record { place = unshortened l; not-after = λ e. omega (arith, e) }
+  unshortened-at at l = record { place = unshortened l; not-after = λ q. omega (arith, q) }
 
   -- A reader in these bytes that has come to at least the offset low, or a refusal that says where.
   pub data Placed {A : Type 0} (low : ℕ) : Read A → Type 0 where

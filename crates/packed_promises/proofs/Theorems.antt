@@ -1,12 +1,12 @@
 -- What holds of packed series as a whole, and the figures at its edges. Assumes nothing.
 use mathlib.Core.Path.{_≡_, refl, _∙_, subst}
 use mathlib.Core.List.{List, [], _∷_, _++_, append-nil}
-use Prim.Native.Nat.{ℕ, _+_, _≤_, _<_}
+use Prim.Native.Nat.{ℕ, _≤_, _<_}
 use native.Mathlib.Omega.{arith}
 use lib.ListN.{length, replicate}
 use Rattle.units.specs.Refusals as refusals
 use Rattle.units.specs.declared.Refusal.{Refusal}
-use Rattle.units.specs.declared.Refusal.the-variants.{EndedEarly, ByteAfterEnd, NotShortest}
+use Rattle.units.specs.declared.Refusal.the-variants.{OverLimit, EndedEarly, ByteAfterEnd, NotShortest}
 use Rattle.packed_numbers.specs.Numbers.{group, Read, got, bad, next, closed, groups-from, number, groups, encode}
 use Rattle.packed_numbers.proofs.Shortest.{All-bytes}
 use Rattle.units.specs.Units.{block-count}
@@ -129,6 +129,11 @@ three-hundred = refl
 pub padded : parse (group ∷ 0 ∷ []) ≡ refused (NotShortest 1)
 unfolding parse read-series read-blocks read-block number groups-from closed next ended
 padded = refl
+
+-- Nine bytes FF are refused 4, whatever follows them.
+pub erased : (more : List ℕ) → parse (replicate 9 255 ++ more) ≡ refused (OverLimit 8)
+unfolding parse read-series read-blocks read-block number groups-from closed next ended
+erased more = refl
 
 -- Eighteen zero bytes are accepted: eighteen empty blocks.
 pub zeros : parse (replicate 18 0) ≡ accepted (replicate 18 [])

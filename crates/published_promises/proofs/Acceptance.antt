@@ -7,7 +7,6 @@ use native.Mathlib.Omega.{arith}
 use borrow.Author.Tests.{eqb-true}
 use lib.Dec.{eqb}
 use lib.ListN.{length}
-use Rattle.units.specs.declared.Refusal.{Refusal}
 use Rattle.units.specs.Refusals.{over-limit, bad-heading, bad-number, of-number}
 use Rattle.limits.specs.declared.Term.{Term}
 use Rattle.limits.specs.declared.Tally.{Tally}
@@ -23,6 +22,7 @@ use Rattle.published_headings.specs.Judge.{in-order, heading-refusal, record-re
 use Rattle.published.specs.declared.Published.{Published}
 use Rattle.published.specs.Reader.{begun-file, at-heading, other, verdict, complete, step, step-out, run, ended, told, whole}
 use Rattle.integers.proofs.Tests.{by-cases}
+use Rattle.text_promises.proofs.Acceptance.{not-accepted}
 use Rattle.text_promises.proofs.Verdicts.{term-among, wrote-status}
 use Rattle.published_promises.proofs.Lines.{run-none, run-one}
 use Rattle.published_promises.proofs.Counted.{counted}
@@ -94,7 +94,4 @@ accepted-counted file out n e =
     (λ z. omega (arith, counted file begun-file out (omega arith) (eqb-true _ _ z) .1))
     (λ z. by-cases (eqb (r .reader .reader .status) 1)
     (λ q. absurd (run-not-one file begun-file out (λ y. omega (arith, y)) (eqb-true _ _ q)))
-    (λ q. unlike _ (sym (refused-told (r .reader) z q) ∙ ap (λ (p : Published). told p) (sym (ended-same (r .reader) (r .out) z)) ∙ e)))
-  where
-    unlike : {P : Type 0} (f : Refusal) → Refused f ≡ Accepted n → P
-    unlike f e = let z : _≡_ {A = ℕ} 0 1 = cc in absurd (omega arith)
+    (λ q. absurd (not-accepted (sym (refused-told (r .reader) z q) ∙ ap (λ (p : Published). told p) (sym (ended-same (r .reader) (r .out) z)) ∙ e))))

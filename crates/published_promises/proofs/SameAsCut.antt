@@ -7,7 +7,6 @@ use native.Mathlib.Omega.{arith}
 use lib.ListN.{length}
 use lib.Seq.{sets}
 use Rattle.units.specs.Units.{block-count}
-use Rattle.units.specs.declared.Refusal.{Refusal}
 use Rattle.units.specs.declared.Refusal.the-variants.{NoRoom}
 use Rattle.limits.specs.declared.Tally.{Tally}
 use Rattle.series_lines.specs.declared.Outcome.{Outcome}
@@ -20,6 +19,7 @@ use Rattle.published.specs.declared.Published.{Published}
 use Rattle.published.specs.Reader as published
 use Rattle.text.specs.Reader.{whole}
 use Rattle.text_promises.specs.Decided as text
+use Rattle.text_promises.proofs.Acceptance.{not-accepted}
 use Rattle.text_promises.proofs.Decided as text-decided
 use Rattle.published_promises.specs.HandCut.{Any-record, file-bytes}
 use Rattle.published_promises.specs.HandCut.{zero-lines, cut-records, blocks-of, cut-text}
@@ -133,21 +133,18 @@ in-order-of (with-heading h b g i f) = next-heading h (in-order-of b) g i
 in-order-of (with-record t b g i f) = next-record t (in-order-of b) g i
 
 -- Where they agree, one accepts exactly when the other does, and both leave the same.
-not-refused : {P : Type 0} (f : Refusal) (n : ℕ) → Refused f ≡ Accepted n → P
-not-refused f n e = let z : _≡_ {A = ℕ} 0 1 = cc in absurd (omega arith)
-
 module _ {rs : List Any-record} {out : List ℕ} {n : ℕ} where
   file-accepts : {o p : Outcome} {left cut-left : List ℕ} → Agree rs out o left p cut-left → o ≡ Accepted n → (p ≡ Accepted n) × (cut-left ≡ left)
   file-accepts (both-accept i left) e = (e, refl)
-  file-accepts (both-refuse before after r x d place y z left cut-left) e = not-refused _ _ e
-  file-accepts (over-and-full before after h x place y left cut-left) e = not-refused _ _ e
-  file-accepts (both-full place x left cut-left) e = not-refused _ _ e
+  file-accepts (both-refuse before after r x d place y z left cut-left) e = absurd (not-accepted e)
+  file-accepts (over-and-full before after h x place y left cut-left) e = absurd (not-accepted e)
+  file-accepts (both-full place x left cut-left) e = absurd (not-accepted e)
 
   cut-accepts : {o p : Outcome} {left cut-left : List ℕ} → Agree rs out o left p cut-left → p ≡ Accepted n → (o ≡ Accepted n) × (left ≡ cut-left)
   cut-accepts (both-accept i left) e = (e, refl)
-  cut-accepts (both-refuse before after r x d place y z left cut-left) e = not-refused _ _ e
-  cut-accepts (over-and-full before after h x place y left cut-left) e = not-refused _ _ e
-  cut-accepts (both-full place x left cut-left) e = not-refused _ _ e
+  cut-accepts (both-refuse before after r x d place y z left cut-left) e = absurd (not-accepted e)
+  cut-accepts (over-and-full before after h x place y left cut-left) e = absurd (not-accepted e)
+  cut-accepts (both-full place x left cut-left) e = absurd (not-accepted e)
 
 -- ---- The promises.
 
@@ -186,9 +183,9 @@ accepted-cut file out n e = go (decided file out (accepted-counted file out n e)
           accepted = a .0;
           same = a .1 ∙ ap (λ (y : List ℕ). published.whole y out .out) (sym i);
         }
-    go (no-room-at-end h r) z = not-refused _ _ z
-    go (refuses h r) z = not-refused _ _ z
-    go (ends-early h a b x) z = not-refused _ _ z
+    go (no-room-at-end h r) z = absurd (not-accepted z)
+    go (refuses h r) z = absurd (not-accepted z)
+    go (ends-early h a b x) z = absurd (not-accepted z)
 
 -- However it is cut into calls.
 pub accepted-cut-calls : (file out : List ℕ) (n : ℕ) (ps : List (List ℕ)) → joined ps ≡ file

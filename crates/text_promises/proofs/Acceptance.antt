@@ -8,6 +8,7 @@ use borrow.Author.Tests.{eqb-true}
 use lib.Dec.{eqb}
 use lib.ListN.{length}
 use Rattle.units.specs.Refusals.{of-number}
+use Rattle.units.specs.declared.Refusal.{Refusal}
 use Rattle.series_lines.specs.declared.Reader.{Reader}
 use Rattle.series_lines.specs.declared.Outcome.the-variants.{Accepted, Refused}
 use Rattle.series_lines.specs.Lexer.{lex, whole-count, whole-term}
@@ -21,6 +22,10 @@ use Rattle.text_promises.proofs.Lines.{Taken}
 pub nothing : (ls : List Term-line) → length ls ≡ 0 → ls ≡ []
 nothing [] e = refl
 nothing (l ∷ ls) e = absurd (omega (arith, e))
+
+-- A refusal is no acceptance.
+pub not-accepted : {r : Refusal} {n : ℕ} → Refused r ≡ Accepted n → ⊥
+not-accepted e = let z : _≡_ {A = ℕ} 0 1 = cc in omega arith
 
 -- No refusal has the number 1.
 verdict-not-one : (r : Reader) → verdict r .refusal ≡ 1 → ⊥
@@ -71,16 +76,13 @@ told-accepted r n h =
     by-cases (eqb (r .status) 0)
     (λ p. by-cases (eqb (r .line .spot) 30)
     (λ q. rw (p, q) (λ e. (eqb-true _ _ p, eqb-true _ _ q, same (r .written) e)))
-    (λ q. rw (p, q) (λ e. absurd (unlike _ e))))
+    (λ q. rw (p, q) (λ e. absurd (not-accepted e))))
     (λ p. by-cases (eqb (r .status) 1)
     (λ q. absurd (h (eqb-true _ _ q)))
-    (λ q. λ e. absurd (unlike _ (sym (told-refused r p q) ∙ ap told (sym (ended-same r p)) ∙ e))))
+    (λ q. λ e. absurd (not-accepted (sym (told-refused r p q) ∙ ap told (sym (ended-same r p)) ∙ e))))
   where
     same : (w : ℕ) → Accepted w ≡ Accepted n → n ≡ w
     same w e = cc
-
-    unlike : (x : Rattle.units.specs.declared.Refusal.Refusal) → Refused x ≡ Accepted n → ⊥
-    unlike x e = let z : _≡_ {A = ℕ} 0 1 = cc in omega arith
 
 pub accepted-by : (text out : List ℕ) (n : ℕ) → told (whole text out .reader) ≡ Accepted n
     → Taken (run begun out text) × (n ≡ run begun out text .reader .written)
