@@ -220,7 +220,7 @@ stephylax_answer stephylax_published_answer(stephylax_published state);
  *   Given     packed, n
  *   Returned  terms                 how many terms the series has
  *   Refused   the first of 4, 5, 6, 8, 9, 10
- *   Many      series stored end to end, with nothing between them: give the bytes from where one begins to the end of the store.
+ *   Store     series stored end to end, with nothing between them: give the bytes from where one begins to the end of the store.
  *             Refusal 9: the figure is the length of this series, and the next one begins so many bytes further on. Refusal 0: this is
  *             the last one. Any other: no whole series begins here (8: the bytes end too early for one). No other cutting gives series
  *             throughout. Other functions want a series' own bytes alone: with more they refuse 9. Give no bytes that were never

@@ -471,7 +471,8 @@ class PublishedReader(TextReader):
 def check(packed):
     """How many terms a packed series has. Refused: 4, 5, 6, 8, 9, 10.
 
-    Of series stored end to end, with nothing between them, 9 has the length of the first, after which the next one begins."""
+    Of series stored end to end, with nothing between them, the figure of 9 is the length of the first,
+    after which the next begins."""
     _need_stack()
     with _Lent(packed) as slices:
         return _taken(_c["check"](*slices)).terms

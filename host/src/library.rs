@@ -142,8 +142,8 @@ impl<'a, S: State> Reader<'a, S> {
     }
 }
 
-/// Judges a packed series: its number of terms. Of series stored end to end, with nothing between them, 9 has the length of the
-/// first, after which the next one begins.
+/// Judges a packed series: its number of terms. Of series stored end to end, with nothing between them, the figure of refusal 9 is
+/// the length of the first, after which the next one begins.
 pub fn check(packed: &[u8]) -> Result<i64, Refusal> {
     // SAFETY: the slice is lent for the call, with its length.
     let checked = unsafe { ffi::stephylax_check(packed.as_ptr(), packed.len()) };

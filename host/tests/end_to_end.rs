@@ -90,12 +90,12 @@ fn changed(change: Change, stored: &BTreeSet<usize>, length: usize, random: &mut
     places
 }
 
-/// How often each case came: stores by how many series they have, series that are empty or published, changes by their kind, and
+/// How often each case came: stores by how many series they have, series that have no terms or are published, changes by their kind, and
 /// pieces that end inside a series or go on after it.
 #[derive(Debug, Default)]
 struct Tried {
     stores: [u64; 6],
-    empty: u64,
+    no_terms: u64,
     published: u64,
     changes: [u64; 5],
     cut_short: u64,
@@ -105,7 +105,7 @@ struct Tried {
 impl Tried {
     /// Each came often enough in a full run.
     fn all(&self) {
-        let others = [self.empty, self.published, self.cut_short, self.too_long];
+        let others = [self.no_terms, self.published, self.cut_short, self.too_long];
         let counts = [&self.stores[..], &self.changes, &others].concat();
         assert!(rounds(100) == 1 || counts.iter().all(|&count| 40 <= count), "{self:?}");
     }
@@ -116,7 +116,7 @@ struct Form<A> {
     read: fn(&[u8]) -> Outcome<A>,
     /// Good ones and others.
     draw: fn(&mut Random) -> Vec<u8>,
-    empty: Vec<u8>,
+    no_terms: Vec<u8>,
     published: [Vec<u8>; 3],
 }
 
@@ -124,7 +124,7 @@ impl<A> Form<A> {
     fn accepted(&self, random: &mut Random) -> Vec<u8> {
         match random.below(100) {
             0 => self.published[random.below(3) as usize].clone(),
-            1..=20 => self.empty.clone(),
+            1..=20 => self.no_terms.clone(),
             _ => loop {
                 let drawn = (self.draw)(random);
                 if (self.read)(&drawn).is_ok() {
@@ -139,7 +139,7 @@ impl<A> Form<A> {
         for _ in 0..stores {
             let list: Vec<_> = (0..random.between(1, 6)).map(|_| self.accepted(random)).collect();
             tried.stores[list.len() - 1] += 1;
-            tried.empty += list.iter().filter(|&one| *one == self.empty).count() as u64;
+            tried.no_terms += list.iter().filter(|&one| *one == self.no_terms).count() as u64;
             tried.published += list.iter().filter(|&one| self.published.contains(one)).count() as u64;
             let store = list.concat();
             let found = split(&store, self.read);
@@ -180,7 +180,7 @@ fn read_text(text: &[u8]) -> Outcome<usize> {
 fn packed_series_end_to_end() {
     let planets = packed_series();
     let published = ["mercury", "venus", "earth"].map(|planet| planets[planet].clone());
-    let form = Form { read: check, draw: packed, empty: vec![0; 18], published };
+    let form = Form { read: check, draw: packed, no_terms: vec![0; 18], published };
     form.try_stores(rounds(60_000), &mut Random(31));
 }
 
@@ -189,7 +189,7 @@ fn packed_series_end_to_end() {
 fn texts_end_to_end() {
     let draw = |random: &mut Random| if random.one_in(3) { text_of(&series(random)) } else { text(random) };
     let published = ["mercury", "venus", "earth"].map(published);
-    let form = Form { read: read_text, draw, empty: b"0\n".repeat(18), published };
+    let form = Form { read: read_text, draw, no_terms: b"0\n".repeat(18), published };
     form.try_stores(rounds(16_000), &mut Random(32));
 }
 
@@ -217,7 +217,7 @@ fn short_examples() {
     assert_eq!(read_text(&b"0\n".repeat(36)), Err((9, 36)));
 }
 
-/// What an erased store has after its last series is none: nine bytes of it are a number too long, fewer one that has not ended.
+/// Erased bytes, FF, after the last series are no series: nine of them are a number that is too long, fewer one that has not ended.
 #[test]
 fn erased_bytes_after_the_last_series() {
     let store = [0, 17].map(|block| pack(&one_term(block))).concat();
@@ -227,7 +227,7 @@ fn erased_bytes_after_the_last_series() {
     }
 }
 
-/// Zeros after the last series are empty series, eighteen bytes each, and what is left over of them is refused.
+/// Zeros after the last series are series without terms, eighteen bytes each, and what is left over of them is refused.
 #[test]
 fn zeros_after_the_last_series() {
     let [first, last] = [0, 17].map(|block| pack(&one_term(block)));
@@ -269,7 +269,6 @@ fn published_files_are_not_told_apart_so() {
     assert_eq!(read_published(&first), Ok([&[1], term, &[0; 17]].concat()));
     assert_eq!(read_published(&second), Ok([&[0, 1], term, &[0; 16]].concat()));
     assert_eq!(read_published(&joined), Ok([&[1], term, &[1], term, &[0; 16]].concat()));
-    assert_eq!(split(&joined, read_published), Ok(vec![&joined[..]]));
     // The file without a byte is the beginning of each.
     assert_eq!(read_published(b""), Ok(vec![0; 18]));
     // Only a file with the heading of the last block has an end of its own.

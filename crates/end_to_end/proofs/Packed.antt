@@ -1,5 +1,5 @@
--- Packed series: with bytes after it a series is refused 9 at the first of them, and where bytes are refused so, a series stands before.
--- Assumes nothing.
+-- Packed series: with bytes after it a series is refused 9 at the first of them, and where bytes are refused so, a series stands before; one
+-- that is cut short is refused 8. Assumes nothing.
 use mathlib.Core.Path.{_≡_, refl, sym, ap, _∙_, subst}
 use mathlib.Core.List.{List, [], _∷_, _++_, append-nil}
 use Prim.Native.Nat.{ℕ, zero, suc, _+_, _<_}

@@ -1,5 +1,6 @@
--- Series texts: with bytes after it a text is refused 9 at the first of them, and where a text is refused so, a series text stands before.
--- Both come from the answer to every text (text_promises/specs/Decided.antt), not from the reader's steps. Assumes nothing.
+-- Series texts: with bytes after it a text is refused 9 at the first of them, and where a text is refused so, a series text stands before; one
+-- that is cut short is refused 8. All three come from the answer to every text (text_promises/specs/Decided.antt), not from the reader's
+-- steps. Assumes nothing.
 use mathlib.Core.Path.{_≡_, refl, sym, ap, _∙_, subst}
 use mathlib.Core.List.{List, [], _∷_, _++_, append-nil, append-assoc}
 use Prim.Native.Nat.{ℕ, suc, _+_, _≤_, _<_}

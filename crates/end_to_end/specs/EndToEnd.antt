@@ -1,7 +1,7 @@
--- RULES, "Series, as text and packed" (paper 02, C-21): series stored end to end, with nothing between them, are told apart in one way, and
--- `check` finds where each ends. Strings are lists of any numbers and of any length; where they must be bytes, as those of every slice are, it
--- is said. proofs/Theorems.antt shows the statements: Told-apart of packed series, series texts and printed texts; Found-by-check;
--- Found-by-read; Plain-texts.
+-- RULES, "Series, as text and packed" (paper 02, C-21): series stored end to end, with nothing between them, are told apart in one way only,
+-- and `check` (for texts `read`) finds where each ends. Strings are lists of any numbers and of any length; where they must be bytes, as those
+-- of every slice are, it is said. The statements, shown in proofs/Theorems.antt: Kinds-told-apart, Found-by-check, Found-by-read,
+-- Print-tells-apart.
 use mathlib.Core.Path.{_≡_}
 use mathlib.Core.List.{List, [], _∷_, _++_}
 use Prim.Native.Nat.{ℕ, _≤_, _<_}
@@ -56,12 +56,17 @@ Each P (x ∷ xs) = P x × Each P xs
 
 -- The strings that are P can be stored end to end.
 pub record Told-apart (P : List ℕ → Type 0) : Type 0 where
-  -- None of them is empty.
+  -- The string without a byte is none of them.
   pub not-empty : P [] → ⊥
   -- None of them is the beginning of another.
   pub no-beginning : (x y : List ℕ) → P x → P (x ++ y) → y ≡ []
   -- No string is made of them in two ways.
   pub one-split : (xs ys : List (List ℕ)) → Each P xs → Each P ys → joined xs ≡ joined ys → xs ≡ ys
+
+pub record Kinds-told-apart : Type 0 where
+  pub packed : Told-apart Packed-series
+  pub texts : Told-apart Series-text
+  pub printed : Told-apart Printed-text
 
 -- ---- Found again.
 
@@ -79,14 +84,14 @@ pub record Found-by-check : Type 0 where
   -- and only there.
   pub front : (bytes : List ℕ) (at : ℕ) → All-bytes bytes → checked (parse bytes) ≡ NoSeries (ByteAfterEnd at)
       → Packed-series (take at bytes) × (at < length bytes)
-  -- Where a series is cut short, `check` refuses with 8 and the number of its bytes.
+  -- Where only the beginning of a series is there, `check` refuses with 8 and the number of bytes.
   pub cut-short : (x y : List ℕ) (b : ℕ) → Packed-series (x ++ (b ∷ y)) → checked (parse x) ≡ NoSeries (EndedEarly (length x))
   -- So a list of series, joined, is found again,
   pub finds : (x : List ℕ) (xs : List (List ℕ)) → Each Packed-series (x ∷ xs) → Found (joined (x ∷ xs)) (x ∷ xs)
   -- and what is found are series, which make up all of the bytes.
   pub found : (bytes : List ℕ) (xs : List (List ℕ)) → All-bytes bytes → Found bytes xs → Each Packed-series xs × (joined xs ≡ bytes)
 
--- By `read`, texts whose bytes can be counted.
+-- Texts are found by `read` so, one step at a time, where a usize counts all the bytes that are given.
 pub record Found-by-read : Type 0 where
   -- Where bytes follow a text, `read` refuses with 9 and the offset of the first of them,
   pub followed : (text more out : List ℕ) (b : ℕ) → Read-into out text → length (text ++ (b ∷ more)) ≤ last-offset
@@ -94,18 +99,18 @@ pub record Found-by-read : Type 0 where
   -- and only there.
   pub front : (text out : List ℕ) (at : ℕ) → length text ≤ last-offset → told (whole text out .reader) ≡ Refused (ByteAfterEnd at)
       → Read-into out (take at text) × (at < length text)
-  -- Where a text is cut short, `read` refuses with 8 and the number of its bytes.
+  -- Where only the beginning of a text is there, `read` refuses with 8 and the number of bytes.
   pub cut-short : (text more out : List ℕ) (b : ℕ) → Read-into out (text ++ (b ∷ more))
       → told (whole text out .reader) ≡ Refused (EndedEarly (length text))
-  -- An output with room for the longest series does for every text.
+  -- An output with room for the longest series does for every series text.
   pub room : (text out : List ℕ) → Series-text text → packed-limit ≤ length out → Read-into out text
 
 -- ---- Printed.
 
-pub record Plain-texts : Type 0 where
+pub record Print-tells-apart : Type 0 where
   -- `print` writes a text for each packed series,
-  pub each : (x : List ℕ) → All-bytes x → Packed-series x → (text : List ℕ) × Prints x text
+  pub has-text : (x : List ℕ) → All-bytes x → Packed-series x → (text : List ℕ) × Prints x text
   -- which is a series text,
-  pub read : (text : List ℕ) → Printed-text text → Series-text text
+  pub is-series-text : (text : List ℕ) → Printed-text text → Series-text text
   -- and the same one for two only if they are equal.
   pub same : (x y text : List ℕ) → Prints x text → Prints y text → x ≡ y

@@ -20,29 +20,29 @@ use Rattle.packed_promises.specs.Bounds.{Where, over, total, coarse, ear
 
 module _ (bytes : List ℕ) where
   -- A refusal of a number: it says where, and is not that of a byte after the end.
-  pub record Of-number (r : Refusal) : Type 0 where
+  pub record Number-refusal (r : Refusal) : Type 0 where
     pub place : Where bytes r
     pub not-after : refusals.number r ≡ refusals.byte-after-end → ⊥
 
-  over-at : (at : ℕ) → at < length bytes → Of-number (OverLimit at)
+  over-at : (at : ℕ) → at < length bytes → Number-refusal (OverLimit at)
   over-at at l = record { place = over l; not-after = λ q. omega (arith, q) }
 
-  total-at : (at : ℕ) → at < length bytes → Of-number (TotalOverLimit at)
+  total-at : (at : ℕ) → at < length bytes → Number-refusal (TotalOverLimit at)
   total-at at l = record { place = total l; not-after = λ q. omega (arith, q) }
 
-  coarse-at : (at : ℕ) → at < length bytes → Of-number (TooCoarse at)
+  coarse-at : (at : ℕ) → at < length bytes → Number-refusal (TooCoarse at)
   coarse-at at l = record { place = coarse l; not-after = λ q. omega (arith, q) }
 
-  early-at : (at : ℕ) → at ≡ length bytes → Of-number (EndedEarly at)
+  early-at : (at : ℕ) → at ≡ length bytes → Number-refusal (EndedEarly at)
   early-at at e = record { place = early e; not-after = λ q. omega (arith, q) }
 
-  unshortened-at : (at : ℕ) → at < length bytes → Of-number (NotShortest at)
+  unshortened-at : (at : ℕ) → at < length bytes → Number-refusal (NotShortest at)
   unshortened-at at l = record { place = unshortened l; not-after = λ q. omega (arith, q) }
 
   -- A reader in these bytes that has come to at least the offset low, or a refusal that says where.
   pub data Placed {A : Type 0} (low : ℕ) : Read A → Type 0 where
     on : {x : A} {to : ℕ} {rest : List ℕ} → to + length rest ≡ length bytes → low ≤ to → Placed low (got x to rest)
-    off : {r : Refusal} → Of-number r → Placed low (bad r)
+    off : {r : Refusal} → Number-refusal r → Placed low (bad r)
 
   either : {A : Type 0} {low : ℕ} {q r : Read A} (t : Bool) → Placed low q → Placed low r → Placed low (cond t q r)
   either true h k = h
@@ -60,7 +60,7 @@ module _ (bytes : List ℕ) where
 
   -- A refusal at the byte before the offset that a reader has come to.
   last : {A : Type 0} {low : ℕ} {r : Read A} (t : Bool) (refusal : ℕ → Refusal) (to : ℕ) (rest : List ℕ)
-      → ((at : ℕ) → at < length bytes → Of-number (refusal at)) → to + length rest ≡ length bytes → 1 ≤ to
+      → ((at : ℕ) → at < length bytes → Number-refusal (refusal at)) → to + length rest ≡ length bytes → 1 ≤ to
       → Placed low r → Placed low (judged t refusal to r)
   unfolding judged
   last t refusal to rest w e h k = either t k (off (w (to - 1) (omega arith)))

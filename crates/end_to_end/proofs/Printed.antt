@@ -1,4 +1,4 @@
--- Plain texts: what `print` writes is the text of the blocks, so reading it gives the packed bytes back. Assumes nothing.
+-- Printed texts: what `print` writes is the text of the blocks, so reading it gives the packed bytes back. Assumes nothing.
 use mathlib.Core.Path.{_≡_, refl, sym, _∙_, subst}
 use mathlib.Core.Bool.{Bool, true, false}
 use mathlib.Core.List.{List}
@@ -50,9 +50,9 @@ printed-from x text p = go (parse x) refl (p .answer) (p .written)
     go (refused r) e a w = let z : _≡_ {A = ℕ} 0 1 = cc in absurd (omega arith)
 
 -- Into an output of the text's own length.
-pub each : (x : List ℕ) → All-bytes x → Packed-series x → (text : List ℕ) × Prints x text
+pub has-text : (x : List ℕ) → All-bytes x → Packed-series x → (text : List ℕ) × Prints x text
 unfolding printed printed-out text-fits
-each x b s =
+has-text x b s =
     let p = blocks-of x s in
     let text = plain-text (p .blocks) in
     let out : List ℕ = replicate (length text) 0 in
@@ -61,8 +61,8 @@ each x b s =
     (text, record { are-bytes = b; out = out; answer = rw (p .is, f); written = rw (p .is, f) (series.front text out h) })
 
 -- Read again, with the packed bytes for output.
-pub read : (text : List ℕ) → Printed-text text → Series-text text
-read text p =
+pub is-series-text : (text : List ℕ) → Printed-text text → Series-text text
+is-series-text text p =
     let x = p .packed in
     let o = printed-from x text (p .prints) in
     let r = print-read x x (o .blocks) (p .prints .are-bytes) (o .parsed) (omega arith) .0 in
