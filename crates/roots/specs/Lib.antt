@@ -1,2 +1,3 @@
--- What the contracts cite is in the crate `integers`, but for this.
+-- How the floor root is found. The floor root itself is defined in the crate `integers`.
+pub mod Bits
 pub mod machine

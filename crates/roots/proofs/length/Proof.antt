@@ -1,13 +1,15 @@
 -- `roots::length` meets its contract. Assumes nothing.
 use mathlib.Core.Path.{_≡_, _∙_, sym, ap, subst}
 use Prim.Native.Nat.{ℕ, _+_, _*_, _<_, _^_}
+use native.Mathlib.Omega.{arith}
 use borrow.Author.Needs.{needs}
 use lib.Dec.{lit<}
 use lib.IntN.{natAbs, _+ℤ_, _*ℤ_}
 use Rattle.integers.specs.Root.{root}
 use Rattle.arith.proofs.Signs.{back}
 use Rattle.arith.proofs.Long.{Divided, divided}
-use Rattle.roots.proofs.Limbs.{squares-value, upper-below}
+use Rattle.roots.specs.machine.Word.{word}
+use Rattle.roots.proofs.TwoWords.{squares-value, upper-below}
 use Rattle.roots.proofs.length.Statement.{statement}
 use Rattle.roots.proofs.length.Tie as tie
 
@@ -39,17 +41,21 @@ value c =
 room : (c : tie.After-abs3) → N c < 2 ^ 92
 room c = subst (λ (n : ℕ). n < 2 ^ 92) (sym (value c)) (c .before .before .before .pre)
 
-squares-requires : tie.Need-squares-requires
-squares-requires c κs = room c
+-- two words hold it
+two-words : {n : ℕ} → n < 2 ^ 92 → n < word * word
+two-words h = omega arith
 
-limbs : (c : tie.After-squares) → Divided (N (c .before)) (2 ^ 46) (c .squares .result .hi) (c .squares .result .lo)
-limbs c = divided _ _ _ _ (lit< tt) (c .squares .ensures)
+squares-requires : tie.Need-squares-requires
+squares-requires c κs = two-words (room c)
+
+words : (c : tie.After-squares) → Divided (N (c .before)) (word) (c .squares .result .high) (c .squares .result .low)
+words c = divided _ _ _ _ (lit< tt) (c .squares .ensures)
 
 floor-root-requires : tie.Need-floor-root-requires
-floor-root-requires c κs = (upper-below _ _ _ (limbs c) (room (c .before)), limbs c .rest)
+floor-root-requires c κs = (upper-below _ _ _ (words c) (two-words (room (c .before))), words c .rest)
 
 returns : tie.Need-returns
-returns c = c .floor-root .ensures ∙ ap root (limbs (c .before) .whole ∙ value (c .before .before))
+returns c = c .floor-root .ensures ∙ ap root (words (c .before) .whole ∙ value (c .before .before))
 
 pub length-spec : {M : Type 1} → statement M
 length-spec = tie.close (tie.spec abs-requires abs-requires-2 abs-requires-3 squares-requires floor-root-requires returns)

@@ -2,7 +2,7 @@
 use native.Mathlib.Omega.{arith}
 use borrow.Author.Needs.{needs}
 use Rattle.arith.proofs.Long.{quotient}
-use Rattle.roots.proofs.Limbs.{square-is, halves}
+use Rattle.roots.proofs.TwoWords.{square-is, halves}
 use Rattle.roots.proofs.square.Statement.{statement}
 use Rattle.roots.proofs.square.Tie as tie
 

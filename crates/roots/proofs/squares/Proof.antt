@@ -1,21 +1,19 @@
 -- `roots::squares` meets its contract. Assumes nothing.
-use Prim.Native.Nat.{ℕ, _+_, _*_, _≤_, _<_, _^_}
+use Prim.Native.Nat.{ℕ, _+_, _*_, _≤_, _<_}
 use native.Mathlib.Omega.{arith}
 use borrow.Author.Needs.{needs}
 use lib.Dec.{lit<}
+use Rattle.roots.specs.machine.Word.{word}
 use Rattle.arith.proofs.Long.{divided, quotient}
-use Rattle.roots.proofs.Limbs.{sum-is, small-root}
+use Rattle.roots.proofs.TwoWords.{sum-is, small-root}
 use Rattle.roots.proofs.squares.Statement.{statement}
 use Rattle.roots.proofs.squares.Tie as tie
 
 abbrev N : tie.Start → ℕ
 N c = c .args .x * c .args .x + c .args .y * c .args .y + c .args .z * c .args .z
 
-root-fits : (c : tie.Start) (g : ℕ) → g * g ≤ N c → g ≤ 2 ^ 46
-root-fits c g h = below (small-root g h (c .pre))
-  where
-    below : {g : ℕ} → g < 2 ^ 46 → g ≤ 2 ^ 46
-    below h = omega arith
+root-fits : (c : tie.Start) (g : ℕ) → g * g ≤ N c → g < word
+root-fits c g h = small-root g h (c .pre)
 
 part : (a b c : ℕ) → (a ≤ a + b + c) × (b ≤ a + b + c) × (c ≤ a + b + c)
 part a b c = omega arith

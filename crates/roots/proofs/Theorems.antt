@@ -1,0 +1,76 @@
+-- What specs/Bits claims of every number. Assumes nothing.
+use mathlib.Core.Path.{_≡_, sym, subst}
+use Prim.Native.Nat.{ℕ, zero, suc, _+_, _*_, _/_, _%_, _^_, _≤_, _<_}
+use native.Mathlib.Omega.{arith}
+use lib.Pow.{pow-pos}
+use lib.Dec.{lit<}
+use native.Mathlib.Nat.{one-le-pow, le-div-iff-mul-le, div-lt-iff-lt-mul, pow-zero, pow-suc, div-mul-le-self, mul-le-mul, div-add-mod', mod-lt, le-trans, lt-of-lt-of-le}
+use native.Mathlib.Decide.{decLe}
+use Rattle.integers.specs.Root.{root}
+use Rattle.integers.proofs.Root.{Is-root, root-spec, root-is}
+use Rattle.roots.specs.Bits.{Bits, none, kept, dropped, down-to, Every-bit, By-bits}
+use Rattle.roots.proofs.Bits.{bits-root}
+
+-- ---- every number has its bits
+
+-- one pair more, whatever it is
+with-bit : (m pair r : ℕ) → Bits m r → pair < 4 → Bits (4 * m + pair) (root (4 * m + pair))
+with-bit m pair r b p = go (decLe ((2 * r + 1) * (2 * r + 1)) (4 * m + pair))
+  where
+    same : {s : ℕ} → Bits (4 * m + pair) s → Bits (4 * m + pair) (root (4 * m + pair))
+    same c = subst (Bits (4 * m + pair)) (bits-root c) c
+
+    go : Dec ((2 * r + 1) * (2 * r + 1) ≤ 4 * m + pair) → Bits (4 * m + pair) (root (4 * m + pair))
+    go (yes h) = same (kept b p h)
+    go (no f) = same (dropped b p (omega arith))
+
+-- a number below so many fours
+bits-below : (fuel n : ℕ) → n < 4 ^ fuel → Bits n (root n)
+bits-below zero n h = let e : 0 ≡ n = omega (arith, pow-zero 4) in subst (λ (t : ℕ). Bits t (root t)) e (subst (Bits 0) (bits-root none) none)
+bits-below (suc fuel) n h =
+    let l : n / 4 < 4 ^ fuel = omega (arith, pow-suc 4 fuel) in
+    let e : 4 * (n / 4) + n % 4 ≡ n = omega arith in
+    subst (λ (t : ℕ). Bits t (root t)) e (with-bit (n / 4) (n % 4) _ (bits-below fuel (n / 4) l) (omega arith))
+
+below-fours : (n : ℕ) → n < 4 ^ n
+below-fours zero = omega (arith, pow-zero 4)
+below-fours (suc n) = omega (arith, pow-suc 4 n, below-fours n)
+
+bits-of : (n : ℕ) → Bits n (root n)
+bits-of n = bits-below n n (below-fours n)
+
+-- ---- at each place
+
+fours : (k : ℕ) → 4 ^ k ≡ 2 ^ k * 2 ^ k
+fours zero = omega (arith, pow-zero 4, pow-zero 2)
+fours (suc k) = rw (pow-suc 4 k, pow-suc 2 k) (omega (arith, fours k))
+
+-- the root's bits down to a place are not past the number, and with 1 more they are
+low : (n r k : ℕ) → r * r ≤ n → down-to k r * down-to k r ≤ n
+low n r k h = let l = div-mul-le-self r (2 ^ k) in le-trans (mul-le-mul l l) h
+
+high : (n r k : ℕ) → n < (r + 1) * (r + 1) → n < (down-to k r + 2 ^ k) * (down-to k r + 2 ^ k)
+high n r k h =
+    let l : r + 1 ≤ r / 2 ^ k * 2 ^ k + 2 ^ k = omega (arith, div-add-mod' r (2 ^ k), mod-lt r (pow-pos k)) in
+    lt-of-lt-of-le h (mul-le-mul l l)
+
+-- the root of the number down to a place
+root-down : (n r k : ℕ) → Is-root n r → r / 2 ^ k ≡ root (n / 4 ^ k)
+root-down n r k i =
+    let q = r / 2 ^ k in
+    let p = one-le-pow k 4 (lit< tt) in
+    let a : q * q * 4 ^ k ≤ n = rw (fours k) (omega (arith, low n r k (i .low))) in
+    let b : n < (q + 1) * (q + 1) * 4 ^ k = rw (fours k) (omega (arith, high n r k (i .high))) in
+    root-is _ _ (record { low = le-div-iff-mul-le p .1 a; high = div-lt-iff-lt-mul p .1 b })
+
+every-bit : (n : ℕ) → Every-bit n (root n)
+every-bit n =
+    let i = root-spec n in
+    record {
+      found = λ k. subst (Bits (n / 4 ^ k)) (sym (root-down n (root n) k i)) (bits-of (n / 4 ^ k));
+      kept = λ k e. low n (root n) k (i .low);
+      dropped = λ k e. high n (root n) k (i .high);
+    }
+
+pub by-bits : By-bits
+by-bits = record { floor = λ n r b. bits-root b; every-bit = every-bit }

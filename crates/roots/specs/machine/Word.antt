@@ -1,0 +1,13 @@
+-- The two words that hold a number: the upper one counts this many, and both are below it.
+use Prim.Native.Nat.{ℕ, _^_}
+
+abbrev pub word : ℕ
+word = 2 ^ 48
+
+-- The half of a word is below this.
+abbrev pub half-word : ℕ
+half-word = 2 ^ 24
+
+-- A word has so many pairs of bits.
+abbrev pub pairs : ℕ
+pairs = 24
