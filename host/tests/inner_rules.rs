@@ -3,7 +3,7 @@
 mod common;
 
 use common::calls::{Outcome, LIBRARY};
-use common::{expected, numbers, packed_series, two_series, vectors, Fields};
+use common::{expected, numbers, packed_series, repository, two_series, vectors, Fields};
 
 #[repr(C)]
 struct TermFigures {
@@ -84,10 +84,79 @@ fn terms() {
 fn roots() {
     for (number, line) in counted("root.txt", 3913) {
         let fields = &mut Fields::of(&line);
-        let [x, y, z] = numbers(fields);
-        let root = unsafe { stephylax_test_root(x, y, z) };
-        assert_eq!(root as i64, fields.number(), "line {number}: {line}");
+        let vector = numbers(fields);
+        assert_eq!(root_of(vector), fields.number(), "line {number}: {line}");
         assert!(fields.done(), "line {number}: {line}");
+    }
+}
+
+/// The root of x x + y y + z z, as the library finds it.
+fn root_of([x, y, z]: [i64; 3]) -> i64 {
+    unsafe { stephylax_test_root(x, y, z) as i64 }
+}
+
+/// The lines of the table that works a root in docs/RULES.md: the pair, what has been read, the rest and the pair, the trial, the bit,
+/// the root and the rest left.
+fn worked_lines() -> Vec<[i64; 7]> {
+    let rules = std::fs::read_to_string(repository("docs/RULES.md")).expect("the rules can be read");
+    let (_, section) = rules.split_once("### The floor root bit by bit").expect("the rules work a root");
+    let (section, _) = section.split_once("\n## ").expect("another section follows");
+    let lines = section.lines().filter(|line| line.starts_with("| 0") || line.starts_with("| 1"));
+    let figures = lines.map(|line| {
+        let mut fields = line.trim_matches('|').split('|').map(str::trim);
+        let pair = i64::from_str_radix(fields.next().expect("a pair"), 2).expect("two bits");
+        let mut figure = || fields.next().expect("a figure").parse::<i64>().expect("a number");
+        let line = [pair, figure(), figure(), figure(), figure(), figure(), figure()];
+        assert_eq!(fields.next(), None);
+        line
+    });
+    figures.collect()
+}
+
+/// The root that is worked in the rules: every figure follows from the line before it, each bit is decided by squares as the rules
+/// say, and the library finds the same root.
+#[test]
+fn worked_root() {
+    let lines = worked_lines();
+    assert_eq!(lines.len(), 11);
+    let (mut number, mut root, mut rest) = (0, 0, 0);
+    for [pair, read, with_pair, trial, bit, new_root, left] in lines {
+        assert_eq!([read, with_pair, trial], [4 * number + pair, 4 * rest + pair, 4 * root + 1]);
+        let with_bit = 2 * root + 1;
+        assert_eq!(bit == 1, with_bit * with_bit <= read, "the bit at {read}");
+        assert_eq!([new_root, left], [2 * root + bit, with_pair - bit * trial]);
+        assert_eq!(new_root * new_root + left, read);
+        (number, root, rest) = (read, new_root, left);
+    }
+    let vector = [1413, 47, 35];
+    assert_eq!(number, 2_000_003);
+    assert_eq!(number, vector.map(|x| x * x).iter().sum::<i64>());
+    assert_eq!(root_of(vector), root);
+}
+
+/// A square, and 1 less than a square, up to the greatest component: 2mm, 2m and 1 have the squares 4mmmm + 4mm + 1 = (2mm + 1)(2mm + 1)
+/// together, and without the 1 they are just below. The words of the sum part in the middle of its 96 bits, so m goes over all sizes.
+#[test]
+fn roots_at_a_square() {
+    const GREATEST: i64 = 1 << 45;
+    let mut last = 0;
+    for step in 0..4096 {
+        let m = 1 + step * step / 4;
+        if 2 * m * m > GREATEST {
+            break;
+        }
+        assert_eq!(root_of([2 * m * m, 2 * m, 1]), 2 * m * m + 1, "m = {m}");
+        assert_eq!(root_of([2 * m * m, 2 * m, 0]), 2 * m * m, "m = {m}");
+        assert_eq!(root_of([0, -2 * m * m, 0]), 2 * m * m, "m = {m}");
+        last = m;
+    }
+    assert!(last > 4_000_000, "the greatest sizes are reached");
+    for shift in 0..=45 {
+        for x in [(1 << shift) - 1, 1 << shift, (1 << shift) + 1] {
+            if x <= GREATEST {
+                assert_eq!(root_of([x, 0, 0]), x);
+            }
+        }
     }
 }
 
