@@ -134,28 +134,23 @@ fn worked_root() {
     assert_eq!(root_of(vector), root);
 }
 
-/// A square, and 1 less than a square, up to the greatest component: 2mm, 2m and 1 have the squares 4mmmm + 4mm + 1 = (2mm + 1)(2mm + 1)
-/// together, and without the 1 they are just below. The words of the sum part in the middle of its 96 bits, so m goes over all sizes.
+/// Squares, and 1 less than a square, from the least to near the greatest sum that is taken, whose components reach 2^45: the squares
+/// of 2mm, 2m and 1 are (2mm + 1)(2mm + 1) together, and without the 1 they are just below it.
 #[test]
 fn roots_at_a_square() {
-    const GREATEST: i64 = 1 << 45;
-    let mut last = 0;
+    const REACH: i64 = 1 << 45;
+    let mut greatest = 0;
     for step in 0..4096 {
         let m = 1 + step * step / 4;
-        if 2 * m * m > GREATEST {
-            break;
-        }
-        assert_eq!(root_of([2 * m * m, 2 * m, 1]), 2 * m * m + 1, "m = {m}");
-        assert_eq!(root_of([2 * m * m, 2 * m, 0]), 2 * m * m, "m = {m}");
-        assert_eq!(root_of([0, -2 * m * m, 0]), 2 * m * m, "m = {m}");
-        last = m;
+        greatest = 2 * m * m;
+        assert_eq!(root_of([greatest, 2 * m, 1]), greatest + 1, "m = {m}");
+        assert_eq!(root_of([greatest, 2 * m, 0]), greatest, "m = {m}");
+        assert_eq!(root_of([0, -greatest, 0]), greatest, "m = {m}");
     }
-    assert!(last > 4_000_000, "the greatest sizes are reached");
+    assert!(REACH - REACH / 100 < greatest && greatest <= REACH);
     for shift in 0..=45 {
-        for x in [(1 << shift) - 1, 1 << shift, (1 << shift) + 1] {
-            if x <= GREATEST {
-                assert_eq!(root_of([x, 0, 0]), x);
-            }
+        for x in [(1 << shift) - 1, 1 << shift] {
+            assert_eq!(root_of([x, 0, 0]), x);
         }
     }
 }

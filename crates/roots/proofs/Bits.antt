@@ -3,7 +3,7 @@ use mathlib.Core.Path.{_≡_, refl, sym, ap, subst, _∙_}
 use Prim.Native.Nat.{ℕ, suc, _+_, _*_, _/_, _%_, _^_, _≤_, _<_}
 use native.Mathlib.Omega.{arith}
 use lib.Dec.{lit<}
-use native.Mathlib.Nat.{pow-suc, pow-le-pow-right, mul-le-mul-left, le-add-right, lt-of-le-of-lt}
+use native.Mathlib.Nat.{pow-suc, mul-comm, pow-le-pow-right, mul-le-mul-left, le-add-right, lt-of-le-of-lt}
 use Rattle.integers.specs.Root.{root}
 use Rattle.integers.proofs.Root.{Is-root, root-is}
 use Rattle.roots.specs.Bits.{Bits, none, kept, dropped, Worked, read}
@@ -70,8 +70,8 @@ nothing-read = record { number = refl; bits = none }
 pub reading-begins : {w : Working} {next : ℕ} → Worked (read w) w → next < word → Reading (read w * word + next) w next 0
 reading-begins h l = record { worked = h; below = l; turns = omega arith; number = omega arith }
 
-one-four : (j : ℕ) → 4 ^ (j + 1) ≡ 4 * 4 ^ j
-one-four j = let e : j + 1 ≡ suc j = omega arith in rw e (pow-suc 4 j ∙ omega arith)
+pub next-power : (b j : ℕ) → b ^ (j + 1) ≡ b * b ^ j
+next-power b j = let e : j + 1 ≡ suc j = omega arith in rw e (pow-suc b j ∙ mul-comm (b ^ j) b)
 
 -- so many fours are at most a word
 fours-fit : (j : ℕ) → j ≤ pairs → 4 ^ j ≤ word
@@ -93,7 +93,7 @@ pub reading-on : {n : ℕ} {w v : Working} {left moved done : ℕ} → Reading n
 reading-on {n} {w} {v} {left} {moved} {done} i l m h =
     let e = i .number in
     let d : read v ≡ 4 * read w + moved / word = h .number in
-    let f : n * 4 ^ (done + 1) ≡ n * (4 * 4 ^ done) = ap (λ (t : ℕ). n * t) (one-four done) in
+    let f : n * 4 ^ (done + 1) ≡ n * (4 * 4 ^ done) = ap (λ (t : ℕ). n * t) (next-power 4 done) in
     record { worked = itself h; below = omega arith; turns = omega arith; number = omega arith }
 
 pub reading-ends : {n : ℕ} {w : Working} {left done : ℕ} → Reading n w left done → pairs ≤ done → Worked n w

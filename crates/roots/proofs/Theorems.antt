@@ -1,15 +1,15 @@
 -- What specs/Bits claims of every number. Assumes nothing.
-use mathlib.Core.Path.{_≡_, sym, subst}
+use mathlib.Core.Path.{_≡_, sym, ap, subst}
 use Prim.Native.Nat.{ℕ, zero, suc, _+_, _*_, _/_, _%_, _^_, _≤_, _<_}
 use native.Mathlib.Omega.{arith}
 use lib.Pow.{pow-pos}
 use lib.Dec.{lit<}
-use native.Mathlib.Nat.{one-le-pow, le-div-iff-mul-le, div-lt-iff-lt-mul, pow-zero, pow-suc, div-mul-le-self, mul-le-mul, div-add-mod', mod-lt, le-trans, lt-of-lt-of-le}
+use native.Mathlib.Nat.{one-le-pow, le-div-iff-mul-le, div-lt-iff-lt-mul, pow-zero, pow-suc, mul-comm, div-div-eq-div-mul, div-mul-le-self, mul-le-mul, div-add-mod', mod-lt, le-trans, lt-of-lt-of-le}
 use native.Mathlib.Decide.{decLe}
 use Rattle.integers.specs.Root.{root}
 use Rattle.integers.proofs.Root.{Is-root, root-spec, root-is}
-use Rattle.roots.specs.Bits.{Bits, none, kept, dropped, down-to, Every-bit, By-bits}
-use Rattle.roots.proofs.Bits.{bits-root}
+use Rattle.roots.specs.Bits.{Bits, none, kept, dropped, bit, tried, Every-bit, By-bits}
+use Rattle.roots.proofs.Bits.{bits-root, next-power}
 
 -- ---- every number has its bits
 
@@ -39,13 +39,17 @@ below-fours (suc n) = omega (arith, pow-suc 4 n, below-fours n)
 bits-of : (n : ℕ) → Bits n (root n)
 bits-of n = bits-below n n (below-fours n)
 
--- ---- at each place
+-- ---- the beginnings of a root
 
 fours : (k : ℕ) → 4 ^ k ≡ 2 ^ k * 2 ^ k
 fours zero = omega (arith, pow-zero 4, pow-zero 2)
 fours (suc k) = rw (pow-suc 4 k, pow-suc 2 k) (omega (arith, fours k))
 
--- the root's bits down to a place are not past the number, and with 1 more they are
+-- the bits down to place k, with noughts below
+abbrev down-to : ℕ → ℕ → ℕ
+down-to k r = r / 2 ^ k * 2 ^ k
+
+-- they are not past the number, and with 1 more at that place they are
 low : (n r k : ℕ) → r * r ≤ n → down-to k r * down-to k r ≤ n
 low n r k h = let l = div-mul-le-self r (2 ^ k) in le-trans (mul-le-mul l l) h
 
@@ -54,7 +58,7 @@ high n r k h =
     let l : r + 1 ≤ r / 2 ^ k * 2 ^ k + 2 ^ k = omega (arith, div-add-mod' r (2 ^ k), mod-lt r (pow-pos k)) in
     lt-of-lt-of-le h (mul-le-mul l l)
 
--- the root of the number down to a place
+-- so they are the root of the number down to there
 root-down : (n r k : ℕ) → Is-root n r → r / 2 ^ k ≡ root (n / 4 ^ k)
 root-down n r k i =
     let q = r / 2 ^ k in
@@ -63,14 +67,32 @@ root-down n r k i =
     let b : n < (q + 1) * (q + 1) * 4 ^ k = rw (fours k) (omega (arith, high n r k (i .high))) in
     root-is _ _ (record { low = le-div-iff-mul-le p .1 a; high = div-lt-iff-lt-mul p .1 b })
 
+-- ---- at each place
+
+halved : (k r : ℕ) → r / 2 ^ (k + 1) ≡ r / 2 ^ k / 2
+halved k r = rw (next-power 2 k, mul-comm 2 (2 ^ k)) (sym (div-div-eq-div-mul r (2 ^ k) 2))
+
+-- what is tried at a place, by the bits down to there
+tried-is : (k r : ℕ) → tried k r + bit k r * 2 ^ k ≡ down-to k r + 2 ^ k
+tried-is k r =
+    let q = r / 2 ^ k in
+    let e : q ≡ 2 * (q / 2) + q % 2 = omega arith in
+    rw (halved k r, next-power 2 k) (omega (arith, ap (λ (t : ℕ). t * 2 ^ k) e))
+
+tried-kept : (k r : ℕ) → bit k r ≡ 1 → down-to k r ≡ tried k r
+tried-kept k r e = let f : bit k r * 2 ^ k ≡ 1 * 2 ^ k = ap (λ (t : ℕ). t * 2 ^ k) e in omega (arith, tried-is k r)
+
+tried-dropped : (k r : ℕ) → bit k r ≡ 0 → down-to k r + 2 ^ k ≡ tried k r
+tried-dropped k r e = let f : bit k r * 2 ^ k ≡ 0 * 2 ^ k = ap (λ (t : ℕ). t * 2 ^ k) e in omega (arith, tried-is k r)
+
 every-bit : (n : ℕ) → Every-bit n (root n)
 every-bit n =
     let i = root-spec n in
     record {
       found = λ k. subst (Bits (n / 4 ^ k)) (sym (root-down n (root n) k i)) (bits-of (n / 4 ^ k));
-      kept = λ k e. low n (root n) k (i .low);
-      dropped = λ k e. high n (root n) k (i .high);
+      kept-fits = λ k e. subst (λ (t : ℕ). t * t ≤ n) (tried-kept k (root n) e) (low n (root n) k (i .low));
+      dropped-passes = λ k e. subst (λ (t : ℕ). n < t * t) (tried-dropped k (root n) e) (high n (root n) k (i .high));
     }
 
 pub by-bits : By-bits
-by-bits = record { floor = λ n r b. bits-root b; every-bit = every-bit }
+by-bits = record { is-root = λ n r b. bits-root b; every-bit = every-bit }

@@ -1,12 +1,13 @@
 -- The floor root of a number, found bit by bit from the top: RULES, "The floor root bit by bit" (paper 02, C-15), which works one with a
--- pencil. The number is read in pairs of bits from the top, and each pair gives one bit of the root. The statement is By-bits, of every
--- number whatever its size; it is shown in proofs/Theorems.antt.
+-- pencil. The number is read in pairs of bits, and each pair gives one bit of the root. The statement is By-bits, of every number whatever
+-- its size; it is shown in proofs/Theorems.antt. That the code takes these steps and no others is seen in src/lib.rt; its contracts say what
+-- it holds after each of them.
 use mathlib.Core.Path.{_≡_}
 use Prim.Native.Nat.{ℕ, _+_, _*_, _/_, _%_, _^_, _≤_, _<_}
 use Rattle.integers.specs.Root.{root}
 use Rattle.roots.specs.declared.Working.{Working}
 
--- ---- Step by step, as the code goes.
+-- ---- The steps.
 
 -- n is the number as far as it has been read, and r the root found for it. The next pair makes the number 4 * n + pair. Its bit is kept, and
 -- the root becomes 2 * r + 1, where the square of that is not past the number; else the bit is dropped, and the root becomes 2 * r.
@@ -19,7 +20,7 @@ pub data Bits : ℕ → ℕ → Type 0 where
 abbrev pub read : Working → ℕ
 read w = w .root * w .root + w .rest
 
--- The number n has been read, and each bit of the root was found for it.
+-- The number n has been read, and the root is the one that the steps find for it.
 pub record Worked (n : ℕ) (w : Working) : Type 0 where
   pub number : read w ≡ n
   pub bits : Bits n (w .root)
@@ -30,19 +31,19 @@ pub record Worked (n : ℕ) (w : Working) : Type 0 where
 abbrev pub bit : ℕ → ℕ → ℕ
 bit k r = r / 2 ^ k % 2
 
--- The bits down to place k, with noughts below.
-abbrev pub down-to : ℕ → ℕ → ℕ
-down-to k r = r / 2 ^ k * 2 ^ k
+-- What is tried at place k: the root's bits above it, a 1 there, and noughts below.
+abbrev pub tried : ℕ → ℕ → ℕ
+tried k r = r / 2 ^ (k + 1) * 2 ^ (k + 1) + 2 ^ k
 
 pub record Every-bit (n r : ℕ) : Type 0 where
-  -- When the number has been read down to place k, the root's bits down to there have been found, and they stay.
+  -- When the number has been read down to place k, the steps have found the root's bits down to there.
   pub found : (k : ℕ) → Bits (n / 4 ^ k) (r / 2 ^ k)
-  -- No bit kept takes the square past the number.
-  pub kept : (k : ℕ) → bit k r ≡ 1 → down-to k r * down-to k r ≤ n
-  -- No bit dropped could be kept.
-  pub dropped : (k : ℕ) → bit k r ≡ 0 → n < (down-to k r + 2 ^ k) * (down-to k r + 2 ^ k)
+  -- A bit that is kept leaves the square at or below the number.
+  pub kept-fits : (k : ℕ) → bit k r ≡ 1 → tried k r * tried k r ≤ n
+  -- A bit that is dropped would make the square greater than the number.
+  pub dropped-passes : (k : ℕ) → bit k r ≡ 0 → n < tried k r * tried k r
 
--- What is found so is the floor root and nothing else, and every bit of every floor root is right.
+-- What the steps find is the floor root and nothing else, and every bit of every floor root is right.
 pub record By-bits : Type 0 where
-  pub floor : (n r : ℕ) → Bits n r → r ≡ root n
+  pub is-root : (n r : ℕ) → Bits n r → r ≡ root n
   pub every-bit : (n : ℕ) → Every-bit n (root n)

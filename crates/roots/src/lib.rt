@@ -4,16 +4,18 @@ ghost use mathlib.Core.Path.{_≡_};
 ghost use Prim.Native.Nat.{_+_, _*_, _/_, _%_, _<_, _^_};
 ghost use lib.IntN.{natAbs, _+ℤ_, _*ℤ_};
 ghost use Rattle.integers.specs.Root.{root};
-ghost use Rattle.roots.specs.Bits.{Bits, Worked, read};
+ghost use Rattle.roots.specs.Bits.{Worked, read};
 ghost use Rattle.roots.specs.machine.Word.{word};
 use arith::signed::abs;
 
-// A word is below this, 2^48, and a half of one below its root, 2^24.
-const WORD: u64 = HALF_WORD * HALF_WORD;
-
+// The half of a word is below this, 2^24, and a word below its square, 2^48.
 const HALF_WORD: u64 = 16777216;
 
-// The pairs of bits of a word.
+const WORD: u64 = HALF_WORD * HALF_WORD;
+
+// The bits of a word, and its pairs of bits.
+const WORD_BITS: u32 = 48;
+
 const PAIRS: u64 = 24;
 
 // A number in two words.
@@ -58,8 +60,8 @@ fn squares(x: u64, y: u64, z: u64) -> Words
     }
 }
 
-// The next pair of bits of the number, and with it one bit more of the root. With that bit the square would grow by `trial`, so it is kept
-// where the rest has as much.
+// The next pair of bits of the number, and with it one bit more of the root. With a 1 the square is by `trial` greater than with a 0, so the
+// 1 is kept where the rest has as much.
 fn with_pair(w: Working, pair: u64) -> Working
     requires { ⌜ Worked (read w) w × (w .root < word) × (pair < 4) ⌝ }
     ensures { λ r. ⌜ Worked (4 * read w + pair) r ⌝ }
@@ -88,7 +90,7 @@ fn with_word(start: Working, next: u64) -> Working
     let mut done: u64 = 0;
     while done < PAIRS {
         let moved = left << 2;
-        w = with_pair(w, moved / WORD);
+        w = with_pair(w, moved >> WORD_BITS);
         left = moved % WORD;
         done += 1;
     }

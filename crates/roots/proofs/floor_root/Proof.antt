@@ -2,6 +2,7 @@
 use mathlib.Core.Path.{_≡_, sym, ap, subst, _∙_}
 use Prim.Native.Nat.{ℕ, _+_, _*_, _<_}
 use native.Mathlib.Omega.{arith}
+use borrow.Author.Needs.{needs}
 use Rattle.integers.specs.Root.{root}
 use Rattle.roots.specs.Bits.{Worked, read}
 use Rattle.roots.specs.machine.Word.{word}
@@ -11,14 +12,14 @@ use Rattle.roots.proofs.floor_root.Statement.{statement}
 use Rattle.roots.proofs.floor_root.Tie as tie
 
 -- the upper word has been read, and no more
-upper : {h : ℕ} (w : Working) → Worked (0 * word + h) w → read w ≡ h
+upper : {high : ℕ} (w : Working) → Worked (0 * word + high) w → read w ≡ high
 upper w h = let e = h .number in omega arith
 
 with-word-requires : tie.Need-with-word-requires
-with-word-requires c κs = (nothing-read, omega arith, c .pre .0)
+with-word-requires c κs = (nothing-read, omega arith, search needs)
 
 with-word-requires-2 : tie.Need-with-word-requires-2
-with-word-requires-2 c κs = let w = c .with-word .ensures in (itself w, subst (λ (t : ℕ). t < word) (sym (upper _ w)) (c .before .pre .0), c .before .pre .1)
+with-word-requires-2 c κs = let w = c .with-word .ensures in (itself w, subst (λ (t : ℕ). t < word) (sym (upper _ w)) (search needs), search needs)
 
 returns : tie.Need-returns
 returns c =

@@ -21,6 +21,12 @@ whole-below c = let a = c .pre .1 in let b = c .pre .2 in omega arith
 loop-holds : tie.Need-loop-holds Inv-loop μ-loop
 loop-holds c = reading-begins (c .pre .0) (c .pre .2)
 
+cast-with-pair : tie.Need-cast-with-pair Inv-loop μ-loop
+cast-with-pair c = search needs
+
+shr-with-pair : tie.Need-shr-with-pair Inv-loop μ-loop
+shr-with-pair c = search needs
+
 with-pair-requires : tie.Need-with-pair-requires Inv-loop μ-loop
 with-pair-requires c κs =
     let i = c .before .loop .inv in
@@ -43,4 +49,4 @@ returns c = reading-ends (c .before .loop .inv) (c .loop-test .left)
 
 pub with-word-spec : {M : Type 1} → statement M
 with-word-spec =
-    tie.close (tie.spec Inv-loop μ-loop loop-holds with-pair-requires add-done loop-less loop-again returns)
+    tie.close (tie.spec Inv-loop μ-loop loop-holds cast-with-pair shr-with-pair with-pair-requires add-done loop-less loop-again returns)

@@ -1,7 +1,8 @@
 //! Two builds of the benchmark beside each other: what the library takes in this one, and in a former one.
 //!
-//! `cargo run --release --bin beside -- FORMER [words]` runs the program FORMER, a copy of `bench` that was built earlier, and the `bench`
-//! built with this one, in turn, several times, with the words that choose lines. It prints the medians and their ratio.
+//! `cargo build --release` makes this program and `bench`. `beside FORMER [words]` then runs FORMER, a kept copy of an earlier `bench`, and
+//! the `bench` that stands beside this program, in turn, several times, each with `--quick` and the words that choose lines. It prints
+//! the medians and their ratio.
 
 use std::collections::BTreeMap;
 use std::path::{Path, PathBuf};
