@@ -4,7 +4,8 @@ use Prim.Native.Nat.{ℕ, zero, suc, _+_, _*_, _/_, _%_, _^_, _≤_, _<_}
 use native.Mathlib.Omega.{arith}
 use lib.Pow.{pow-pos}
 use lib.Dec.{lit<}
-use native.Mathlib.Nat.{one-le-pow, le-div-iff-mul-le, div-lt-iff-lt-mul, pow-zero, pow-suc, mul-comm, div-div-eq-div-mul, div-mul-le-self, mul-le-mul, div-add-mod', mod-lt, le-trans, lt-of-lt-of-le}
+use native.Mathlib.Nat.{mul-comm, mul-le-mul, le-trans, lt-of-lt-of-le, one-le-pow, pow-zero, pow-suc}
+use native.Mathlib.Nat.{mod-lt, div-add-mod', div-mul-le-self, div-div-eq-div-mul, le-div-iff-mul-le, div-lt-iff-lt-mul}
 use native.Mathlib.Decide.{decLe}
 use Rattle.integers.specs.Root.{root}
 use Rattle.integers.proofs.Root.{Is-root, root-spec, root-is}
