@@ -3,7 +3,7 @@ use mathlib.Core.Path.{_≡_, refl, sym, ap, subst, _∙_}
 use Prim.Native.Nat.{ℕ, suc, _+_, _*_, _/_, _%_, _^_, _≤_, _<_}
 use native.Mathlib.Omega.{arith}
 use lib.Dec.{lit<}
-use native.Mathlib.Nat.{pow-suc, mul-comm, pow-le-pow-right, mul-le-mul-left, le-add-right, lt-of-le-of-lt}
+use native.Mathlib.Nat.{pow-succ', pow-le-pow-right, mul-le-mul-left, le-add-right, lt-of-le-of-lt}
 use Rattle.integers.specs.Root.{root}
 use Rattle.integers.proofs.Root.{Is-root, root-is}
 use Rattle.roots.specs.Bits.{Bits, none, kept, dropped, Worked, read}
@@ -11,8 +11,8 @@ use Rattle.roots.specs.machine.Word.{word, pairs}
 use Rattle.roots.specs.declared.Working.{Working}
 use Rattle.roots.proofs.TwoWords.{small-root}
 
-pub bits-bounds : {n r : ℕ} → Bits n r → Is-root n r
-bits-bounds none = record { low = omega arith; high = omega arith }
+bits-bounds : {n r : ℕ} → Bits n r → Is-root n r
+bits-bounds none = omega arith
 bits-bounds (kept b p h) = record { low = h; high = let k = bits-bounds b .high in omega arith }
 bits-bounds (dropped b p h) = record { low = let k = bits-bounds b .low in omega arith; high = h }
 
@@ -71,14 +71,14 @@ pub reading-begins : {w : Working} {next : ℕ} → Worked (read w) w → next <
 reading-begins h l = record { worked = h; below = l; turns = omega arith; number = omega arith }
 
 pub next-power : (b j : ℕ) → b ^ (j + 1) ≡ b * b ^ j
-next-power b j = let e : j + 1 ≡ suc j = omega arith in rw e (pow-suc b j ∙ mul-comm (b ^ j) b)
+next-power b j = let e : j + 1 ≡ suc j = omega arith in rw e (pow-succ' b j)
 
 -- so many fours are at most a word
 fours-fit : (j : ℕ) → j ≤ pairs → 4 ^ j ≤ word
 fours-fit j h = pow-le-pow-right (lit< tt) h
 
 -- what has been read is at most the number
-pub read-most : {n : ℕ} {w : Working} {left done : ℕ} → Reading n w left done → read w ≤ n
+read-most : {n : ℕ} {w : Working} {left done : ℕ} → Reading n w left done → read w ≤ n
 read-most {n} {w} {left} {done} i =
     let e = i .number in
     let f : n * 4 ^ done ≤ n * word = mul-le-mul-left n (fours-fit done (i .turns)) in

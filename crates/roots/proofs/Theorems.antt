@@ -4,12 +4,12 @@ use Prim.Native.Nat.{ℕ, zero, suc, _+_, _*_, _/_, _%_, _^_, _≤_, _<_}
 use native.Mathlib.Omega.{arith}
 use lib.Pow.{pow-pos}
 use lib.Dec.{lit<}
-use native.Mathlib.Nat.{mul-comm, mul-le-mul, le-trans, lt-of-lt-of-le, one-le-pow, pow-zero, pow-suc}
+use native.Mathlib.Nat.{mul-comm, mul-le-mul, le-trans, lt-of-lt-of-le, one-le-pow, pow-suc}
 use native.Mathlib.Nat.{mod-lt, div-add-mod', div-mul-le-self, div-div-eq-div-mul, le-div-iff-mul-le, div-lt-iff-lt-mul}
 use native.Mathlib.Decide.{decLe}
 use Rattle.integers.specs.Root.{root}
 use Rattle.integers.proofs.Root.{Is-root, root-spec, root-is}
-use Rattle.roots.specs.Bits.{Bits, none, kept, dropped, bit, tried, Every-bit, By-bits}
+use Rattle.roots.specs.Bits.{Bits, none, kept, dropped, bit, tried, Right-bit, kept-fits, dropped-passes, Every-bit, By-bits}
 use Rattle.roots.proofs.Bits.{bits-root, next-power}
 
 -- ---- every number has its bits
@@ -27,15 +27,15 @@ with-bit m pair r b p = go (decLe ((2 * r + 1) * (2 * r + 1)) (4 * m + pair))
 
 -- a number below so many fours
 bits-below : (fuel n : ℕ) → n < 4 ^ fuel → Bits n (root n)
-bits-below zero n h = let e : 0 ≡ n = omega (arith, pow-zero 4) in subst (λ (t : ℕ). Bits t (root t)) e (subst (Bits 0) (bits-root none) none)
+bits-below zero n h = let e : 0 ≡ n = omega arith in subst (λ (t : ℕ). Bits t (root t)) e (subst (Bits 0) (bits-root none) none)
 bits-below (suc fuel) n h =
-    let l : n / 4 < 4 ^ fuel = omega (arith, pow-suc 4 fuel) in
+    let l : n / 4 < 4 ^ fuel = omega arith in
     let e : 4 * (n / 4) + n % 4 ≡ n = omega arith in
     subst (λ (t : ℕ). Bits t (root t)) e (with-bit (n / 4) (n % 4) _ (bits-below fuel (n / 4) l) (omega arith))
 
 below-fours : (n : ℕ) → n < 4 ^ n
-below-fours zero = omega (arith, pow-zero 4)
-below-fours (suc n) = omega (arith, pow-suc 4 n, below-fours n)
+below-fours zero = omega arith
+below-fours (suc n) = omega (arith, below-fours n)
 
 bits-of : (n : ℕ) → Bits n (root n)
 bits-of n = bits-below n n (below-fours n)
@@ -43,7 +43,7 @@ bits-of n = bits-below n n (below-fours n)
 -- ---- the beginnings of a root
 
 fours : (k : ℕ) → 4 ^ k ≡ 2 ^ k * 2 ^ k
-fours zero = omega (arith, pow-zero 4, pow-zero 2)
+fours zero = omega arith
 fours (suc k) = rw (pow-suc 4 k, pow-suc 2 k) (omega (arith, fours k))
 
 -- the bits down to place k, with noughts below
@@ -51,11 +51,11 @@ abbrev down-to : ℕ → ℕ → ℕ
 down-to k r = r / 2 ^ k * 2 ^ k
 
 -- they are not past the number, and with 1 more at that place they are
-low : (n r k : ℕ) → r * r ≤ n → down-to k r * down-to k r ≤ n
-low n r k h = let l = div-mul-le-self r (2 ^ k) in le-trans (mul-le-mul l l) h
+down-fits : (n r k : ℕ) → r * r ≤ n → down-to k r * down-to k r ≤ n
+down-fits n r k h = let l = div-mul-le-self r (2 ^ k) in le-trans (mul-le-mul l l) h
 
-high : (n r k : ℕ) → n < (r + 1) * (r + 1) → n < (down-to k r + 2 ^ k) * (down-to k r + 2 ^ k)
-high n r k h =
+down-passes : (n r k : ℕ) → n < (r + 1) * (r + 1) → n < (down-to k r + 2 ^ k) * (down-to k r + 2 ^ k)
+down-passes n r k h =
     let l : r + 1 ≤ r / 2 ^ k * 2 ^ k + 2 ^ k = omega (arith, div-add-mod' r (2 ^ k), mod-lt r (pow-pos k)) in
     lt-of-lt-of-le h (mul-le-mul l l)
 
@@ -64,8 +64,8 @@ root-down : (n r k : ℕ) → Is-root n r → r / 2 ^ k ≡ root (n / 4 ^ k)
 root-down n r k i =
     let q = r / 2 ^ k in
     let p = one-le-pow k 4 (lit< tt) in
-    let a : q * q * 4 ^ k ≤ n = rw (fours k) (omega (arith, low n r k (i .low))) in
-    let b : n < (q + 1) * (q + 1) * 4 ^ k = rw (fours k) (omega (arith, high n r k (i .high))) in
+    let a : q * q * 4 ^ k ≤ n = rw (fours k) (omega (arith, down-fits n r k (i .low))) in
+    let b : n < (q + 1) * (q + 1) * 4 ^ k = rw (fours k) (omega (arith, down-passes n r k (i .high))) in
     root-is _ _ (record { low = le-div-iff-mul-le p .1 a; high = div-lt-iff-lt-mul p .1 b })
 
 -- ---- at each place
@@ -80,19 +80,28 @@ tried-is k r =
     let e : q ≡ 2 * (q / 2) + q % 2 = omega arith in
     rw (halved k r, next-power 2 k) (omega (arith, ap (λ (t : ℕ). t * 2 ^ k) e))
 
-tried-kept : (k r : ℕ) → bit k r ≡ 1 → down-to k r ≡ tried k r
-tried-kept k r e = let f : bit k r * 2 ^ k ≡ 1 * 2 ^ k = ap (λ (t : ℕ). t * 2 ^ k) e in omega (arith, tried-is k r)
-
-tried-dropped : (k r : ℕ) → bit k r ≡ 0 → down-to k r + 2 ^ k ≡ tried k r
-tried-dropped k r e = let f : bit k r * 2 ^ k ≡ 0 * 2 ^ k = ap (λ (t : ℕ). t * 2 ^ k) e in omega (arith, tried-is k r)
+-- a bit that is not 1 is 0
+right-bit : (n r k : ℕ) → Is-root n r → Right-bit n r k
+right-bit n r k i = go (decLe 1 (bit k r))
+  where
+    go : Dec (1 ≤ bit k r) → Right-bit n r k
+    go (yes h) =
+        let e : bit k r ≡ 1 = omega arith in
+        let f : bit k r * 2 ^ k ≡ 1 * 2 ^ k = ap (λ (t : ℕ). t * 2 ^ k) e in
+        let d : down-to k r ≡ tried k r = omega (arith, tried-is k r) in
+        kept-fits e (subst (λ (t : ℕ). t * t ≤ n) d (down-fits n r k (i .low)))
+    go (no f) =
+        let e : bit k r ≡ 0 = omega arith in
+        let f : bit k r * 2 ^ k ≡ 0 * 2 ^ k = ap (λ (t : ℕ). t * 2 ^ k) e in
+        let d : down-to k r + 2 ^ k ≡ tried k r = omega (arith, tried-is k r) in
+        dropped-passes e (subst (λ (t : ℕ). n < t * t) d (down-passes n r k (i .high)))
 
 every-bit : (n : ℕ) → Every-bit n (root n)
 every-bit n =
     let i = root-spec n in
     record {
       found = λ k. subst (Bits (n / 4 ^ k)) (sym (root-down n (root n) k i)) (bits-of (n / 4 ^ k));
-      kept-fits = λ k e. subst (λ (t : ℕ). t * t ≤ n) (tried-kept k (root n) e) (low n (root n) k (i .low));
-      dropped-passes = λ k e. subst (λ (t : ℕ). n < t * t) (tried-dropped k (root n) e) (high n (root n) k (i .high));
+      right = λ k. right-bit n (root n) k i;
     }
 
 pub by-bits : By-bits

@@ -35,13 +35,17 @@ bit k r = r / 2 ^ k % 2
 abbrev pub tried : ℕ → ℕ → ℕ
 tried k r = r / 2 ^ (k + 1) * 2 ^ (k + 1) + 2 ^ k
 
+-- The bit at place k is right: it is 1, kept, and leaves the square at or below the number; or it is 0, dropped, and a 1 there would make the
+-- square greater than the number.
+pub data Right-bit (n r k : ℕ) : Type 0 where
+  kept-fits : bit k r ≡ 1 → tried k r * tried k r ≤ n → Right-bit n r k
+  dropped-passes : bit k r ≡ 0 → n < tried k r * tried k r → Right-bit n r k
+
 pub record Every-bit (n r : ℕ) : Type 0 where
   -- When the number has been read down to place k, the steps have found the root's bits down to there.
   pub found : (k : ℕ) → Bits (n / 4 ^ k) (r / 2 ^ k)
-  -- A bit that is kept leaves the square at or below the number.
-  pub kept-fits : (k : ℕ) → bit k r ≡ 1 → tried k r * tried k r ≤ n
-  -- A bit that is dropped would make the square greater than the number.
-  pub dropped-passes : (k : ℕ) → bit k r ≡ 0 → n < tried k r * tried k r
+  -- No place has a bit that is wrong.
+  pub right : (k : ℕ) → Right-bit n r k
 
 -- What the steps find is the floor root and nothing else, and every bit of every floor root is right.
 pub record By-bits : Type 0 where

@@ -31,12 +31,10 @@ value : (c : tie.After-abs3) → N c
     +ℤ c .before .before .before .args .y *ℤ c .before .before .before .args .y +ℤ c .before .before .before .args .z *ℤ c .before .before .before .args .z)
 value c =
     let s = c .before .before .before in
-    rw (
-      rw (back (s .args .x) (s .fits .x)) at (c .before .before .abs .ensures),
-      rw (back (s .args .y) (s .fits .y)) at (c .before .abs2 .ensures),
-      rw (back (s .args .z) (s .fits .z)) at (c .abs3 .ensures),
-    )
-    (sym (squares-value (s .args .x) (s .args .y) (s .args .z)))
+    let x : c .before .before .abs .result ≡ natAbs (s .args .x) = c .before .before .abs .ensures ∙ ap natAbs (back (s .args .x) (s .fits .x)) in
+    let y : c .before .abs2 .result ≡ natAbs (s .args .y) = c .before .abs2 .ensures ∙ ap natAbs (back (s .args .y) (s .fits .y)) in
+    let z : c .abs3 .result ≡ natAbs (s .args .z) = c .abs3 .ensures ∙ ap natAbs (back (s .args .z) (s .fits .z)) in
+    rw (x, y, z) (sym (squares-value (s .args .x) (s .args .y) (s .args .z)))
 
 room : (c : tie.After-abs3) → N c < 2 ^ 92
 room c = subst (λ (n : ℕ). n < 2 ^ 92) (sym (value c)) (c .before .before .before .pre)
@@ -48,7 +46,7 @@ two-words h = omega arith
 squares-requires : tie.Need-squares-requires
 squares-requires c κs = two-words (room c)
 
-words : (c : tie.After-squares) → Divided (N (c .before)) (word) (c .squares .result .high) (c .squares .result .low)
+words : (c : tie.After-squares) → Divided (N (c .before)) word (c .squares .result .high) (c .squares .result .low)
 words c = divided _ _ _ _ (lit< tt) (c .squares .ensures)
 
 floor-root-requires : tie.Need-floor-root-requires

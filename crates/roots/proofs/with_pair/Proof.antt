@@ -4,7 +4,6 @@ use mathlib.Core.Path.{_∙_}
 use Prim.Native.Nat.{_+_, _*_, _≤_, _<_}
 use native.Mathlib.Omega.{arith}
 use borrow.Author.Needs.{needs}
-use Rattle.roots.specs.machine.Word.{word}
 use Rattle.roots.proofs.Bits.{rest-small, Chosen, one, nought, bit-small, growth-fits, pair-worked}
 use Rattle.roots.proofs.with_pair.Statement.{statement}
 use Rattle.roots.proofs.with_pair.Tie as tie
@@ -21,7 +20,6 @@ chosen c =
     let s = c .before .before .before in
     let w = s .args .w in
     let small : w .rest ≤ 2 * w .root = rest-small (s .pre .0) in
-    let range : w .root < word = s .pre .1 in
     ⊎-elim
     (λ k. one (omega (arith, k .0 .taken)) (k .1) (k .2 ∙ omega arith))
     (λ k. nought (omega (arith, k .0 .left)) (k .1) (k .2))
@@ -41,7 +39,6 @@ returns c =
     let s = j .before .before .before in
     let w = s .args .w in
     let small : w .rest ≤ 2 * w .root = rest-small (s .pre .0) in
-    let range : w .root < word = s .pre .1 in
     let fits : j .if1 .growth ≤ 4 * w .rest + s .args .pair = growth-fits (chosen j) in
     pair-worked _ (s .pre .0) (s .pre .2) (chosen j) (omega arith) (omega arith)
 

@@ -12,7 +12,7 @@ abbrev Inv-loop : tie.InvT-loop
 Inv-loop next w₀ left₀ done₀ w left done = Reading (read w₀ * word + next) w left done
 
 abbrev μ-loop : tie.MeasureT-loop
-μ-loop next w₀ left₀ done₀ w left done = pairs - done
+μ-loop next w₀ left₀ done₀ w left done = pairs + 1 - done
 
 -- the number with all of the word is one of two words
 whole-below : (c : tie.Start Inv-loop μ-loop) → read (c .args .start) * word + c .args .next < word * word

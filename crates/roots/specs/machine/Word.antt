@@ -1,4 +1,4 @@
--- The two words that hold a number: the upper one counts this many, and both are below it.
+-- A number in two words: the upper one counts multiples of this, and each of them is below it.
 use Prim.Native.Nat.{ℕ, _^_}
 
 abbrev pub word : ℕ
