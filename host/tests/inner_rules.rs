@@ -134,8 +134,8 @@ fn worked_root() {
     assert_eq!(root_of(vector), root);
 }
 
-/// Squares, and 1 less than a square, from the least to near the greatest sum that is taken, whose components reach 2^45: the squares
-/// of 2mm, 2m and 1 are (2mm + 1)(2mm + 1) together, and without the 1 they are just below it.
+/// Squares, and 1 less than a square, up to near 2^90, and the greatest sum that is taken, of three components of 2^45. The squares of
+/// 2mm, 2m and 1 are (2mm + 1)(2mm + 1) together, and without the 1 they are just below it.
 #[test]
 fn roots_at_a_square() {
     const REACH: i64 = 1 << 45;
@@ -148,6 +148,7 @@ fn roots_at_a_square() {
         assert_eq!(root_of([0, -greatest, 0]), greatest, "m = {m}");
     }
     assert!(REACH - REACH / 100 < greatest && greatest <= REACH);
+    assert_eq!(root_of([REACH; 3]), 60_941_120_090_265);
     for shift in 0..=45 {
         for x in [(1 << shift) - 1, 1 << shift] {
             assert_eq!(root_of([x, 0, 0]), x);

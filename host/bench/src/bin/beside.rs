@@ -2,42 +2,55 @@
 //!
 //! `cargo build --release` makes this program and `bench`. `beside FORMER [words]` then runs FORMER, a kept copy of an earlier `bench`, and
 //! the `bench` that stands beside this program, in turn, several times, each with `--quick` and the words that choose lines. It prints
-//! the medians and their ratio.
+//! the least times and their ratio, since what others do on the machine only adds to a time. A line that only one of the two builds has
+//! is without a ratio. Fewer lines make shorter turns, so that a slow minute of the machine meets both builds.
 
-use std::collections::BTreeMap;
 use std::path::{Path, PathBuf};
 use std::process::Command;
 
-const TURNS: usize = 7;
+const TURNS: usize = 21;
 
 /// Columns of a line of the benchmark: a name, a unit, and then the figures, the library's first.
 const NAME: usize = 40;
 const UNIT: usize = 5;
 const FIGURE: usize = 11;
 
-/// The readings of each line, in the order in which the lines are printed.
-type Readings = BTreeMap<(usize, String), Vec<f64>>;
+/// The unit of the lines that say how much is read in a second. They are left out: other lines have the time of the same work.
+const SPEED: &str = "MB/s";
 
-/// The library's figure, if this is a line with figures.
+/// The least time of each line, in the order in which the lines are printed.
+type Times = Vec<(String, f64)>;
+
+/// The library's time, if this is a line with one.
 fn reading(line: &str) -> Option<(String, f64)> {
-    let name = format!("{} ({})", line.get(..NAME)?.trim_end(), line.get(NAME..NAME + UNIT)?.trim());
+    let unit = line.get(NAME..NAME + UNIT)?.trim();
+    if unit == SPEED {
+        return None;
+    }
+    let name = format!("{} ({unit})", line.get(..NAME)?.trim_end());
     Some((name, line.get(NAME + UNIT..NAME + UNIT + FIGURE)?.trim().parse().ok()?))
 }
 
-fn measure(program: &Path, words: &[String], readings: &mut Readings) {
+fn measure(program: &Path, words: &[String], times: &mut Times) {
     let output = Command::new(program).arg("--quick").args(words).output();
     let output = output.unwrap_or_else(|error| panic!("{}: {error}", program.display()));
     assert!(output.status.success(), "{} failed", program.display());
     let text = String::from_utf8(output.stdout).expect("the benchmark writes text");
-    for (number, (name, figure)) in text.lines().filter_map(reading).enumerate() {
-        readings.entry((number, name)).or_default().push(figure);
+    for (name, time) in text.lines().filter_map(reading) {
+        match times.iter_mut().find(|(known, _)| *known == name) {
+            Some((_, least)) => *least = least.min(time),
+            None => times.push((name, time)),
+        }
     }
+    assert!(!times.is_empty(), "{} has no line with these words", program.display());
 }
 
-fn median(readings: &[f64]) -> f64 {
-    let mut sorted = readings.to_vec();
-    sorted.sort_by(f64::total_cmp);
-    sorted[sorted.len() / 2]
+fn time_of(times: &Times, name: &str) -> Option<f64> {
+    times.iter().find(|(known, _)| known == name).map(|(_, time)| *time)
+}
+
+fn figure(value: Option<f64>) -> String {
+    value.map_or("-".to_string(), |v| format!("{v:.2}"))
 }
 
 fn main() {
@@ -45,15 +58,16 @@ fn main() {
     let former = PathBuf::from(words.next().expect("the former benchmark's path"));
     let words: Vec<String> = words.collect();
     let this = std::env::current_exe().expect("this program has a path").with_file_name("bench");
-    let (mut before, mut after) = (Readings::new(), Readings::new());
+    let (mut before, mut after) = (Times::new(), Times::new());
     for _ in 0..TURNS {
         measure(&former, &words, &mut before);
         measure(&this, &words, &mut after);
     }
-    println!("{:<48}{:>11}{:>11}{:>8}", "the library, medians", "before", "after", "ratio");
-    for (line, readings) in &before {
-        let Some(others) = after.get(line) else { continue };
-        let (before, after) = (median(readings), median(others));
-        println!("{:<48}{before:>11.2}{after:>11.2}{:>8.3}", line.1, after / before);
+    println!("{:<48}{:>11}{:>11}{:>8}", "the library, least times", "before", "after", "ratio");
+    let new = after.iter().filter(|(name, _)| time_of(&before, name).is_none());
+    for (name, _) in before.iter().chain(new) {
+        let (before, after) = (time_of(&before, name), time_of(&after, name));
+        let ratio = before.zip(after).map(|(before, after)| after / before);
+        println!("{name:<48}{:>11}{:>11}{:>8}", figure(before), figure(after), figure(ratio));
     }
 }
