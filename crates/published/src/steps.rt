@@ -16,12 +16,12 @@ use published_records::rows::fresh_row;
 use published_records::rows::lex_row;
 use published_records::rows::whole_row;
 use series_lines::ACCEPTED;
+use series_lines::LAST_OFFSET;
 use series_lines::READING;
 use series_lines::Reader;
 use series_lines::judge::term_line_refusal;
 use series_lines::lexer::SPOT_AFTER;
 use series_lines::lexer::SPOT_BAD;
-use series_lines::steps::LAST_OFFSET;
 use series_lines::steps::advance;
 use series_lines::steps::in_line;
 use series_lines::steps::less_one;
@@ -114,7 +114,7 @@ fn end_record(p: Published, out: &mut [u8]) -> Reader
     if refusal != 0 {
         return stop(r, refusal);
     }
-    let put = put_term(line, out, r.written);
+    let put = put_term(line, out, r.written, true);
     match put {
         Put::NoRoom(_) => stop(r, NO_ROOM),
         Put::Next(next) => {

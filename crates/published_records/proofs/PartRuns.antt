@@ -1,17 +1,17 @@
 -- Digits after a decimal's point, taken in a run, leave what a step for each leaves. Assumes nothing.
-use mathlib.Core.Path.{_≡_, refl, sym, ap, _∙_}
+use mathlib.Core.Path.{_≡_, refl, sym, ap, subst, _∙_}
 use mathlib.Core.Bool.{Bool, false}
 use mathlib.Core.List.{List, [], _∷_}
 use Prim.Native.Nat.{ℕ, _+_, _*_, _-_, _≤_, _<_}
 use native.Mathlib.Omega.{arith}
 use borrow.Author.Tests.{ne-eqb, lt-ltb, le-ltb, le-leb, lt-leb, ltb-true, ltb-false, leb-true, leb-false}
 use lib.Dec.{leb, ltb}
-use lib.ListN.{getD}
+use lib.ListN.{length, getD}
 use Rattle.integers.proofs.Tests.{by-cases}
 use Rattle.series_lines.specs.declared.Line.{Line}
 use Rattle.series_lines.specs.Grammar.{digit-0, part-digits}
 use Rattle.series_lines.specs.Lexer.{spot-done, put, lex}
-use Rattle.series_lines.specs.machine.Parts.{run-end, Part-at}
+use Rattle.series_lines.specs.machine.Parts.{run-end, Run-stop, Part-at}
 use Rattle.series_lines.proofs.DigitRuns.{short, lex-part}
 use Rattle.published_records.specs.declared.Row.{Row}
 use Rattle.published_records.specs.declared.Column.the-variants.{Part}
@@ -142,8 +142,8 @@ rebuilt : (r : Row) (column : ℕ) → column ≡ r .column
     → record { column = column; line = r .line; version = r .version; coordinate = r .coordinate; power = r .power; number = r .number } ≡ r
 rebuilt r column e = rw e
 
-pub parted-none : (r : Row) (text : List ℕ) (from : ℕ) → Parts-ahead r → Parted r text from (r .line .spot) (r .line .value) from
-parted-none r text from a =
+parted-first : (r : Row) (text : List ℕ) (from : ℕ) → Parts-ahead r → Parted r text from (r .line .spot) (r .line .value) from
+parted-first r text from a =
     let e = rebuilt r (r .column + (r .line .spot - r .line .spot)) (omega arith) in
     record {
       spots = omega arith;
@@ -151,31 +151,50 @@ parted-none r text from a =
       takes = rw e (takes-none false r text from);
     }
 
-module _ (r : Row) (text : List ℕ) (from spot value i : ℕ) (a : Parts-ahead r) (p : Parted r text from spot value i) where
-  pub parted-more : Part-at text i spot value (run-end (r .line .minus)) → Parted r text from (spot + 1) (10 * value + (getD text i 0 - digit-0)) (i + 1)
-  parted-more d =
+module _ (r : Row) (text : List ℕ) (from spot value i stop : ℕ) (a : Parts-ahead r) (t : Run-stop text from (r .line .spot) (r .line .minus) stop)
+    (p : Parted r text from spot value i) where
+  parted-next : Part-at text i stop value → Parted r text from (spot + 1) (10 * value + (getD text i 0 - digit-0)) (i + 1)
+  parted-next d =
       let l = r .line in
+      let before : spot < run-end (l .minus) = omega (arith, p .takes .onward, p .spots, d .early, t .short) in
+      let inside : i < length text = omega (arith, d .early, t .within) in
       let byte = getD text i 0 in
       let more = 10 * value + (byte - digit-0) in
-      let early : spot < spot-done = omega (arith, d .early, short (l .minus)) in
+      let early : spot < spot-done = omega (arith, before, short (l .minus)) in
       let on : l .spot ≤ spot = omega (arith, p .spots) in
       let s = row-at r spot value in
       let k = part-column (r .column) (spot - l .spot) (omega (arith, a .room, early, on)) in
       let c : r .column + (spot + 1 - l .spot) ≡ r .column + (spot - l .spot) + 1 = omega arith in
       let with : ℕ → Line → Row = λ (n : ℕ) (m : Line).
       record { column = n; line = m; version = r .version; coordinate = r .coordinate; power = r .power; number = r .number } in
-      let q = lex-part (put l spot (l .minus) value) byte (omega (arith, a .begun, on)) (d .early) (d .small) (d .least) (d .most) in
+      let q = lex-part (put l spot (l .minus) value) byte (omega (arith, a .begun, on)) before (d .small) (d .least) (d .most) in
       let e : row-at r (spot + 1) more ≡ lex-row false s byte =
       ap (λ (n : ℕ). with n (put l (spot + 1) (l .minus) more)) (c ∙ sym (next-one (r .column + (spot - l .spot)) (k .below)))
       ∙ ap (with (next-column (r .column + (spot - l .spot)))) q
       ∙ sym (step-part s byte k) in
-      let one = takes-one false s (row-at r (spot + 1) more) text i byte (d .inside) refl e
+      let one = takes-one false s (row-at r (spot + 1) more) text i byte inside refl e
       (λ z. omega (arith, z, d .least)) (λ z. omega (arith, z, early)) in
       record {
         spots = omega (arith, p .spots, p .takes .onward);
         most = omega (arith, early);
         takes = takes-then false r s (row-at r (spot + 1) more) text from i (i + 1) (p .takes) one;
       }
+
+-- The loop holds only the value and i: the spot follows from i.
+abbrev pub Run-parted : Row → List ℕ → ℕ → ℕ → ℕ → Type 0
+Run-parted r text from value i = Parted r text from (r .line .spot + (i - from)) value i
+
+pub parted-none : (r : Row) (text : List ℕ) (from : ℕ) → Parts-ahead r → Run-parted r text from (r .line .value) from
+parted-none r text from a =
+    let e : r .line .spot ≡ r .line .spot + (from - from) = omega arith in
+    subst (λ (n : ℕ). Parted r text from n (r .line .value) from) e (parted-first r text from a)
+
+pub parted-more : (r : Row) (text : List ℕ) (from value i stop : ℕ) → Parts-ahead r → Run-stop text from (r .line .spot) (r .line .minus) stop
+    → Run-parted r text from value i → Part-at text i stop value → Run-parted r text from (10 * value + (getD text i 0 - digit-0)) (i + 1)
+parted-more r text from value i stop a t p d =
+    let e : r .line .spot + (i - from) + 1 ≡ r .line .spot + (i + 1 - from) = omega (arith, p .takes .onward) in
+    subst (λ (n : ℕ). Parted r text from n (10 * value + (getD text i 0 - digit-0)) (i + 1)) e
+    (parted-next r text from (r .line .spot + (i - from)) value i stop a t p d)
 
 -- Where the record goes on there is no line feed.
 no-feed : (heading : Bool) (r : Row) (bytes : List ℕ) → Runs-on heading r bytes → No-feed bytes

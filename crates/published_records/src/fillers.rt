@@ -8,7 +8,7 @@ use crate::columns::NUMBER_LAST;
 use crate::columns::POWER_COLUMN;
 use crate::columns::VERSION_COLUMN;
 use crate::rows::COLUMN_LIMIT;
-use series_lines::steps::LAST_OFFSET;
+use series_lines::LAST_OFFSET;
 ghost use mathlib.Core.Path.{_≡_};
 ghost use lib.ListN.{length};
 ghost use Prim.Native.Nat.{_-_, _≤_};

@@ -10,7 +10,7 @@ use series_lines::lexer::SPOT_DONE;
 use series_lines::lexer::SPOT_POINT;
 use series_lines::lexer::put;
 use series_lines::parts::part_at;
-use series_lines::parts::run_end;
+use series_lines::parts::run_stop;
 ghost use mathlib.Core.Path.{_≡_};
 ghost use mathlib.Core.Bool.{false, true};
 ghost use Prim.Native.Nat.{_≤_};
@@ -84,17 +84,15 @@ pub fn take_parts(row: Row, text: &[u8], from: usize) -> Skipped
     ensures { λ s. ⌜ Skips false row (now (text .entry)) from (s .row) (s .next) ⌝ }
 {
     let l = row.line;
-    let end = run_end(l.minus);
-    let mut spot = l.spot;
+    let stop = run_stop(text, from, l.spot, l.minus);
     let mut value = l.value;
     let mut i = from;
-    while part_at(text, i, spot, value, end) {
+    while part_at(text, i, stop, value) {
         value = 10 * value + (text[i] - b'0') as u64;
-        spot = spot + 1;
         i = i + 1;
     }
     Skipped {
-        row: come_to(row, spot, value),
+        row: come_to(row, l.spot + (i - from) as u64, value),
         next: i,
     }
 }

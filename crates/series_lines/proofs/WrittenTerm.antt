@@ -1,22 +1,25 @@
 -- Numbers stored one after the other, a decimal folded, and what the writer of a term answers. Assumes nothing.
 use mathlib.Core.Path.{_≡_, refl, sym, ap, _∙_}
-use mathlib.Core.Bool.{Bool, true, false}
+use mathlib.Core.Bool.{Bool, true, false, cond}
 use mathlib.Core.List.{List, [], _∷_, _++_}
 use Prim.Native.Nat.{ℕ, zero, suc, _+_, _*_, _-_, _≤_, _<_}
 use native.Mathlib.Nat.{add-zero, add-assoc}
 use native.Mathlib.Omega.{arith}
 use borrow.Author.Tests.{le-ltb, lt-ltb, le-leb, lt-leb}
-use lib.Dec.{ltb}
+use lib.Dec.{ltb, leb}
 use lib.ListN.{length, set, length-append}
 use lib.Seq.{sets}
 use Rattle.integers.specs.Signs.{sgn}
+use Rattle.packed_numbers.specs.declared.Put.{Put}
 use Rattle.packed_numbers.specs.declared.Put.the-variants.{Next, NoRoom}
 use Rattle.packed_numbers.specs.Numbers.{folded, encode}
 use Rattle.limits.specs.declared.Term.{Term}
 use Rattle.packed.specs.Series.{pack-term}
 use Rattle.series_lines.specs.Judge.{signed}
-use Rattle.series_lines.specs.Reader.{fits, put-bytes}
+use Rattle.series_lines.specs.Reader.{fits, put-bytes, last-offset}
 use Rattle.series_lines.specs.machine.Writer.{three-packed, put-bytes-answer}
+use Rattle.series_lines.specs.machine.Modes.{has-room, kept-answer, kept-out}
+use Rattle.packed_numbers.specs.machine.Answers.{room-for, put-answer, put-out}
 
 pub sets-append : (xs ys l : List ℕ) (i : ℕ) → sets l i (xs ++ ys) ≡ sets (sets l i xs) (i + length xs) ys
 sets-append [] ys l i = rw (add-zero i)
@@ -80,3 +83,20 @@ module _ (bytes : List ℕ) (at : ℕ) (out : List ℕ) where
       → (Next n ≡ put-bytes-answer bytes at out) × (after ≡ put-bytes bytes at out)
   unfolding fits put-bytes
   put-next n after h e w = let f = le-leb (at + length bytes) (length out) h in (rw (f, e), rw (f, w))
+
+-- The same for a call that writes, and for one that only counts the bytes.
+module _ (writes : Bool) (bytes : List ℕ) (at : ℕ) (p : Put) (out : List ℕ) where
+  pub kept-written : (after : List ℕ) → writes ≡ true → (p ≡ put-bytes-answer bytes at out) × (after ≡ put-bytes bytes at out)
+      → (p ≡ kept-answer writes bytes at out) × (after ≡ kept-out writes bytes at out)
+  unfolding has-room kept-out
+  kept-written after w e = (e .0 ∙ rw w, e .1 ∙ rw w)
+
+  pub kept-counted : (n : ℕ) → writes ≡ false → n ≡ length bytes → p ≡ cond (leb (at + n) last-offset) (Next (at + n)) (NoRoom n)
+      → (p ≡ kept-answer writes bytes at out) × (out ≡ kept-out writes bytes at out)
+  unfolding has-room kept-out
+  kept-counted n w e f = (f ∙ rw (w, e), rw w)
+
+-- A number is put as its bytes are.
+pub number-put : (v at : ℕ) (out : List ℕ) → (put-answer v at out ≡ put-bytes-answer (encode v) at out) × (put-out v at out ≡ put-bytes (encode v) at out)
+unfolding put-answer put-out room-for fits put-bytes
+number-put v at out = (refl, refl)

@@ -104,12 +104,17 @@ after-line r v = advanced r (r .written + length (v .bytes)) (v .blocks) (v .lef
 unfoldable pub fits : List ℕ → ℕ → List ℕ → Bool
 fits bytes written out = leb (written + length bytes) (length out)
 
--- The reader after the judgement of a line: refused also where its bytes do not fit.
+-- The reader after the judgement of a line: refused also where there is no room for its bytes.
+abbrev pub settled : Bool → Reader → Verdict → Reader
+settled room r v = cond (eqb (v .refusal) 0) (cond room (after-line r v) (stopped r no-room)) (stopped r (v .refusal))
+
+-- Where they are written.
 unfoldable pub wrote : Reader → List ℕ → Verdict → Reader
-wrote r out v =
-    cond (eqb (v .refusal) 0)
-    (cond (fits (v .bytes) (r .written) out) (after-line r v) (stopped r no-room))
-    (stopped r (v .refusal))
+wrote r out v = settled (fits (v .bytes) (r .written) out) r v
+
+-- Where nothing is written, as if there were an output of so many bytes.
+unfoldable pub judged : ℕ → Reader → Verdict → Reader
+judged room r v = settled (leb (r .written + length (v .bytes)) room) r v
 
 -- The output with the bytes, where there is room for them.
 unfoldable pub put-bytes : List ℕ → ℕ → List ℕ → List ℕ

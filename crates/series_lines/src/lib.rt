@@ -16,6 +16,9 @@ pub const READING: u64 = 0;
 
 pub const ACCEPTED: u64 = 1;
 
+// The greatest offset; specs/Reader.antt has the same name.
+pub const LAST_OFFSET: usize = 18446744073709551615;
+
 // A line as far as it is read: where the next byte stands (specs/Lexer.antt), how many decimals stand before this one, the decimal or
 // count so far, with 1 for a minus, and the two decimals before it, in parts.
 #[repr(C)]

@@ -9,22 +9,20 @@ use crate::lexer::SPOT_AFTER;
 use crate::lexer::SPOT_COUNT;
 use crate::lexer::SPOT_DECIMAL;
 use crate::lexer::fresh_line;
+use crate::writer::put_count;
 use crate::writer::put_term;
 use limits::Tally;
 use limits::add_term;
 use limits::block_factor;
 use limits::open_block;
 use packed_numbers::Put;
-use packed_numbers::put_number;
 use units::BLOCK_COUNT;
 use units::NO_ROOM;
 ghost use mathlib.Core.Path.{_≡_};
 ghost use Prim.Native.Nat.{_+_, _-_, _<_};
 ghost use Rattle.series_lines.specs.Judge.{count-end, term-end};
-ghost use Rattle.series_lines.specs.Reader.{last-offset, stopped, next-spot, advanced, in-line, wrote, wrote-out};
-
-// The greatest offset; specs/Reader.antt has the same name.
-pub const LAST_OFFSET: usize = 18446744073709551615;
+ghost use Rattle.series_lines.specs.Reader.{last-offset, stopped, next-spot, advanced, in-line};
+ghost use Rattle.series_lines.specs.machine.Modes.{line-ended, line-left};
 
 // The reader with its answer.
 pub fn stop(r: Reader, status: u64) -> Reader
@@ -78,10 +76,10 @@ pub fn advance(r: Reader, written: usize, blocks: u64, left: u64, s: Tally) -> R
     }
 }
 
-// The line feed of a count.
-pub fn end_count(r: Reader, out: &mut [u8]) -> Reader
+// The line feed of a count. Here and below, where a call does not write it only judges, and its output is not touched.
+pub fn end_count(r: Reader, out: &mut [u8], writes: bool) -> Reader
     requires { ⌜ r .at < last-offset ⌝ }
-    ensures { λ s. ⌜ (s ≡ wrote r (now (out .entry)) (count-end r)) × (now (out .exit) ≡ wrote-out r (now (out .entry)) (count-end r)) ⌝ }
+    ensures { λ s. ⌜ (s ≡ line-ended writes r (now (out .entry)) (count-end r)) × (now (out .exit) ≡ line-left writes r (now (out .entry)) (count-end r)) ⌝ }
 {
     let l = r.line;
     let n = l.value;
@@ -95,7 +93,7 @@ pub fn end_count(r: Reader, out: &mut [u8]) -> Reader
     if refusal != 0 {
         return stop(r, refusal);
     }
-    let put = put_number(n, out, r.written);
+    let put = put_count(n, out, r.written, writes);
     match put {
         Put::NoRoom(_) => stop(r, NO_ROOM),
         Put::Next(next) => advance(r, next, blocks + 1, n, open_block(blocks, n, s)),
@@ -113,9 +111,9 @@ pub fn less_one(n: u64) -> u64
 }
 
 // The line feed of a term.
-pub fn end_term(r: Reader, out: &mut [u8]) -> Reader
+pub fn end_term(r: Reader, out: &mut [u8], writes: bool) -> Reader
     requires { ⌜ r .at < last-offset ⌝ }
-    ensures { λ s. ⌜ (s ≡ wrote r (now (out .entry)) (term-end r)) × (now (out .exit) ≡ wrote-out r (now (out .entry)) (term-end r)) ⌝ }
+    ensures { λ s. ⌜ (s ≡ line-ended writes r (now (out .entry)) (term-end r)) × (now (out .exit) ≡ line-left writes r (now (out .entry)) (term-end r)) ⌝ }
 {
     let l = r.line;
     let s = Tally {
@@ -128,7 +126,7 @@ pub fn end_term(r: Reader, out: &mut [u8]) -> Reader
     if refusal != 0 {
         return stop(r, refusal);
     }
-    let put = put_term(l, out, r.written);
+    let put = put_term(l, out, r.written, writes);
     match put {
         Put::NoRoom(_) => stop(r, NO_ROOM),
         Put::Next(next) => {

@@ -29,14 +29,18 @@ verdict r = cond (whole-count (r .line)) (count-end r) (cond (whole-term (r .lin
 unfoldable pub other : Reader → ℕ → Reader
 other r byte = cond (eqb (lex (r .line) byte .spot) spot-bad) (stopped r bad-byte) (further-in-line r (lex (r .line) byte))
 
--- The reader after one byte. One that has stopped stays as it is; after block 18 every byte is refused.
-unfoldable pub step : Reader → List ℕ → ℕ → Reader
-step r out byte =
+-- The reader after one byte, given what a line feed leads to. One that has stopped stays as it is; after block 18 every byte is refused.
+abbrev pub stepped : Reader → ℕ → Reader → Reader
+stepped r byte fed =
     cond (eqb (r .status) reading)
     (cond (uncounted r) (stopped r bad-byte)
     (cond (eqb (r .line .spot) spot-after) (stopped r byte-after-end)
-    (cond (eqb byte feed) (wrote r out (verdict r)) (other r byte))))
+    (cond (eqb byte feed) fed (other r byte))))
     r
+
+-- The reader after one byte.
+unfoldable pub step : Reader → List ℕ → ℕ → Reader
+step r out byte = stepped r byte (wrote r out (verdict r))
 
 -- The output after one byte.
 unfoldable pub step-out : Reader → List ℕ → ℕ → List ℕ

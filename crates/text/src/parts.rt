@@ -1,12 +1,12 @@
 // The digits after a decimal's point, which most bytes of a text are, taken in a run: the loop holds only what a digit changes.
+use series_lines::LAST_OFFSET;
 use series_lines::READING;
 use series_lines::Reader;
 use series_lines::lexer::PART_DIGITS;
 use series_lines::lexer::SPOT_POINT;
 use series_lines::lexer::put;
 use series_lines::parts::part_at;
-use series_lines::parts::run_end;
-use series_lines::steps::LAST_OFFSET;
+use series_lines::parts::run_stop;
 use series_lines::steps::in_line;
 ghost use mathlib.Core.Path.{_≡_};
 ghost use mathlib.Core.Bool.{true};
@@ -46,15 +46,14 @@ pub fn take_parts(r: Reader, text: &[u8], from: usize) -> Taken
         };
     }
     let l = r.line;
-    let end = run_end(l.minus);
-    let mut spot = l.spot;
+    let stop = run_stop(text, from, l.spot, l.minus);
     let mut value = l.value;
     let mut i = from;
-    while part_at(text, i, spot, value, end) {
+    while part_at(text, i, stop, value) {
         value = 10 * value + (text[i] - b'0') as u64;
-        spot = spot + 1;
         i = i + 1;
     }
+    let spot = l.spot + (i - from) as u64;
     Taken {
         reader: in_line(r, put(l, spot, l.minus, value), r.at + (i - from)),
         next: i,

@@ -1,4 +1,5 @@
 -- What the code asks of a reader that takes digits after a decimal's point in a run. Held by the code, no part of the rules.
+use mathlib.Core.Bool.{Bool}
 use mathlib.Core.List.{List}
 use mathlib.Core.Path.{_≡_}
 use Prim.Native.Nat.{ℕ, _+_, _≤_}
@@ -7,7 +8,7 @@ use Rattle.series_lines.specs.declared.Reader.{Reader}
 use Rattle.series_lines.specs.Grammar.{part-digits}
 use Rattle.series_lines.specs.Lexer.{spot-point}
 use Rattle.series_lines.specs.Reader.{reading, last-offset}
-use Rattle.text.specs.Reader.{run}
+use Rattle.text.specs.machine.Modes.{passed}
 
 -- A reader that stands after a point and can count all the parts.
 pub record After-point (r : Reader) : Type 0 where
@@ -19,4 +20,4 @@ pub record After-point (r : Reader) : Type 0 where
 -- A reader s that goes on from next as r does from an index before it.
 pub record Goes-on (r : Reader) (text : List ℕ) (from : ℕ) (s : Reader) (next : ℕ) : Type 0 where
   pub onward : from ≤ next
-  pub same : (out : List ℕ) → run s out (drop next text) ≡ run r out (drop from text)
+  pub same : (writes : Bool) (out : List ℕ) → passed writes s out (drop next text) ≡ passed writes r out (drop from text)

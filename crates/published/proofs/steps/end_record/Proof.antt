@@ -8,6 +8,7 @@ use Rattle.units.specs.Refusals.{bad-number}
 use Rattle.limits.specs.Limits.{factor, added}
 use Rattle.series_lines.specs.Judge.{tally, term-on-line, term-line-refusal}
 use Rattle.series_lines.proofs.LineLimits.{line-added, line-may-come, line-small}
+use Rattle.series_lines.specs.machine.Modes.{has-room, kept-out}
 use Rattle.series_lines.proofs.Branches.{wrote-refused, wrote-full, wrote-next}
 use Rattle.published.specs.Reader.{record-end}
 use Rattle.published.proofs.Branches.{record-wrong, record-as-line}
@@ -101,6 +102,7 @@ same-length : tie.Need-same-length
 same-length c = search needs
 
 returns-3 : tie.Need-returns-3
+unfolding has-room kept-out
 returns-3 c =
     let w = c .before .before .before .before .before in
     let e = w .before .before in
@@ -112,6 +114,7 @@ same-length-2 : tie.Need-same-length-2
 same-length-2 c = search needs
 
 returns-4 : tie.Need-returns-4
+unfolding has-room kept-out
 returns-4 c =
     let w = c .before .before .before .before .before .before .before .before in
     let e = w .before .before in

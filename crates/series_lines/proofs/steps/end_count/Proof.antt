@@ -4,7 +4,7 @@ use native.Mathlib.Omega.{arith}
 use borrow.Author.Needs.{needs}
 use Rattle.series_lines.specs.Judge.{tally, count-end, count-refusal}
 use Rattle.series_lines.proofs.LineLimits.{count-limits}
-use Rattle.series_lines.proofs.Branches.{wrote-refused, wrote-full, wrote-next, put-answer-is, put-out-is}
+use Rattle.series_lines.proofs.Branches.{line-refused, line-full, line-next}
 use Rattle.series_lines.proofs.steps.end_count.Statement.{statement}
 use Rattle.series_lines.proofs.steps.end_count.Tie as tie
 
@@ -18,14 +18,14 @@ returns : tie.Need-returns
 returns c =
     let j = c .before .before in
     let r = j .before .before .before .args .r in
-    wrote-refused r _ _ (count-end r) _ (j .count-refusal .ensures) (c .before .if1 .taken) (c .stop .ensures)
+    line-refused _ r _ _ (count-end r) _ (j .count-refusal .ensures) (c .before .if1 .taken) (c .stop .ensures)
 
 -- The count is not refused.
 good : (c : tie.Else1) → count-end (c .before .before .before .before .args .r) .refusal ≡ 0
 good c = sym (c .before .count-refusal .ensures) ∙ c .if1 .left
 
-put-number-requires : tie.Need-put-number-requires
-put-number-requires c κs = search needs
+put-count-requires : tie.Need-put-count-requires
+put-count-requires c κs = search needs
 
 enum-told : tie.Need-enum-told
 enum-told c = search needs
@@ -59,8 +59,8 @@ returns-2 c =
     let p = c .before .before .before .before .before in
     let e = p .before .before in
     let r = e .before .before .before .before .args .r in
-    wrote-full r _ _ (count-end r) (good e) _ _ _ _ (p .put-number .ensures .0 ∙ put-answer-is _ _ _)
-    (p .put-number .ensures .1 ∙ put-out-is _ _ _) (c .before .enum-told .given .1) (c .stop2 .ensures)
+    line-full _ r _ _ (count-end r) (good e) _ _ _ _ (p .put-count .ensures .0)
+    (p .put-count .ensures .1) (c .before .enum-told .given .1) (c .stop2 .ensures)
 
 same-length-2 : tie.Need-same-length-2
 same-length-2 c = search needs
@@ -70,8 +70,8 @@ returns-3 c =
     let p = c .before .before .before .before .before .before .before in
     let e = p .before .before in
     let r = e .before .before .before .before .args .r in
-    wrote-next r _ _ (count-end r) (good e) _ _ _ _ (p .put-number .ensures .0 ∙ put-answer-is _ _ _)
-    (p .put-number .ensures .1 ∙ put-out-is _ _ _) (c .before .before .before .put .given .1)
+    line-next _ r _ _ (count-end r) (good e) _ _ _ _ (p .put-count .ensures .0)
+    (p .put-count .ensures .1) (c .before .before .before .put .given .1)
     (c .advance .ensures ∙ rw (c .before .open-block .ensures))
 
 pub end-count-spec : {M : Type 1} → statement M
@@ -81,7 +81,7 @@ end-count-spec =
     count-refusal-requires
     stop-requires
     returns
-    put-number-requires
+    put-count-requires
     enum-told
     stop-requires-2
     enum-known-put

@@ -6,7 +6,7 @@ use borrow.Author.Needs.{needs}
 use Rattle.limits.specs.Limits.{factor, added}
 use Rattle.series_lines.specs.Judge.{tally, term-on-line, term-line-refusal, term-end}
 use Rattle.series_lines.proofs.LineLimits.{line-added, line-may-come, line-small}
-use Rattle.series_lines.proofs.Branches.{wrote-refused, wrote-full, wrote-next}
+use Rattle.series_lines.proofs.Branches.{line-refused, line-full, line-next}
 use Rattle.series_lines.proofs.steps.end_term.Statement.{statement}
 use Rattle.series_lines.proofs.steps.end_term.Tie as tie
 
@@ -45,7 +45,7 @@ returns : tie.Need-returns
 returns c =
     let j = c .before .before in
     let r = j .before .before .before .before .before .args .r in
-    wrote-refused r _ _ (term-end r) _ (judged j) (c .before .if1 .taken) (c .stop .ensures)
+    line-refused _ r _ _ (term-end r) _ (judged j) (c .before .if1 .taken) (c .stop .ensures)
 
 put-term-requires : tie.Need-put-term-requires
 put-term-requires c κs =
@@ -83,7 +83,7 @@ returns-2 c =
     let p = c .before .before .before .before .before in
     let e = p .before .before in
     let r = e .before .before .before .before .before .before .args .r in
-    wrote-full r _ _ (term-end r) (unrefused e) _ _ _ _ (p .put-term .ensures .0) (p .put-term .ensures .1)
+    line-full _ r _ _ (term-end r) (unrefused e) _ _ _ _ (p .put-term .ensures .0) (p .put-term .ensures .1)
     (c .before .enum-told .given .1) (c .stop2 .ensures)
 
 same-length-2 : tie.Need-same-length-2
@@ -97,7 +97,7 @@ returns-3 c =
     let r = f .before .before .before .before .args .r in
     let t : c .before .before .add-term .result ≡ term-end r .tally =
     c .before .before .add-term .ensures ∙ (line-added _ (tally r) (r .line) ∙ ap (λ (f : ℕ). added f (tally r) (term-on-line (r .line))) (factor-is f)) in
-    wrote-next r _ _ (term-end r) (unrefused e) _ _ _ _ (p .put-term .ensures .0) (p .put-term .ensures .1)
+    line-next _ r _ _ (term-end r) (unrefused e) _ _ _ _ (p .put-term .ensures .0) (p .put-term .ensures .1)
     (c .before .before .before .before .put .given .1) (c .advance .ensures ∙ rw (c .before .less-one2 .ensures, t))
 
 pub end-term-spec : {M : Type 1} → statement M

@@ -4,12 +4,13 @@ use mathlib.Core.List.{List}
 use Prim.Native.Nat.{ℕ, _+_}
 use native.Mathlib.Omega.{arith}
 use borrow.Author.Needs.{needs}
+use borrow.Author.Tests.{not-true, not-false}
 use lib.ListN.{length}
 use lib.Seq.{sets}
 use Rattle.packed.specs.Series.{pack-term}
 use Rattle.series_lines.specs.Judge.{term-on-line}
 use Rattle.series_lines.specs.machine.Writer.{three-packed}
-use Rattle.series_lines.proofs.WrittenTerm.{term-packed, put-full, put-next}
+use Rattle.series_lines.proofs.WrittenTerm.{term-packed, put-full, put-next, kept-written, kept-counted}
 use Rattle.series_lines.proofs.writer.put_term.Statement.{statement}
 use Rattle.series_lines.proofs.writer.put_term.Tie as tie
 
@@ -29,14 +30,27 @@ fold-requires-2 c κs = search needs
 length-of-three-requires : tie.Need-length-of-three-requires
 length-of-three-requires c κs = search needs
 
-returns : tie.Need-returns
-returns c = let n = c .before in put-full _ _ _ _ (n .length-of-three .ensures ∙ ap length (packed n)) (omega arith)
+count-bytes-requires : tie.Need-count-bytes-requires
+count-bytes-requires c κs = search needs
 
-sub-if2 : tie.Need-sub-if2
-sub-if2 c = search needs
+returns : tie.Need-returns
+returns c =
+    let n = c .before .before in
+    kept-counted _ _ _ _ _ _ (not-true _ (c .before .if1 .taken)) (n .length-of-three .ensures ∙ ap length (packed n)) (c .count-bytes .ensures)
 
 returns-2 : tie.Need-returns-2
-returns-2 c = let n = c .before .before in put-full _ _ _ _ (n .length-of-three .ensures ∙ ap length (packed n)) (omega arith)
+returns-2 c =
+    let n = c .before .before in
+    kept-written _ _ _ _ _ _ (not-false _ (c .before .if1 .left)) (put-full _ _ _ _ (n .length-of-three .ensures ∙ ap length (packed n)) (omega arith))
+
+sub-if3 : tie.Need-sub-if3
+sub-if3 c = search needs
+
+returns-3 : tie.Need-returns-3
+returns-3 c =
+    let n = c .before .before .before in
+    kept-written _ _ _ _ _ _ (not-false _ (c .before .before .if1 .left))
+    (put-full _ _ _ _ (n .length-of-three .ensures ∙ ap length (packed n)) (omega arith))
 
 put-three-requires : tie.Need-put-three-requires
 put-three-requires c κs = search needs
@@ -44,15 +58,16 @@ put-three-requires c κs = search needs
 same-length : tie.Need-same-length
 same-length c = search needs
 
-returns-3 : tie.Need-returns-3
-returns-3 c =
+returns-4 : tie.Need-returns-4
+returns-4 c =
     let put = c .before .before in
-    let n = put .before .before .before .before in
+    let n = put .before .before .before .before .before in
     let a = n .before .before .before .before .args in
     let e = packed n in
-    put-next _ _ _ _ _ (omega (arith, ap length e))
+    kept-written _ _ _ _ _ _ (not-false _ (put .before .before .before .before .if1 .left))
+    (put-next _ _ _ _ _ (omega (arith, ap length e))
     (put .put-three .ensures .0 ∙ ap (λ (x : List ℕ). a .at + length x) e)
-    (put .put-three .ensures .1 ∙ ap (λ (x : List ℕ). sets (a .out .now) (a .at) x) e)
+    (put .put-three .ensures .1 ∙ ap (λ (x : List ℕ). sets (a .out .now) (a .at) x) e))
 
 pub put-term-spec : {M : Type 1} → statement M
 put-term-spec =
@@ -61,9 +76,11 @@ put-term-spec =
     fold-requires
     fold-requires-2
     length-of-three-requires
+    count-bytes-requires
     returns
-    sub-if2
     returns-2
+    sub-if3
+    returns-3
     put-three-requires
     same-length
-    returns-3)
+    returns-4)

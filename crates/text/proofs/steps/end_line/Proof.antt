@@ -3,7 +3,7 @@ use mathlib.Core.Path.{sym, _∙_}
 use native.Mathlib.Omega.{arith}
 use borrow.Author.Needs.{needs}
 use Rattle.units.specs.Refusals.{bad-byte}
-use Rattle.series_lines.proofs.Branches.{wrote-refused}
+use Rattle.series_lines.proofs.Branches.{line-refused}
 use Rattle.text.proofs.Branches.{verdict-count, verdict-term, verdict-early}
 use Rattle.text.proofs.steps.end_line.Statement.{statement}
 use Rattle.text.proofs.steps.end_line.Tie as tie
@@ -48,7 +48,7 @@ stop-requires c κs = search needs
 returns-3 : tie.Need-returns-3
 returns-3 c =
     let a = c .before .before .before .before .before .before .before .args in
-    wrote-refused (a .r) _ _ _ bad-byte
+    line-refused _ (a .r) _ _ _ bad-byte
     (sym
     (verdict-early (a .r) (sym (c .before .before .before .before .whole-count .ensures) ∙ c .before .before .before .if1 .left)
     (sym (c .before .before .whole-term .ensures) ∙ c .before .if2 .left)))
