@@ -54,7 +54,7 @@ unfolding ended
 repeats-end r h = rw (ne-eqb (r .status) 0 h)
 
 -- After the end it has: whatever state the last call found, later calls repeat its answer and write nothing.
-ended-stops : (r : Reader) → ended r .status ≡ 0 → ⊥
+pub ended-stops : (r : Reader) → ended r .status ≡ 0 → ⊥
 unfolding ended
 ended-stops r =
     by-cases (eqb (r .status) 0)

@@ -1,2 +1,3 @@
--- The answer to each text, over the grammar and the limits.
+-- The answer to each text, over the grammar and the limits (Decided); the reader that only judges, held against the reader (Judged).
 pub mod Decided
+pub mod Judged
