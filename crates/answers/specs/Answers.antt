@@ -17,6 +17,9 @@ use Rattle.packed.specs.declared.Checked.{Checked}
 use Rattle.packed.specs.declared.Checked.the-variants.{Terms, NoSeries}
 use Rattle.series_lines.specs.declared.Outcome.{Outcome}
 use Rattle.series_lines.specs.declared.Outcome.the-variants.{More, Accepted, Refused}
+use Rattle.mending.specs.declared.Clean.{Clean}
+use Rattle.mending.specs.declared.Mending.{Mending}
+use Rattle.mending.specs.declared.Mending.the-variants.{Mended as IsMended, Unmended}
 use Rattle.printer.specs.declared.Printed.{Printed}
 use Rattle.printer.specs.declared.Printed.the-variants.{Length, NoText}
 use Rattle.sunlist.specs.declared.ListAnswer.{ListAnswer}
@@ -32,6 +35,7 @@ use Rattle.answers.specs.declared.Moment.{Moment}
 use Rattle.answers.specs.declared.Three.{Three}
 use Rattle.answers.specs.declared.Doubles.{Doubles}
 use Rattle.answers.specs.declared.Standing.{Standing}
+use Rattle.answers.specs.declared.Mended.{Mended}
 
 -- The greatest signed number of 64 bits.
 abbrev pub greatest : ℕ
@@ -97,6 +101,31 @@ unfoldable pub standing-shown : Outcome → Standing
 standing-shown o =
     let w = text-shown o in
     record { refusal = w .refusal; figure = w .figure; length = w .value; accepted = accepted o }
+
+-- RULES, "Mending": stephylax_mended. The verdict is 0 with the packed length, or the number of the reader's refusal with its figure; it is of
+-- a text that has ended, so More is never shown (text_promises/proofs/Judgement.antt: never-more).
+unfoldable pub mended-refused : Refusal → Mended
+mended-refused r = record { refusal = number r; figure = clipped (figure r); length = pos 0; changes = pos 0; verdict = 0; place = pos 0 }
+
+unfoldable pub verdict-place : Outcome → ℤ
+verdict-place (More n) = clip n
+verdict-place (Accepted n) = clip n
+verdict-place (Refused r) = clipped (figure r)
+
+unfoldable pub clean-shown : Clean → Mended
+clean-shown c =
+    record {
+      refusal = 0;
+      figure = pos 0;
+      length = clip (c .length);
+      changes = clip (c .changes);
+      verdict = text-shown (c .verdict) .refusal;
+      place = verdict-place (c .verdict);
+    }
+
+unfoldable pub mending-shown : Mending → Mended
+mending-shown (IsMended c) = clean-shown c
+mending-shown (Unmended r) = mended-refused r
 
 unfoldable pub printed-shown : Printed → One
 printed-shown (Length n) = one-counted n

@@ -4,12 +4,14 @@ ghost use mathlib.Core.Path.{_≡_};
 ghost use Rattle.units.specs.Refusals.{figure};
 ghost use Rattle.answers.specs.Answers.{clip, clipped, one-refused, one-counted, moment-refused, three-refused};
 ghost use Rattle.answers.specs.Answers.{day-shown, date-shown, instant-shown, moment-shown, checked-shown, text-shown};
-ghost use Rattle.answers.specs.Answers.{accepted, standing-shown};
+ghost use Rattle.answers.specs.Answers.{accepted, standing-shown, mended-refused, verdict-place, clean-shown, mending-shown};
 ghost use Rattle.answers.specs.Answers.{printed-shown, list-shown, coordinates-shown, place-shown, mount-shown};
 use calendar::DateAnswer;
 use calendar::DayAnswer;
 use calendar::InstantAnswer;
 use calendar::MomentAnswer;
+use mending::Clean;
+use mending::Mending;
 use packed::Checked;
 use place::Mount;
 use place::PlaceAnswer;
@@ -65,6 +67,17 @@ pub struct Doubles {
     pub first: f64,
     pub second: f64,
     pub third: f64,
+}
+
+// stephylax_mended.
+#[repr(C)]
+pub struct Mended {
+    pub refusal: u64,
+    pub figure: i64,
+    pub length: i64,
+    pub changes: i64,
+    pub verdict: u64,
+    pub place: i64,
 }
 
 // The greatest signed number.
@@ -243,6 +256,59 @@ pub fn of_standing(a: Outcome) -> Standing
         figure: written.figure,
         length: written.value,
         accepted,
+    }
+}
+
+fn refused_mended(r: Refusal) -> Mended
+    ensures { λ m. ⌜ m ≡ mended-refused r ⌝ }
+{
+    let refusal = r.number();
+    let figure = clipped_figure(r);
+    Mended {
+        refusal,
+        figure,
+        length: 0,
+        changes: 0,
+        verdict: 0,
+        place: 0,
+    }
+}
+
+// What comes with the verdict on a mended text: the packed length, or the refusal's figure.
+fn verdict_place(a: Outcome) -> i64
+    ensures { λ z. ⌜ z ≡ verdict-place a ⌝ }
+{
+    match a {
+        Outcome::More(n) => clip(n as u64),
+        Outcome::Accepted(n) => clip(n as u64),
+        Outcome::Refused(r) => clipped_figure(r),
+    }
+}
+
+fn of_clean(c: Clean) -> Mended
+    ensures { λ m. ⌜ m ≡ clean-shown c ⌝ }
+{
+    let outcome = c.verdict;
+    let judged = of_text(outcome);
+    let length = clip(c.length as u64);
+    let changes = clip(c.changes as u64);
+    let place = verdict_place(outcome);
+    Mended {
+        refusal: 0,
+        figure: 0,
+        length,
+        changes,
+        verdict: judged.refusal,
+        place,
+    }
+}
+
+pub fn of_mending(a: Mending) -> Mended
+    ensures { λ m. ⌜ m ≡ mending-shown a ⌝ }
+{
+    match a {
+        Mending::Mended(c) => of_clean(c),
+        Mending::Unmended(r) => refused_mended(r),
     }
 }
 

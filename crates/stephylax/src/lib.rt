@@ -2,6 +2,7 @@
 // crosses as a pointer and a length. An answer is the library's, as numbers: answers/specs/Answers.antt says which.
 ghost use mathlib.Core.Path.{_≡_};
 ghost use Rattle.calendar.specs.Calendar.{day-of-date, date-of-day, instant-of-date, date-of-instant};
+ghost use Rattle.mending.specs.Answer.{mending, mending-out, mending-list};
 ghost use Rattle.packed.specs.Series.{parse, checked};
 ghost use Rattle.place.specs.Mount.{mount-answer};
 ghost use Rattle.place.specs.Place.{place-answer};
@@ -10,9 +11,10 @@ ghost use Rattle.published.specs.Reader as file;
 ghost use Rattle.series_lines.specs.Reader.{told};
 ghost use Rattle.text.specs.Reader.{begun, run, ended, whole};
 ghost use Rattle.answers.specs.Answers.{day-shown, date-shown, instant-shown, moment-shown, checked-shown, text-shown};
-ghost use Rattle.answers.specs.Answers.{standing-shown, printed-shown, place-shown, mount-shown};
+ghost use Rattle.answers.specs.Answers.{standing-shown, mending-shown, printed-shown, place-shown, mount-shown};
 ghost use Rattle.stephylax.specs.Promises.{C-coordinates-promised, C-sun-list-promised};
 use answers::Doubles;
+use answers::Mended;
 use answers::Moment;
 use answers::One;
 use answers::Standing;
@@ -23,6 +25,7 @@ use answers::of_date;
 use answers::of_day;
 use answers::of_instant;
 use answers::of_list;
+use answers::of_mending;
 use answers::of_moment;
 use answers::of_mount;
 use answers::of_place;
@@ -97,6 +100,15 @@ pub extern "C" fn stephylax_text_answer(state: Reader) -> Standing
     ensures { λ r. ⌜ r ≡ standing-shown (told state) ⌝ }
 {
     of_standing(series_lines::answer(state))
+}
+
+#[no_mangle]
+pub extern "C" fn stephylax_mend(text: &[u8], out: &mut [u8], changes: &mut [u64]) -> Mended
+    ensures { λ r. ⌜ (r ≡ mending-shown (mending (now (text .entry)) (now (out .entry)) (now (changes .entry))))
+        × (now (out .exit) ≡ mending-out (now (text .entry)) (now (out .entry)) (now (changes .entry)))
+        × (now (changes .exit) ≡ mending-list (now (text .entry)) (now (out .entry)) (now (changes .entry))) ⌝ }
+{
+    of_mending(mending::mend(text, out, changes))
 }
 
 // The whole published file in one call, then its end.

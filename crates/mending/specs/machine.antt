@@ -1,0 +1,3 @@
+-- What only the code needs: nothing here has to be believed.
+pub mod Runs
+pub mod Passes
