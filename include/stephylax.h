@@ -23,8 +23,9 @@
  *        has more than nine groups
  *    5   the amplitudes of a block total more than their limit                offset *
  *    6   the terms so far are too coarse to be summed within 10^-6            offset *
- *    7   there is no room for the output                                      the room it wants; for a text
- *                                                                             or a published file the offset *
+ *    7   there is no room for the output                                      the room it wants, of a list of
+ *                                                                             changes their number; for a text or
+ *                                                                             a published file the offset *
  *    8   the input ended too early: before its 18 blocks did, a published     its length
  *        file inside a line or a block
  *    9   there is a byte more after the last block                            its offset
@@ -83,6 +84,12 @@ enum stephylax_refusal {
     STEPHYLAX_BAD_NUMBER = 14
 };
 
+/* What was done to a byte of a mended text: the second of the two numbers that a change has. */
+enum stephylax_change {
+    STEPHYLAX_DROPPED = 0,
+    STEPHYLAX_TAB_TO_SPACE = 1
+};
+
 /* The field of a date that does not exist: the figure of STEPHYLAX_NO_SUCH_DATE. */
 enum stephylax_field {
     STEPHYLAX_YEAR = 1,
@@ -101,6 +108,7 @@ typedef struct { uint64_t refusal; int64_t figure; int64_t terms; } stephylax_ch
 typedef struct { uint64_t refusal; int64_t figure; int64_t longitude, latitude, radius; } stephylax_coordinates;
 typedef struct { uint64_t refusal; int64_t figure; int64_t right_ascension, declination, distance; } stephylax_place;
 typedef struct { uint64_t refusal; double right_ascension, declination, distance; } stephylax_mount;
+typedef struct { uint64_t refusal; int64_t figure; int64_t length; int64_t changes; uint64_t verdict; int64_t place; } stephylax_mended;
 
 /* The states of the readers of texts and of published files, given and returned by value. Their words are the library's own. */
 typedef struct { uint64_t words[17]; } stephylax_text;
@@ -184,6 +192,27 @@ STEPHYLAX_MUST_USE
 stephylax_text stephylax_text_end(stephylax_text state, uint8_t *packed, size_t room);
 STEPHYLAX_MUST_USE
 stephylax_answer stephylax_text_answer(stephylax_text state);
+
+/*
+ * stephylax_mend: a series text that a mail program has damaged, cleaned of what it added.
+ *   Given     text, n               the text
+ *             out, room             output: the clean text. It is never longer than the text
+ *             changes, change_room  output, in numbers, two for each change: the offset in `text` of the byte that was changed, then 0
+ *                                   where it was dropped or 1 where a tab became a space (enum stephylax_change). There is room for
+ *                                   change_room / 2 changes, and no byte is changed twice: 2 * n numbers always do
+ *   Returned  length                bytes of the clean text, which stands at the beginning of `out`
+ *             changes               how many changes stand at the beginning of `changes`, in the order of their offsets
+ *             verdict, place        what stephylax_read_text, with room enough, says of the clean text: 0 and the length of its packed
+ *                                   form, or the number of its refusal, never 7, and its figure: an offset in the clean text, with 8 its
+ *                                   length. A verdict is no refusal of this call
+ *   Refused   7 alone: with the length of the clean text; else with the number of changes. Both outputs then are as they were
+ *   Range     every text. Carriage returns, tabs and spaces that lead up to a line feed are dropped; where a line has no other byte, its
+ *             line feed goes too; a tab anywhere else becomes a space. All other bytes stay. A text that stephylax_read_text accepts is
+ *             clean already, and so is what this function wrote: both are given back as they are, without a change
+ *   Rules     Mending
+ */
+STEPHYLAX_MUST_USE
+stephylax_mended stephylax_mend(const uint8_t *text, size_t n, uint8_t *out, size_t room, uint64_t *changes, size_t change_room);
 
 /*
  * stephylax_read_published: a published VSOP87D file, whole, to the packed form that its figures have as a text.

@@ -50,13 +50,13 @@ _stephylax() {
     fi
     case $before in
     --days | --minutes | --keep-out | --every | --t) return ;;
-    --svg) mapfile -t COMPREPLY < <(compgen -f -- "$word") ;;
+    --svg | --changes) mapfile -t COMPREPLY < <(compgen -f -- "$word") ;;
     --data) mapfile -t COMPREPLY < <(compgen -d -- "$word") ;;
     *)
         if [[ $word == -* ]]; then
             words=$(_stephylax_options "${COMP_WORDS[1]}" <<<"$help")
             mapfile -t COMPREPLY < <(compgen -W "$words" -- "$word" | sort -u)
-        elif [[ ${COMP_WORDS[1]} == *pack ]]; then
+        elif [[ ${COMP_WORDS[1]} == *pack || ${COMP_WORDS[1]} == mend ]]; then
             mapfile -t COMPREPLY < <(compgen -f -- "${word#:}") # the colon of `published:` is a word
         else
             mapfile -t COMPREPLY < <(_stephylax_series "${COMP_WORDS[0]}")

@@ -73,6 +73,12 @@ cp "$prefix/share/stephylax/vsop87d/venus.txt" "$prefix/share/stephylax/vsop87d/
 "$command" check mercury | grep -q 1,682 || fail "the installed command has other data than those installed with it"
 cp "$repository/data/vsop87d/mercury.txt" "$prefix/share/stephylax/vsop87d/mercury.txt"
 
+# A damaged series is mended to what it was.
+sed 's/ /\t/g; s/$/\r/' "$prefix/share/stephylax/vsop87d/venus.txt" >mailed
+"$command" check ./mailed 2>&1 | grep -q 'stephylax mend' || fail "the installed command does not tell of mending"
+"$command" mend mailed mended >told || fail "the installed command does not mend"
+cmp mended "$prefix/share/stephylax/vsop87d/venus.txt" || fail "a mended series is another one"
+
 # The man page has every line of the help.
 page=$prefix/share/man/man1/stephylax.1
 "$command" --help | sed 's/-/\\-/g' >help
@@ -92,7 +98,7 @@ if is_there bash; then
     same "completion of --keep" "$(completed stephylax sun-list mercury --keep)" --keep-out
     same "completion of merc" "$(completed stephylax check merc)" mercury
     same "completion of --da" "$(completed stephylax check --da)" --data
-    for takes_none in day date pack unpack; do
+    for takes_none in day date pack unpack mend; do
         same "completion of $takes_none --da" "$(completed stephylax $takes_none --da)" ""
         same "completion of $takes_none --js" "$(completed stephylax $takes_none --js)" --json
     done
@@ -114,6 +120,10 @@ if is_there bash; then
     same "completion of pack ven" "$(completed stephylax pack ven)" venus-series
     same "completion of pack published :" "$(completed stephylax pack published : | tr ' ' '\n' | grep ven)" venus-series
     same "completion of unpack x ven" "$(completed stephylax unpack x ven)" venus-series
+    same "completion of me" "$(completed stephylax me)" mend
+    same "completion of mend x ven" "$(completed stephylax mend x ven)" venus-series
+    same "completion of mend --" "$(completed stephylax mend --)" "--changes --dry-run --json"
+    same "completion of --changes ven" "$(completed stephylax mend --changes ven)" venus-series
 fi
 
 # Python.

@@ -23,14 +23,14 @@ import operator
 import os
 import pathlib
 import threading
-from typing import NamedTuple
+from typing import NamedTuple, Optional
 
 __version__ = "0.1.0"
 
 __all__ = [
-    "Answer", "Coordinates", "Date", "Moment", "Mount", "Place", "PublishedReader", "Refusal", "Refused", "Run", "TextReader",
-    "apparent_place", "check", "coordinates_at", "date_of_day", "date_of_instant", "day_of_date", "instant_of_date",
-    "mount_place", "print_text", "read_published", "read_text", "sun_list",
+    "Answer", "Change", "Coordinates", "Date", "Fate", "Mended", "Moment", "Mount", "Place", "PublishedReader", "Refusal", "Refused",
+    "Run", "TextReader", "apparent_place", "check", "coordinates_at", "date_of_day", "date_of_instant", "day_of_date",
+    "instant_of_date", "mend", "mount_place", "print_text", "read_published", "read_text", "sun_list",
 ]
 
 
@@ -60,7 +60,8 @@ _WORDS = {
     Refusal.OVER_LIMIT: "a number or a count passes its limit; the figure is the offset",
     Refusal.TOTAL_OVER_LIMIT: "the amplitudes of a block total more than 100,000; the figure is the offset",
     Refusal.TOO_COARSE: "the series is too coarse to be summed within 10^-6; the figure is the offset",
-    Refusal.NO_ROOM: "the output does not fit; the figure is the length it would need, for a text or a published file the offset",
+    Refusal.NO_ROOM: "the output does not fit; the figure is the length it would need, of a list of changes their number, for a text or a "
+    "published file the offset",
     Refusal.ENDED_EARLY: "the input ended too early; the figure is its length",
     Refusal.BYTE_AFTER_END: "a byte follows the series; the figure is its offset",
     Refusal.NOT_SHORTEST: "a packed number is not in its shortest form; the figure is the offset",
@@ -147,6 +148,30 @@ class Answer(NamedTuple):
     accepted: bool
 
 
+class Fate(enum.IntEnum):
+    """What became of a byte of a mended text, as enum stephylax_change has it."""
+
+    DROPPED = 0
+    TAB_TO_SPACE = 1
+
+
+class Change(NamedTuple):
+    """A change of a mended text: the offset of the byte in the text as it was, and its Fate."""
+
+    offset: int
+    fate: Fate
+
+
+class Mended(NamedTuple):
+    """A clean text, the Changes that made it, in order, and what `read_text` says of it: `packed_length`, that of its packed form, or
+    `refused`, the Refused that it raises (its figure is an offset in the clean text, with 8 its length). The other of the two is None."""
+
+    text: memoryview
+    changes: list
+    packed_length: Optional[int]
+    refused: Optional[Refused]
+
+
 class Run(NamedTuple):
     """The first and the last minute of a run of listed minutes; both are listed."""
 
@@ -192,6 +217,7 @@ _DAY, _DATE, _INSTANT = _answer("day_number"), _answer("year", "month", "day", "
 _WRITTEN, _CHECKED, _STANDING = _answer("length"), _answer("terms"), _answer("length", "accepted")
 _COORDINATES, _PLACE = _answer("longitude", "latitude", "radius"), _answer("right_ascension", "declination", "distance")
 _DOUBLES = ((name, ctypes.c_double) for name in ("right_ascension", "declination", "distance"))
+_MENDED = _answer("length", "changes", "verdict", "place")
 _MOUNT = _struct("Mount", ("refusal", ctypes.c_uint64), *_DOUBLES)
 _TEXT, _PUBLISHED = _struct("Text", ("words", ctypes.c_uint64 * 17)), _struct("Published", ("words", ctypes.c_uint64 * 31))
 
@@ -206,6 +232,7 @@ _FUNCTIONS = {
     "text_piece": (_TEXT, [_TEXT] + _SLICE + _SLICE),
     "text_end": (_TEXT, [_TEXT] + _SLICE),
     "text_answer": (_STANDING, [_TEXT]),
+    "mend": (_MENDED, _SLICE + _SLICE + _SLICE),
     "read_published": (_WRITTEN, _SLICE + _SLICE),
     "published_start": (_PUBLISHED, []),
     "published_piece": (_PUBLISHED, [_PUBLISHED] + _SLICE + _SLICE),
@@ -339,18 +366,19 @@ _nowhere = ctypes.c_uint64()
 
 
 class _Lent:
-    """Memory lent for a call, while the block runs. The last of some objects may be an output, of elements of `width` bytes."""
+    """Memory lent for a call, while the block runs. The last of the objects are outputs: `outputs` has for each of them how many bytes
+    an element has."""
 
-    def __init__(self, *objects, output=False, width=1):
-        self.objects, self.output, self.width = objects, output, width
+    def __init__(self, *objects, outputs=()):
+        self.objects, self.outputs = objects, outputs
+        self.inputs = len(objects) - len(outputs)
         self.buffers = []
 
     def __enter__(self):
         try:
             for i, lent in enumerate(self.objects):
-                writes = self.output and i + 1 == len(self.objects)
                 buffer = _Buffer()
-                _get_buffer(lent, ctypes.byref(buffer), _WRITABLE if writes else 0)
+                _get_buffer(lent, ctypes.byref(buffer), _WRITABLE if i >= self.inputs else 0)
                 self.buffers.append(buffer)
             return self._slices()
         except BaseException:
@@ -363,17 +391,16 @@ class _Lent:
 
     def _slices(self):
         """Pointer and length of each."""
-        slices = []
-        for buffer in self.buffers:
-            slices += [buffer.address if buffer.length else ctypes.addressof(_nowhere), buffer.length]
-        if self.output:
-            start, length = slices[-2:]
-            if start % self.width or length % self.width:
-                raise ValueError(f"the output is not aligned to, or not of whole numbers of, {self.width} bytes")
-            for at, n in zip(slices[:-2:2], slices[1:-2:2]):
+        lent = [(buffer.address if buffer.length else ctypes.addressof(_nowhere), buffer.length) for buffer in self.buffers]
+        slices = [number for pair in lent for number in pair]
+        for i, width in enumerate(self.outputs, self.inputs):
+            start, length = lent[i]
+            if start % width or length % width:
+                raise ValueError(f"the output is not aligned to, or not of whole numbers of, {width} bytes")
+            for j, (at, n) in enumerate(lent[:i]):
                 if at < start + length and start < at + n:
-                    raise ValueError("the output overlaps the input")
-            slices[-1] = length // self.width
+                    raise ValueError("the output overlaps the input" if j < self.inputs else "the outputs overlap")
+            slices[2 * i + 1] = length // width
         return slices
 
 
@@ -419,7 +446,7 @@ def date_of_instant(t):
 def _read(name, text, packed, more):
     if packed is None:
         packed = bytearray(memoryview(text).nbytes + more)
-    with _Lent(text, packed, output=True) as slices:
+    with _Lent(text, packed, outputs=(1,)) as slices:
         length = _taken(_c[name](*slices)).length
     return _written(packed, length)
 
@@ -428,6 +455,29 @@ def read_text(text, packed=None):
     """Packs the text of a series, given whole: a memoryview of the packed form. `packed` is the output, else one that is long enough
     is made. Refused: 3 to 9; `packed` then holds the packed form of the lines before."""
     return _read("read_text", text, packed, more=0)
+
+
+def _mend(text, out, changes):
+    with _Lent(text, out, changes, outputs=(1, 8)) as slices:
+        return _c["mend"](*slices)
+
+
+def mend(text, out=None, changes=None):
+    """Mends a damaged text: carriage returns, tabs and spaces before a line feed are dropped, and blank lines; other tabs become spaces.
+    A Mended, whether the clean text is accepted or not. `out` is the output for the clean text, `changes` one of 64-bit numbers for the
+    changes, two for each; else those that are long enough are made. Refused: 7, with the length of the clean text, then with the
+    number of changes; both outputs are as they were."""
+    if out is None:
+        out = bytearray(memoryview(text).nbytes)
+    if changes is None:
+        # A first call, with no room for a change, tells how many there are.
+        asked = _mend(text, out, bytearray())
+        changes = (ctypes.c_uint64 * (2 * asked.figure))()
+    m = _taken(_mend(text, out, changes))
+    numbers = memoryview(changes).cast("B").cast("Q")[: 2 * m.changes].tolist()
+    pairs = zip(numbers[::2], numbers[1::2])
+    verdict = (None, Refused(m.verdict, m.place)) if m.verdict else (m.place, None)
+    return Mended(_written(out, m.length), [Change(offset, Fate(fate)) for offset, fate in pairs], *verdict)
 
 
 def read_published(file, packed=None):
@@ -446,13 +496,13 @@ class TextReader:
 
     def piece(self, text):
         """Takes the next piece: how many bytes are packed so far. Refused: 3 to 7, 9."""
-        with _Lent(text, self._packed, output=True) as slices:
+        with _Lent(text, self._packed, outputs=(1,)) as slices:
             self._state = self._piece(self._state, *slices)
         return self.answer().length
 
     def end(self):
         """Says that the text has ended: a memoryview of the packed form. Refused: 3 to 9."""
-        with _Lent(self._packed, output=True) as slices:
+        with _Lent(self._packed, outputs=(1,)) as slices:
             self._state = self._end(self._state, *slices)
         return _written(self._packed, self.answer().length)
 
@@ -479,7 +529,7 @@ def check(packed):
 
 
 def _print(packed, text):
-    with _Lent(packed, text, output=True) as slices:
+    with _Lent(packed, text, outputs=(1,)) as slices:
         return _c["print"](*slices)
 
 
@@ -528,7 +578,7 @@ def sun_list(planet, earth, start, minutes=1440, keep_out=600, runs=None):
     t0, minutes, keep_out = _instant(start), _i64(minutes), _i64(keep_out)
     if runs is None:
         runs = (ctypes.c_uint64 * 1440)()
-    with _Lent(planet, earth, runs, output=True, width=8) as slices:
+    with _Lent(planet, earth, runs, outputs=(8,)) as slices:
         length = _taken(_c["sun_list"](*slices[:4], t0, minutes, keep_out, *slices[4:])).length
     numbers = memoryview(runs).cast("B").cast("Q")[:length].tolist()
     return [Run(*pair) for pair in zip(numbers[::2], numbers[1::2])]

@@ -158,6 +158,29 @@ class Vectors(unittest.TestCase):
             self.published_case(line, file, room, wanted, fields.bytes())
             self.assertTrue(fields.done(), line)
 
+    def test_mending(self):
+        cases = 0
+        for line, fields in vectors("requests/c17_mend.txt"):
+            cases += 1
+            text, clean = fields.bytes(), fields.bytes()
+            changes = [fields.numbers(2) for _ in range(fields.number())]
+            number, figure = fields.numbers(2)
+            self.assertTrue(fields.done(), line)
+            out, numbers = bytearray([UNTOUCHED]) * (len(clean) + 2), array.array("Q", [UNTOUCHED] * (2 * len(changes) + 3))
+            for mended in (stephylax.mend(text), stephylax.mend(text, out, numbers)):
+                self.assertEqual((bytes(mended.text), mended.changes), (clean, changes), line)
+                self.assertEqual(mended.packed_length, None if number else figure, line)
+                self.assertEqual(mended.refused and (mended.refused.number, mended.refused.figure), (number, figure) if number else None)
+            self.assertEqual(out, clean + bytes([UNTOUCHED]) * 2, line)
+            self.assertEqual(numbers.tolist(), [n for change in changes for n in change] + [UNTOUCHED] * 3, line)
+        self.assertEqual(cases, 46)
+
+    def test_mended_planets(self):
+        for planet, text in TEXTS.items():
+            for damaged in (text, text.replace(b"\n", b"\r\n"), text.replace(b" ", b"\t").replace(b"\n", b" \t\n\n")):
+                mended = stephylax.mend(damaged)
+                self.assertEqual((mended.text, mended.packed_length, mended.refused), (text, len(SERIES[planet]), None), planet)
+
     def test_planets_as_published(self):
         for planet, packed in SERIES.items():
             file = laid_out(TEXTS[planet])
@@ -280,6 +303,8 @@ class Refusals(unittest.TestCase):
         self.refused(Refusal.TOO_COARSE, 2 + len(moving), read, self.text(b"1", moving))
         self.refused(Refusal.NO_ROOM, 1, read, b"0\n" * 18, bytearray(0))
         self.refused(Refusal.NO_ROOM, 36, stephylax.print_text, bytes(18), bytearray(35))
+        self.refused(Refusal.NO_ROOM, 2, stephylax.mend, b"0\r\n", bytearray(1))
+        self.refused(Refusal.NO_ROOM, 3, stephylax.mend, b"0\t\r \n", bytearray(2), array.array("Q", [0] * 5))
         self.refused(Refusal.ENDED_EARLY, 34, read, b"0\n" * 17)
         self.refused(Refusal.BYTE_AFTER_END, 36, read, b"0\n" * 19)
         self.refused(Refusal.NOT_SHORTEST, 1, stephylax.check, b"\x80\x00")
@@ -300,6 +325,9 @@ class Refusals(unittest.TestCase):
         named = {name: int(number) for name, number in re.findall(r"STEPHYLAX_(\w+) = (\d+)", body)}
         self.assertEqual(named.pop("ANSWERED"), 0)
         self.assertEqual(named, {refusal.name: refusal.value for refusal in Refusal})
+        body = re.search(r"enum stephylax_change \{(.*?)\};", header, re.DOTALL).group(1)
+        named = {name: int(number) for name, number in re.findall(r"STEPHYLAX_(\w+) = (\d+)", body)}
+        self.assertEqual(named, {fate.name: fate.value for fate in stephylax.Fate})
 
     def test_mount(self):
         with self.assertRaises(Refused) as raised:
@@ -397,6 +425,8 @@ class Memory(unittest.TestCase):
             self.assertEqual(outcome(stephylax.check, nothing), (8, 0))
             self.assertEqual(outcome(stephylax.read_text, nothing), (8, 0))
             self.assertEqual(outcome(stephylax.sun_list, nothing, nothing, 0, 1, 60, array.array("Q")), (8, 0))
+            mended = stephylax.mend(nothing, bytearray(), array.array("Q"))
+            self.assertEqual((len(mended.text), mended.changes, mended.refused.number), (0, [], Refusal.ENDED_EARLY))
         self.assertEqual(outcome(stephylax.read_text, b"0\n", bytearray()), (7, 1))
         self.assertEqual(outcome(stephylax.print_text, bytes(18), bytearray()), (7, 36))
 
@@ -415,6 +445,28 @@ class Memory(unittest.TestCase):
         for runs in (numbers[1:73], numbers[:79]):
             with self.assertRaisesRegex(ValueError, "not aligned to, or not of whole numbers of, 8 bytes"):
                 stephylax.sun_list(SERIES["venus"], SERIES["earth"], 0, 1, 60, runs)
+        both = memoryview(bytearray(96))
+        for text, out, changes, said in (
+            (b"0", both[:40], both[32:64], "the outputs overlap"),
+            (b"0", both[40:], both[:48], "the outputs overlap"),
+            (both[:9], both[8:32], both[32:], "the output overlaps the input"),
+            (both[:9], both[16:32], both[8:16], "the output overlaps the input"),
+            (b"0", both[:8], both[9:49], "not aligned to"),
+        ):
+            with self.assertRaisesRegex(ValueError, said):
+                stephylax.mend(text, out, changes)
+        for out, changes in ((bytes(9), bytearray(16)), (bytearray(9), bytes(16))):
+            with self.assertRaises(BufferError):
+                stephylax.mend(b"0", out, changes)
+        self.assertEqual(both, bytes(96))
+
+    def test_refused_mending(self):
+        """Both outputs stay as they were."""
+        for room, numbers in ((1, 8), (0, 0), (2, 3)):
+            out, changes = bytearray(b"?" * room), array.array("Q", [9] * numbers)
+            with self.assertRaises(Refused):
+                stephylax.mend(b"0\r\r\n", out, changes)
+            self.assertEqual((out, changes.tolist()), (b"?" * room, [9] * numbers))
 
     def test_not_copied(self):
         """What is answered is the output itself."""
@@ -465,6 +517,7 @@ class Threads(unittest.TestCase):
             self.assertEqual(self.run_with(768 * 1024, call), call())
         self.assertEqual(self.run_with(256 * 1024, lambda: stephylax.day_of_date(2000, 1, 1)), 2451545)
         self.assertEqual(self.run_with(256 * 1024, lambda: stephylax.read_text(TEXTS["venus"])), venus)
+        self.assertEqual(self.run_with(256 * 1024, lambda: stephylax.mend(TEXTS["venus"])).text, TEXTS["venus"])
 
     def test_at_once(self):
         venus, earth = SERIES["venus"], SERIES["earth"]

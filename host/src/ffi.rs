@@ -88,6 +88,18 @@ pub struct Mount {
     pub distance: f64,
 }
 
+/// A mended text: `verdict` and `place` are what the reader of texts says of it.
+#[repr(C)]
+#[derive(Clone, Copy, Debug, PartialEq, Eq)]
+pub struct Mended {
+    pub refusal: u64,
+    pub figure: i64,
+    pub length: i64,
+    pub changes: i64,
+    pub verdict: u64,
+    pub place: i64,
+}
+
 /// The state of a text reader. Its words are the library's own.
 #[repr(C)]
 #[derive(Clone, Copy, Debug, PartialEq, Eq)]
@@ -112,6 +124,14 @@ extern "C" {
     pub fn stephylax_text_piece(state: Text, text: *const u8, n: usize, packed: *mut u8, room: usize) -> Text;
     pub fn stephylax_text_end(state: Text, packed: *mut u8, room: usize) -> Text;
     pub fn stephylax_text_answer(state: Text) -> Answer;
+    pub fn stephylax_mend(
+        text: *const u8,
+        n: usize,
+        out: *mut u8,
+        room: usize,
+        changes: *mut u64,
+        change_room: usize,
+    ) -> Mended;
     pub fn stephylax_read_published(text: *const u8, n: usize, packed: *mut u8, room: usize) -> Written;
     pub fn stephylax_published_start() -> Published;
     pub fn stephylax_published_piece(

@@ -1,6 +1,6 @@
 //! Safe calls of the proved library. Each passes its input on as it is and turns the answer into a `Result`.
 
-use crate::answers::{Coordinates, Date, Mount, Place};
+use crate::answers::{Change, Clean, Coordinates, Date, Fate, Mended, Mount, Place};
 use crate::ffi;
 use crate::refusal::Refusal;
 
@@ -50,6 +50,29 @@ fn written(written: ffi::Written) -> Result<usize, Refusal> {
 pub fn read_text(text: &[u8], packed: &mut [u8]) -> Result<usize, Refusal> {
     // SAFETY: both slices are lent for the call, with their lengths.
     written(unsafe { ffi::stephylax_read_text(text.as_ptr(), text.len(), packed.as_mut_ptr(), packed.len()) })
+}
+
+/// Mends a text: writes the clean one, and for each change the offset of its byte and 0 (dropped) or 1 (a tab made a space).
+pub fn mend(text: &[u8], out: &mut [u8], changes: &mut [u64]) -> Result<Mended, Refusal> {
+    let (list, numbers) = (changes.as_mut_ptr(), changes.len());
+    // SAFETY: all three slices are lent for the call, with their lengths.
+    let m = unsafe { ffi::stephylax_mend(text.as_ptr(), text.len(), out.as_mut_ptr(), out.len(), list, numbers) };
+    let verdict = answer(m.verdict, m.place, m.place as usize);
+    answer(m.refusal, m.figure, Mended { length: m.length as usize, changes: m.changes as usize, verdict })
+}
+
+/// The same into memory of its own.
+pub fn mended(text: &[u8]) -> Clean {
+    // A text never grows. How many changes it takes is told by a first call, with no room for any; one without a change is mended by it already.
+    let (mut out, mut list) = (vec![0; text.len()], Vec::new());
+    if let Err(Refusal::NoRoom(changes)) = mend(text, &mut out, &mut list) {
+        list.resize(2 * changes as usize, 0);
+    }
+    let mended = mend(text, &mut out, &mut list).expect("there is room for the text and for every change");
+    out.truncate(mended.length);
+    let fate = |kind: u64| if kind == 0 { Fate::Dropped } else { Fate::TabToSpace };
+    let change = |pair: &[u64]| Change { offset: pair[0] as usize, fate: fate(pair[1]) };
+    Clean { text: out, changes: list.chunks(2).map(change).collect(), verdict: mended.verdict }
 }
 
 /// Packs a published file, given whole: how many bytes of `packed` it took.

@@ -90,7 +90,8 @@ refusals! {
     5 TotalOverLimit(at: i64),
     /// The offset.
     6 TooCoarse(at: i64),
-    /// The length that the output would need; in a text or a published file the offset of the line that does not fit.
+    /// The length that the output would need, of a list of changes their number; in a text or a published file the offset of the
+    /// line that does not fit.
     7 NoRoom(length: i64),
     /// The length of the input.
     8 EndedEarly(length: i64),
@@ -141,7 +142,10 @@ impl Refusal {
                 format!("the series has too many or too large terms to be summed closely enough, from offset {at}")
             }
             Refusal::NoRoom(n) => {
-                format!("the output does not fit ({n}: the length it would need; in a text or a published file the offset)")
+                format!(
+                    "the output does not fit ({n}: the length it would need, of a list of changes their number; \
+                     in a text or a published file the offset)"
+                )
             }
             Refusal::EndedEarly(n) => format!("the input ended too early, after {n} bytes"),
             Refusal::ByteAfterEnd(at) => format!("the byte at offset {at} follows the end of the series"),

@@ -73,6 +73,15 @@ impl Printed {
         }
     }
 
+    fn mend(&mut self, text: &str, numbers: usize) {
+        let (mut out, mut changes) = ([b'.'; 40], [9; 8]);
+        let (list, room) = (changes.as_mut_ptr(), out.len());
+        let m = unsafe { ffi::stephylax_mend(text.as_ptr(), text.len(), out.as_mut_ptr(), room, list, numbers) };
+        self.line("mend", m.refusal, m.figure, [m.length, m.changes, m.verdict as i64, m.place]);
+        changes.iter().for_each(|number| write!(self.0, " {number}").unwrap());
+        out[36..].iter().for_each(|byte| write!(self.0, " {byte}").unwrap());
+    }
+
     fn published(&mut self, coordinate: i64) {
         let (e, mut packed) = ("", [0; 100]);
         let figures = format!("{:>18}{:>14}{:>20}", "0.40000000000", "0.00000000000", "0.00000000000");
@@ -129,12 +138,19 @@ impl Printed {
     }
 }
 
+/// Texts that tests/c/every_function.c mends, and how many numbers there are for their changes.
+const MENDED: [(&str, usize); 3] =
+    [("0\r\n\n0\n0\n0\n0\n0\n0\n0\n0\n0\n0\n0\n0\n0\n0\n0\n0\n0\n", 8), ("0 \t\n0\t5\n", 8), ("0 \t\n0\t5\n", 5)];
+
 fn expected() -> String {
     let mut printed = Printed::default();
     printed.calendar(2019, 11, 11, 5);
     printed.calendar(1582, 10, 10, 5);
     printed.calendar(9999, 12, 31, 5);
     printed.pieces();
+    for (text, numbers) in MENDED {
+        printed.mend(text, numbers);
+    }
     printed.published(3);
     printed.published(4);
     let planet = printed.body("0.40000000000");
@@ -167,7 +183,9 @@ fn every_function() {
         "published_answer 0 0 26 1",
         "published_answer 13 67 0 0",
     ];
-    for wanted in [&of_texts[..], &of_files, &["sun_list 0 0 2 0 9"]].concat() {
+    let of_mended =
+        ["mend 0 0 36 2 0 18 1 0 3 0 9", "mend 0 0 6 3 3 3 1 0 2 0 5 1 9 9 46", "mend 7 3 0 0 0 0 9 9 9 9 9 9 9 9 46"];
+    for wanted in [&of_texts[..], &of_mended, &of_files, &["sun_list 0 0 2 0 9"]].concat() {
         assert!(expected.contains(wanted), "{wanted} is not in{expected}");
     }
     let archive = repository("target/staticlib/libstephylax.a");

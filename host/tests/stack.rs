@@ -22,6 +22,8 @@ fn every_call() {
         reader.piece(&text).unwrap();
         assert_eq!(reader.end(), Ok(length));
         packed.truncate(length);
+        let clean = stephylax::mended(&text);
+        assert_eq!((clean.changes, clean.verdict), (Vec::new(), Ok(length)));
         let file = layout::published(&parse(&packed).unwrap());
         assert_eq!(stephylax::read_published(&file, &mut packed), Ok(length));
         let mut reader = stephylax::PublishedReader::new(&mut packed);

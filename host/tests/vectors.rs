@@ -90,6 +90,32 @@ fn text(calls: &Calls) {
     }
 }
 
+/// What a list of changes holds beforehand.
+const UNTOUCHED_NUMBER: u64 = 0xA5A5_A5A5_A5A5_A5A5;
+
+/// With just the room that it takes, and with more.
+fn mending(calls: &Calls) {
+    let mut cases = 0;
+    for (number, line) in vectors("requests/c17_mend.txt") {
+        let fields = &mut Fields::of(&line);
+        let (input, output, count) = (fields.bytes(), fields.bytes(), fields.number() as usize);
+        let changes: Vec<u64> = (0..2 * count).map(|_| fields.number() as u64).collect();
+        let verdict = expected(fields, |fields| fields.number() as usize);
+        assert!(fields.done(), "line {number}: {line}");
+        for more in [0, 1, 5] {
+            let (mut out, mut list) = (vec![UNTOUCHED; output.len() + more], vec![UNTOUCHED_NUMBER; 2 * count + more]);
+            let answer = (calls.mend)(&input, &mut out, &mut list);
+            assert_eq!(answer, Ok((output.len(), count, verdict)), "line {number}: {line}");
+            let (clean, past) = out.split_at(output.len());
+            assert!(clean == output && past.iter().all(|&byte| byte == UNTOUCHED), "line {number}: {line}");
+            let (made, past) = list.split_at(2 * count);
+            assert!(made == changes && past.iter().all(|&n| n == UNTOUCHED_NUMBER), "line {number}: {line}");
+        }
+        cases += 1;
+    }
+    assert_eq!(cases, 46);
+}
+
 /// Whole, cut at random, and, as all are short, cut in two at every place.
 fn published_files(calls: &Calls) {
     let mut random = Random(2);
@@ -216,6 +242,10 @@ macro_rules! vectors_of {
             #[test]
             fn text() {
                 super::text(&$calls);
+            }
+            #[test]
+            fn mending() {
+                super::mending(&$calls);
             }
             #[test]
             fn published_files() {

@@ -6,6 +6,7 @@
 
 use reference::floating::{self, Tables};
 use reference::layout;
+use reference::plain::mending::mend;
 use reference::plain::packed::{pack, parse, Series};
 use reference::plain::published::read_published;
 use reference::plain::{self, text};
@@ -313,6 +314,28 @@ fn reading_speed(p: &Planet, rounds: usize) {
     line(&name, unit, [library, text, plain].map(figure), [text, plain].map(ratio));
 }
 
+/// The text as a mail program may leave it: each line ends with a carriage return too, and each space is a tab.
+fn damaged(text: &[u8]) -> Vec<u8> {
+    let text = std::str::from_utf8(text).expect("ASCII");
+    text.replace('\n', "\r\n").replace(' ', "\t").into_bytes()
+}
+
+/// A text mended in one call with room enough, beside the text reader on the clean text, and mended by the plain program.
+fn mending<'a>(name: String, p: &'a Planet, text: &'a [u8]) -> Measurement<'a> {
+    let rooms = || (vec![0; text.len()], vec![0; 2 * text.len()]);
+    let ((mut library, mut list), (mut plain, mut plain_list)) = (rooms(), rooms());
+    let mut packed = vec![0; p.text.len()];
+    Measurement {
+        name,
+        units: 1.0,
+        unit: "us",
+        per: US,
+        library: Some(Box::new(move || used(stephylax::mend(black_box(text), &mut library, &mut list)))),
+        plain: Some(Box::new(move || used(stephylax::read_text(black_box(&p.text), &mut packed)))),
+        floating: Some(Box::new(move || used(mend(black_box(text), &mut plain, &mut plain_list)))),
+    }
+}
+
 fn print(p: &Planet) -> Measurement<'_> {
     let (mut library, mut plain) = (vec![0; p.text.len()], vec![0; p.text.len()]);
     Measurement {
@@ -361,6 +384,13 @@ fn main() {
     line("", "", ["published", "text", "plain"].map(String::from), ["to text", "to plain"].map(String::from));
     for p in [&mercury, &venus, &earth] {
         reading_speed(p, rounds);
+    }
+    println!("\nHow long mending takes: the whole call, the text reader on the clean text, and mending in plain Rust");
+    line("", "", ["mended", "text", "plain"].map(String::from), ["to text", "to plain"].map(String::from));
+    for p in [&mercury, &venus] {
+        let damaged = damaged(&p.text);
+        mending(format!("mended, {}, as it is", p.name), p, &p.text).run(rounds);
+        mending(format!("mended, {}, with returns and tabs", p.name), p, &damaged).run(rounds);
     }
     println!("\nHow a list grows with its minutes (Mercury)");
     for minutes in [1, 10, 60, 240, 720, 1440] {

@@ -1,23 +1,18 @@
 //! The plain program for published files against its vectors, without the proved library.
 
+mod common;
+
+use common::{request, unhex};
 use reference::layout::{joined, records};
 use reference::plain::packed::parse;
 use reference::plain::published::read_published;
 use reference::plain::text::read_text;
 use std::path::Path;
 
-fn unhex(word: &str) -> Vec<u8> {
-    let digit = |d: u8| (d as char).to_digit(16).expect("a hex digit") as u8;
-    let digits = if word == "-" { "" } else { word };
-    digits.as_bytes().chunks(2).map(|pair| 16 * digit(pair[0]) + digit(pair[1])).collect()
-}
-
 #[test]
 fn vectors() {
-    let path = Path::new(env!("CARGO_MANIFEST_DIR")).join("../../vectors/requests/c11_published.txt");
-    let text = std::fs::read_to_string(&path).unwrap_or_else(|error| panic!("{}: {error}", path.display()));
     let mut cases = 0;
-    for (at, line) in text.lines().enumerate().filter(|(_, line)| !line.starts_with('#')) {
+    for (at, line) in request("c11_published.txt").lines().enumerate().filter(|(_, line)| !line.starts_with('#')) {
         let words: Vec<&str> = line.split(' ').collect();
         let [room, input, number, figure, output] = words[..] else { panic!("line {}: {line}", at + 1) };
         let (number, figure): (u64, i64) = (number.parse().unwrap(), figure.parse().unwrap());

@@ -12,6 +12,7 @@ int main(void) {
     stephylax_text_piece(state, a, 1, b, 1);
     stephylax_text_end(state, b, 1);
     stephylax_text_answer(state);
+    stephylax_mend(a, 1, b, 1, runs, 1);
     stephylax_read_published(a, 1, b, 1);
     stephylax_published_start();
     stephylax_published_piece(read, a, 1, b, 1);

@@ -1,5 +1,6 @@
 /* Calls every function of stephylax.h, in C and in C++, and prints every field of every answer. */
 #include <stdio.h>
+#include <string.h>
 #include "stephylax.h"
 
 static const char zero[] = "0\n0\n0\n0\n0\n0\n0\n0\n0\n0\n0\n0\n";
@@ -42,6 +43,18 @@ static void pieces(uint8_t *packed, size_t room) {
     answer(state);
     answer(stephylax_text_end(state, packed, room));
     answer(stephylax_text_end(stephylax_text_start(), packed, room));
+}
+
+/* A mended text: the answer, all numbers of the list and the last bytes of the output. */
+static void mended(const char *text, size_t numbers) {
+    uint8_t out[40];
+    uint64_t changes[8];
+    memset(out, '.', sizeof out);
+    for (int i = 0; i < 8; i++) changes[i] = 9;
+    stephylax_mended m = stephylax_mend(bytes(text), strlen(text), out, sizeof out, changes, numbers);
+    line("mend", m.refusal, m.figure), number(m.length), number(m.changes), number((int64_t)m.verdict), number(m.place);
+    for (int i = 0; i < 8; i++) number((int64_t)changes[i]);
+    for (int i = 36; i < 40; i++) number(out[i]);
 }
 
 static void standing(stephylax_published state) {
@@ -95,6 +108,9 @@ int main(void) {
     calendar(1582, 10, 10, 5);
     calendar(9999, 12, 31, 5);
     pieces(planet, sizeof planet);
+    mended("0\r\n\n0\n0\n0\n0\n0\n0\n0\n0\n0\n0\n0\n0\n0\n0\n0\n0\n0\n", 8);
+    mended("0 \t\n0\t5\n", 8);
+    mended("0 \t\n0\t5\n", 5);
     published(3);
     published(4);
     size_t np = body("0.40000000000", planet, sizeof planet);

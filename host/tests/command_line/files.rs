@@ -1,9 +1,8 @@
 //! Files that are read and written, and streams that fail.
 
 use crate::common::published;
-use crate::run::{command, fails, file, printed, prints, published_file, run, run_with, scratch, text};
+use crate::run::{command, fails, file, folder, names, printed, prints, published_file, run, run_with, scratch, text};
 use std::fs::File;
-use std::path::Path;
 use std::process::Stdio;
 
 const LIST: [&str; 5] = ["sun-list", "mercury", "2019-11-11", "--keep-out", "60"];
@@ -41,20 +40,10 @@ fn packing_and_back() {
     std::fs::remove_file(&packed).unwrap();
 }
 
-/// The names in a folder.
-fn names(folder: &Path) -> Vec<String> {
-    let entries = std::fs::read_dir(folder).unwrap();
-    let mut names: Vec<String> = entries.map(|entry| entry.unwrap().file_name().into_string().unwrap()).collect();
-    names.sort();
-    names
-}
-
 /// A file is written beside and renamed: a failure leaves the old one, a link stays a link, nothing else is left.
 #[test]
 fn files_are_replaced_whole() {
-    let folder = scratch("replaced");
-    let _ = std::fs::remove_dir_all(&folder);
-    std::fs::create_dir_all(&folder).unwrap();
+    let folder = folder("replaced");
     let (target, link) = (folder.join("target"), folder.join("link"));
     std::fs::write(&target, "old").unwrap();
     std::os::unix::fs::symlink("target", &link).unwrap();

@@ -103,6 +103,36 @@ fn packing() {
     assert_eq!(picked(&["pack", &published_file("venus")], 2, "d['outcome']"), "\"wrong use\"");
 }
 
+/// What was written is told of a refused text too.
+#[test]
+fn mending() {
+    let good = radial("1.00000000000", "0.00000000000");
+    let (from, to) = (file("json-mend.txt", good.replace('\n', "\r\n\n").as_bytes()), scratch("json-mended.txt"));
+    let to = to.to_str().unwrap();
+    let kinds = r#"[{"what": "carriage return dropped", "count": 20, "lines": [[1, 1], [3, 3]"#;
+    let answer = picked(&["mend", &from, to], 0, "d['answer']");
+    let head = format!(r#"{{"file": "{to}", "changes_file": null, "bytes": 120, "changes": 40, "kinds": {kinds}"#);
+    assert!(answer.starts_with(&head) && answer.ends_with(r#", [40, 40]]}], "packed_bytes": 29}"#), "{answer}");
+    let source = "[d['sources'][0][k] for k in ('role', 'file', 'kind', 'terms', 'packed_bytes')]";
+    assert_eq!(picked(&["mend", &from, to], 0, source), format!(r#"["input", "{from}", "text", 2, 29]"#));
+    let bad = file("json-mend-bad.txt", b"05\t\n");
+    let seen = "[d['answer'], d['refusal']['number'], d['refusal']['at'], d['sources']]";
+    let kinds = r#"[{"what": "tab dropped", "count": 1, "lines": [[1, 1]]}]"#;
+    let list = scratch("json-mend.list");
+    let list = list.to_str().unwrap();
+    let files = format!(r#""file": "{to}", "changes_file": "{list}""#);
+    let answer = format!(r#"{{{files}, "bytes": 3, "changes": 1, "kinds": {kinds}, "packed_bytes": null}}"#);
+    let at = format!("line 1, column 2 of the clean text, line 1 of {bad}");
+    assert_eq!(picked(&["mend", &bad, to, "--changes", list], 1, seen), format!(r#"[{answer}, 3, "{at}", []]"#));
+    let dry = "[d['answer']['file'], d['answer']['changes_file'], d['answer']['changes']]";
+    assert_eq!(picked(&["mend", &from, "--dry-run"], 0, dry), "[null, null, 40]");
+    assert_eq!(picked(&["mend", &bad], 2, "d['outcome']"), "\"wrong use\"");
+    assert_eq!(picked(&["mend", &bad, "/dev/stdout"], 2, "d['outcome']"), "\"wrong use\"");
+    assert_eq!(picked(&["mend", &bad, to, "--changes", "/dev/stdout"], 2, "d['outcome']"), "\"wrong use\"");
+    assert_eq!(picked(&["mend", &bad, to, "--changes", "-"], 2, "d['outcome']"), "\"wrong use\"");
+    assert_eq!(picked(&["mend", &bad, &bad], 2, "d['error'].endswith('it is never overwritten')"), "true");
+}
+
 /// Refusals, wrong use and failures have the same form.
 #[test]
 fn no_answer() {

@@ -6,6 +6,7 @@ mod common;
 mod files;
 mod json;
 mod lists;
+mod mending;
 mod picture;
 mod places;
 mod published;

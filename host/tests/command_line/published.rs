@@ -1,10 +1,11 @@
 //! Published VSOP87D files, as they come.
 
 use crate::common::published;
-use crate::run::{command, fails, fails_with, file, printed, prints, radial, run, run_with, says, scratch, text};
+use crate::run::{
+    command, fails, fails_with, file, folder, printed, prints, radial, run, run_with, says, scratch, text,
+};
 use reference::layout;
 use reference::plain::packed::parse;
-use std::path::PathBuf;
 
 const TRANSIT: [&str; 3] = ["2019-11-11", "--keep-out", "60"];
 const EIGHT: [(&str, &str); 8] = [
@@ -29,14 +30,6 @@ fn packed(planet: &str) -> Vec<u8> {
 /// The same as it is published.
 fn laid_out(planet: &str) -> Vec<u8> {
     layout::published(&parse(&packed(planet)).unwrap())
-}
-
-/// A folder of this test run, with nothing in it.
-fn folder(name: &str) -> PathBuf {
-    let folder = scratch(name);
-    let _ = std::fs::remove_dir_all(&folder);
-    std::fs::create_dir_all(&folder).unwrap();
-    folder
 }
 
 /// From two published files to a Sun list, told by a word or by their first lines.
@@ -152,9 +145,9 @@ fn carriage_returns() {
     assert_eq!(says(&["check", &path], 1), format!("stephylax: refused 3 ({at}): {said}\n{hint}"));
     let packed = scratch("returns.packed");
     assert!(says(&["pack", &path, packed.to_str().unwrap()], 1).ends_with(hint));
-    assert!(
-        says(&["check", &file("returns.txt", &with_returns(&plain))], 1).ends_with(&format!("read as text\n{hint}"))
-    );
+    // A text is mended instead.
+    let mend = "read as text\nMended, it is a good series: stephylax mend FILE NEW\n";
+    assert!(says(&["check", &file("returns.txt", &with_returns(&plain))], 1).ends_with(mend));
     let json = run(&["check", &path, "--json"]);
     assert!(text(&json.stderr).ends_with(hint) && !text(&json.stdout).contains("tr -d"), "{json:?}");
     // Another byte, or a return within a line, has no such remedy.

@@ -100,6 +100,22 @@ pub fn file(name: &str, bytes: &[u8]) -> String {
     path.to_str().unwrap().to_string()
 }
 
+/// A folder of this test run, with nothing in it.
+pub fn folder(name: &str) -> PathBuf {
+    let folder = scratch(name);
+    let _ = std::fs::remove_dir_all(&folder);
+    std::fs::create_dir_all(&folder).unwrap();
+    folder
+}
+
+/// The names in a folder.
+pub fn names(folder: &Path) -> Vec<String> {
+    let entries = std::fs::read_dir(folder).unwrap();
+    let mut names: Vec<String> = entries.map(|entry| entry.unwrap().file_name().into_string().unwrap()).collect();
+    names.sort();
+    names
+}
+
 /// A series whose longitude and latitude are 0, and whose radius grows by `growth` AU in a millennium.
 pub fn radial(radius: &str, growth: &str) -> String {
     let term = |a: &str| format!("1\n{a} 0.00000000000 0.00000000000\n");

@@ -25,11 +25,16 @@ fn forms() {
     let places = "place PLANET [DATE [TIME]] [--every STEP [--days N | --minutes N]] [--earth SERIES] [--data FOLDER] \
         [--mount] [--csv | --json]";
     let with_data = ["coordinates SERIES [DATE [TIME]] [--data FOLDER]", "check SERIES [--data FOLDER]"];
-    let others = ["day DATE [TIME]", "pack [FILE [PACKED_FILE]]", "unpack [PACKED_FILE [TEXT_FILE]]"];
+    let others = [
+        "day DATE [TIME]",
+        "pack [FILE [PACKED_FILE]]",
+        "unpack [PACKED_FILE [TEXT_FILE]]",
+        "mend [FILE [CLEAN_FILE]] [--changes FILE] [--dry-run]",
+    ];
     let words = help.split_ascii_whitespace().collect::<Vec<&str>>().join(" ");
     for form in [lists, places].iter().chain(&with_data).chain(&others) {
         let command = form.split(' ').next().unwrap();
-        let wrong: &[&str] = if command.ends_with("pack") { &["a", "b", "c"] } else { &[] };
+        let wrong: &[&str] = if ["pack", "unpack", "mend"].contains(&command) { &["a", "b", "c"] } else { &[] };
         fails(&[&[command], wrong].concat(), 2, &format!("the form is: stephylax {form}\n"));
         assert!(words.contains(&format!("stephylax {form} ")), "{form}");
         let data = says(&[command, "--data", "."], 2).contains("this command has no option --data");
@@ -82,7 +87,9 @@ fn one_thing_on_each_stream() {
 fn help() {
     for words in [["--help"], ["-h"], ["help"]] {
         let help = printed(&words);
-        for command in ["day", "date", "pack", "unpack", "check", "coordinates", "place", "sun-list", "--version"] {
+        for command in
+            ["day", "date", "pack", "unpack", "mend", "check", "coordinates", "place", "sun-list", "--version"]
+        {
             assert!(help.contains(&format!("\n  stephylax {command}")), "{command}");
         }
         assert!(help.lines().all(|line| line.len() <= 120));

@@ -7,6 +7,9 @@ use stephylax::{PublishedReader, Refusal, State, TextReader};
 /// An answer, or the refusal's number and figure.
 pub type Outcome<A> = Result<A, (u64, i64)>;
 
+/// Of a mended text: its length, the number of changes, and the reader's verdict on it.
+pub type Mended = (usize, usize, Outcome<usize>);
+
 pub struct Calls {
     pub name: &'static str,
     pub day_of_date: fn(i64, i64, i64) -> Outcome<i64>,
@@ -17,7 +20,9 @@ pub struct Calls {
     /// Each piece in a call, the end, and then each piece and the end once more, which must change nothing. The length
     /// after each call is asked too.
     pub read_pieces: fn(&[&[u8]], &mut [u8]) -> Outcome<usize>,
-    /// The same two for published files.
+    /// A text, then both outputs.
+    pub mend: fn(&[u8], &mut [u8], &mut [u64]) -> Outcome<Mended>,
+    /// Whole and in pieces for published files.
     pub read_published: fn(&[u8], &mut [u8]) -> Outcome<usize>,
     pub published_pieces: fn(&[&[u8]], &mut [u8]) -> Outcome<usize>,
     pub check: fn(&[u8]) -> Outcome<i64>,
@@ -56,6 +61,10 @@ pub const PLAIN: Calls = Calls {
     date_of_instant: |t| outcome(plain::calendar::date_of_instant(t).map(|(d, ms)| [d.year, d.month, d.day, ms])),
     read_text: |text, packed| outcome(plain::text::read_text(text, packed)),
     read_pieces: plain_pieces,
+    mend: |text, out, changes| {
+        let answer = plain::mending::mend(text, out, changes);
+        outcome(answer.map(|m| (m.length, m.changes, outcome(m.verdict))))
+    },
     read_published: |file, packed| outcome(plain::published::read_published(file, packed)),
     // This one takes a file whole: where it is cut must not matter.
     published_pieces: |pieces, packed| outcome(plain::published::read_published(&pieces.concat(), packed)),
@@ -116,6 +125,9 @@ pub const LIBRARY: Calls = Calls {
     date_of_instant: |t| refusal(stephylax::date_of_instant(t)).map(|d| [d.year, d.month, d.day, d.ms]),
     read_text: |text, packed| refusal(stephylax::read_text(text, packed)),
     read_pieces: |pieces, packed| library_pieces(TextReader::new(packed), pieces),
+    mend: |text, out, changes| {
+        refusal(stephylax::mend(text, out, changes)).map(|m| (m.length, m.changes, refusal(m.verdict)))
+    },
     read_published: |file, packed| refusal(stephylax::read_published(file, packed)),
     published_pieces: |pieces, packed| library_pieces(PublishedReader::new(packed), pieces),
     check: |packed| refusal(stephylax::check(packed)),

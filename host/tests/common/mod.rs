@@ -2,6 +2,7 @@
 #![allow(dead_code)]
 
 pub mod calls;
+pub mod damage;
 pub mod edges;
 pub mod generate;
 pub mod layouts;

@@ -1,6 +1,6 @@
 //! The C interface itself: every field of every answer, those that an answer does not use too, which are 0.
 
-use super::calls::{Calls, Outcome};
+use super::calls::{Calls, Mended, Outcome};
 use std::fmt::Debug;
 use stephylax::ffi::{self, Written};
 
@@ -36,6 +36,17 @@ fn standing(a: ffi::Answer) -> Outcome<(usize, bool)> {
     flat(a.refusal, a.figure, [a.length, a.accepted]).map(|[length, accepted]| {
         assert!(accepted == 0 || accepted == 1, "accepted is {accepted}");
         (length as usize, accepted == 1)
+    })
+}
+
+/// A mended text: refused 7 alone, and its verdict never is.
+fn mended(m: ffi::Mended) -> Outcome<Mended> {
+    let fields = [m.length, m.changes, m.verdict as i64, m.place];
+    assert!(m.refusal == 0 || m.refusal == 7, "mending is refused {}", m.refusal);
+    flat(m.refusal, m.figure, fields).map(|[length, changes, verdict, place]| {
+        assert_ne!(verdict, 7, "a verdict says that there is no room");
+        let verdict = if verdict == 0 { Ok(place as usize) } else { Err((m.verdict, place)) };
+        (length as usize, changes as usize, verdict)
     })
 }
 
@@ -112,6 +123,10 @@ pub const RAW: Calls = Calls {
         written(ffi::stephylax_read_text(text.as_ptr(), text.len(), packed.as_mut_ptr(), packed.len()))
     },
     read_pieces: |cut, packed| pieces(TEXT, cut, packed),
+    mend: |text, out, changes| unsafe {
+        let (list, numbers) = (changes.as_mut_ptr(), changes.len());
+        mended(ffi::stephylax_mend(text.as_ptr(), text.len(), out.as_mut_ptr(), out.len(), list, numbers))
+    },
     read_published: |file, packed| unsafe {
         written(ffi::stephylax_read_published(file.as_ptr(), file.len(), packed.as_mut_ptr(), packed.len()))
     },

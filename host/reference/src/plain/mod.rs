@@ -6,6 +6,7 @@
 pub mod calendar;
 pub mod cosine;
 pub mod exact;
+pub mod mending;
 pub mod nutation;
 pub mod packed;
 pub mod place;

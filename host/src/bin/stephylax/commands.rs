@@ -5,7 +5,7 @@ use crate::help::HELP;
 use crate::json::Json;
 use crate::output::put;
 use crate::report::Report;
-use crate::{calendar, coordinates, list, packing, place, version, Done};
+use crate::{calendar, coordinates, list, mending, packing, place, version, Done};
 
 pub fn run(words: &[String], report: &mut Report) -> Result<Done, Failure> {
     let has = |names: &[&str]| words.iter().any(|word| names.contains(&word.as_str()));
@@ -27,6 +27,7 @@ pub fn run(words: &[String], report: &mut Report) -> Result<Done, Failure> {
         "pack" => packing::pack(rest, report),
         "unpack" => packing::unpack(rest, report),
         "check" => packing::check(rest, report),
+        "mend" => mending::mend(rest, report),
         "coordinates" => coordinates::coordinates(rest, report),
         "place" => place::place(rest, report),
         "sun-list" => list::sun_list(rest, report),

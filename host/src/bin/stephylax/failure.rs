@@ -2,9 +2,18 @@
 
 use stephylax::Refusal;
 
+/// What to do about a series that is refused.
+#[derive(Clone, Copy, PartialEq)]
+pub enum Remedy {
+    /// A text is accepted after mending.
+    Mend,
+    /// A carriage return before a line feed can be taken out.
+    TakeOutReturns,
+}
+
 pub enum Failure {
-    /// The library refused. `at` says where, if its sentence does not. A carriage return can be removed.
-    Refused { refusal: Refusal, at: Option<String>, carriage_return: bool },
+    /// The library refused. `at` says where, if its sentence does not.
+    Refused { refusal: Refusal, at: Option<String>, remedy: Option<Remedy> },
     /// The mount's call refused; it tells a number alone.
     MountRefused(u64),
     /// The words do not make a command.
@@ -17,7 +26,7 @@ pub enum Failure {
 
 impl From<Refusal> for Failure {
     fn from(refusal: Refusal) -> Failure {
-        Failure::Refused { refusal, at: None, carriage_return: false }
+        Failure::Refused { refusal, at: None, remedy: None }
     }
 }
 
@@ -38,7 +47,7 @@ fn told(refusal: Refusal) -> String {
 
 impl Failure {
     pub fn refused_at(refusal: Refusal, at: String) -> Failure {
-        Failure::Refused { refusal, at: Some(at), carriage_return: false }
+        Failure::Refused { refusal, at: Some(at), remedy: None }
     }
 
     /// The exit status.
@@ -66,7 +75,10 @@ impl Failure {
     pub fn hint(&self) -> &'static str {
         match self {
             Failure::Use(_) => "Try `stephylax --help`.\n",
-            Failure::Refused { carriage_return: true, .. } => {
+            Failure::Refused { remedy: Some(Remedy::Mend), .. } => {
+                "Mended, it is a good series: stephylax mend FILE NEW\n"
+            }
+            Failure::Refused { remedy: Some(Remedy::TakeOutReturns), .. } => {
                 "Its lines end with carriage returns. Take them out: tr -d '\\r' < FILE > NEW\n"
             }
             _ => "",

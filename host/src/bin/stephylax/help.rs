@@ -53,6 +53,12 @@ stephylax: places of planets, and the minutes when one stands too near the Sun, 
       Between a series, as a text or as published, and its packed form. Standard input and output unless told
       otherwise; `pack` and `unpack` take plain file names, `pack` also text:FILE and published:FILE, and no planet's
       name.
+  stephylax mend [FILE [CLEAN_FILE]] [--changes FILE] [--dry-run]
+      A clean copy of a text that a mail program has damaged: carriage returns, tabs and spaces before a line feed are
+      dropped, and blank lines; other tabs become spaces. Tells what was changed in which lines, and whether the clean
+      text is accepted. Standard input and output unless told otherwise; plain file names, or text:FILE. --changes
+      writes the offset of each change and 0 (dropped) or 1 (a tab made a space), a line each; --dry-run writes nothing
+      and only tells. No file is written over the one that is read.
   stephylax check SERIES [--data FOLDER]
       How many terms a series has, or why it is refused.
   stephylax --version

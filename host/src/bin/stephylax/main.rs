@@ -2,6 +2,7 @@
 
 mod arguments;
 mod calendar;
+mod changes;
 mod clock;
 mod commands;
 mod coordinates;
@@ -11,6 +12,7 @@ mod failure;
 mod help;
 mod json;
 mod list;
+mod mending;
 mod output;
 mod packing;
 mod picture;

@@ -3,7 +3,8 @@
 use crate::failure::Failure;
 use crate::started;
 use crate::tables::parted;
-use std::fs::{File, OpenOptions};
+use std::ffi::OsString;
+use std::fs::{File, Metadata, OpenOptions};
 use std::io::{Error, ErrorKind, Read, Write};
 use std::os::fd::AsFd;
 use std::os::unix::fs::MetadataExt;
@@ -60,8 +61,55 @@ fn is_stream(path: &str) -> bool {
     let Ok(data) = std::fs::metadata(path) else {
         return false;
     };
-    let printed = std::io::stdout().as_fd().try_clone_to_owned().and_then(|out| File::from(out).metadata());
-    !data.is_file() || printed.is_ok_and(|out| (out.dev(), out.ino()) == (data.dev(), data.ino()))
+    !data.is_file() || of_stream(std::io::stdout()).is_ok_and(|out| identity(&out) == identity(&data))
+}
+
+/// What the system tells of an open stream.
+fn of_stream(stream: impl AsFd) -> Result<Metadata, Error> {
+    File::from(stream.as_fd().try_clone_to_owned()?).metadata()
+}
+
+/// The device and the number that a file has there, under whatever name.
+fn identity(data: &Metadata) -> (u64, u64) {
+    (data.dev(), data.ino())
+}
+
+/// Whether this is standard output, by its name or because the path leads there.
+pub fn is_standard_output(path: &str) -> bool {
+    let there = || Some(identity(&std::fs::metadata(path).ok()?) == identity(&of_stream(std::io::stdout()).ok()?));
+    path == "-" || there().unwrap_or(false)
+}
+
+/// Where bytes come from or go to: a file that is there, or one that a folder does not have yet, by its name. A device or a pipe
+/// is no place: whatever is written to it overwrites nothing.
+#[derive(PartialEq)]
+pub enum Place {
+    There(u64, u64),
+    New(u64, u64, OsString),
+}
+
+fn there(data: Metadata) -> Option<Place> {
+    let (device, number) = identity(&data);
+    data.is_file().then_some(Place::There(device, number))
+}
+
+/// The place that is read: a file, or standard input for `-`.
+pub fn place_read(path: &str) -> Option<Place> {
+    let data = if path == "-" { of_stream(std::io::stdin()) } else { std::fs::metadata(path) };
+    data.ok().and_then(there)
+}
+
+/// The place that is written: a file, or standard output for `-`.
+pub fn place_written(path: &str) -> Option<Place> {
+    if path == "-" {
+        return of_stream(std::io::stdout()).ok().and_then(there);
+    }
+    if let Ok(data) = std::fs::metadata(path) {
+        return there(data);
+    }
+    let folder = Path::new(path).parent().filter(|folder| *folder != Path::new("")).unwrap_or(Path::new("."));
+    let (device, number) = identity(&std::fs::metadata(folder).ok()?);
+    Some(Place::New(device, number, Path::new(path).file_name()?.to_os_string()))
 }
 
 /// Writes a new file beside the old one and gives it that one's name, so that there is never half a file.

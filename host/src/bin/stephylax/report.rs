@@ -12,6 +12,8 @@ pub struct Report {
     command: Option<String>,
     json: bool,
     given: bool,
+    /// What was answered although something is refused.
+    pub answer: Option<Json>,
     pub window: Option<Json>,
     pub sources: Vec<Json>,
 }
@@ -54,7 +56,8 @@ impl Report {
         };
         if self.json && !self.given && !matches!(failure, Failure::Output(_)) {
             // That standard output takes nothing is told by the same status.
-            let _ = put(format!("{}\n", self.document(outcome, None, Some(failure))).as_bytes());
+            let answer = self.answer.take();
+            let _ = put(format!("{}\n", self.document(outcome, answer, Some(failure))).as_bytes());
         }
         // Where standard error is closed there is nobody to tell.
         let _ = write!(std::io::stderr(), "stephylax: {}\n{}", failure.words(), failure.hint());

@@ -1,7 +1,7 @@
 //! Series: what a word asks for, how it is read, and what is told of it.
 
 use crate::data;
-use crate::failure::Failure;
+use crate::failure::{Failure, Remedy};
 use crate::json::Json;
 use crate::output::read;
 use crate::tables::{counted, parted};
@@ -107,7 +107,7 @@ fn planet(name: &str, data: Option<&str>) -> Result<Series, Failure> {
 
 /// A file whose first line has the columns of a published heading is a published one. No text has a control byte other than white
 /// space; bytes from 128 up stand in texts of many kinds. So a damaged text, or one with a word too many, is never taken as packed.
-fn kind_of(bytes: &[u8]) -> Kind {
+pub fn kind_of(bytes: &[u8]) -> Kind {
     let in_texts = |byte: &u8| !byte.is_ascii_control() || (b'\t'..=b'\r').contains(byte);
     if is_published(bytes) {
         Kind::Published
@@ -134,8 +134,8 @@ pub fn of_bytes(name: String, path: &Path, kind: Kind, bytes: Vec<u8>) -> Result
     let mut series = Series { name, file: shown(path), kind, packed: bytes, terms: None };
     if kind != Kind::Packed {
         series.packed = packed(kind, &series.packed).map_err(|refusal| {
-            let carriage_return = is_carriage_return(kind, &series.packed, refusal);
-            Failure::Refused { refusal, at: Some(series.blame()), carriage_return }
+            let remedy = remedy(kind, &series.packed, refusal);
+            Failure::Refused { refusal, at: Some(series.blame()), remedy }
         })?;
     }
     series.terms = stephylax::check(&series.packed).ok();
@@ -149,6 +149,15 @@ fn packed(kind: Kind, bytes: &[u8]) -> Result<Vec<u8>, Refusal> {
     let length = read(bytes, &mut packed)?;
     packed.truncate(length);
     Ok(packed)
+}
+
+/// What to do about bytes that are refused, if that is known. Mending is for texts, and is named only where the library accepts
+/// the mended text.
+fn remedy(kind: Kind, bytes: &[u8], refusal: Refusal) -> Option<Remedy> {
+    if kind == Kind::Text && stephylax::mended(bytes).verdict.is_ok() {
+        return Some(Remedy::Mend);
+    }
+    is_carriage_return(kind, bytes, refusal).then_some(Remedy::TakeOutReturns)
 }
 
 /// Whether what is refused is a carriage return before a line feed, which is good without it.
