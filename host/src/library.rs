@@ -63,7 +63,8 @@ pub fn mend(text: &[u8], out: &mut [u8], changes: &mut [u64]) -> Result<Mended, 
 
 /// The same into memory of its own.
 pub fn mended(text: &[u8]) -> Clean {
-    // A text never grows. How many changes it takes is told by a first call, with no room for any; one without a change is mended by it already.
+    // A text never grows. How many changes it takes is told by a first call, with no room for any; a text without a change is
+    // mended by that call already, and once more by the next.
     let (mut out, mut list) = (vec![0; text.len()], Vec::new());
     if let Err(Refusal::NoRoom(changes)) = mend(text, &mut out, &mut list) {
         list.resize(2 * changes as usize, 0);
