@@ -1,5 +1,5 @@
 -- What one byte does to the counts. Assumes nothing.
-use mathlib.Core.Path.{_≡_, refl, ap, _∙_}
+use mathlib.Core.Path.{_≡_, ap, _∙_}
 use mathlib.Core.Bool.{Bool, true, false, cond}
 use mathlib.Core.List.{List, _∷_, _++_}
 use Prim.Native.Nat.{ℕ, _+_, _-_, _≤_, _<_}
@@ -7,13 +7,13 @@ use native.Mathlib.Omega.{arith}
 use borrow.Author.Tests.{ne-eqb, eq-eqb}
 use lib.ListN.{length, getD, drop, length-append}
 use lib.Seq.{slice, slice-empty, length-slice}
-use Rattle.series_lines.specs.Grammar.{feed, space}
+use Rattle.series_lines.specs.Grammar.{feed}
 use Rattle.mending.specs.declared.counting.Counting.{Counting}
 use Rattle.mending.specs.Rule.{tab, blank, stays, dropped, left, mended-from, mended, listed, changes-from, changes}
 use Rattle.mending.specs.machine.Runs.{spared, spared-run, tab-changes, drops}
 use Rattle.mending.specs.machine.Passes.{no-run, Counted, Plain}
 use Rattle.mending.proofs.Runs.{bytes-at-feed, changes-at-feed, bytes-at-other, changes-at-other, bytes-at-end, changes-at-end}
-use Rattle.mending.proofs.Runs.{pending-more, pending-none, tabs-more, length-spared-run, length-drops, bytes-at-plain, changes-at-plain}
+use Rattle.mending.proofs.Runs.{pending-more, pending-none, tabs-more, length-spared-run, length-drops}
 
 no-tabs : (text : List ℕ) (i : ℕ) → 0 ≡ length (tab-changes i (slice i i text))
 unfolding tab-changes
@@ -39,11 +39,13 @@ unfolding spared listed
 not-tab i x f = rw (ne-eqb x tab f)
 
 module _ (text : List ℕ) (c : Counting) (i : ℕ) (k : Counted text c i) (h : i < length text) where
-  pub counted-tab : blank (getD text i 0) ≡ true → getD text i 0 ≡ tab
-      → Counted text (record { begun = c .begun; from = c .from; tabs = c .tabs + 1; length = c .length; changes = c .changes }) (i + 1)
-  counted-tab b e = record {
+  -- A blank is held back, and counted where it is a tab.
+  held : (tabs : ℕ) → blank (getD text i 0) ≡ true → tabs ≡ c .tabs + length (listed i (spared (getD text i 0)))
+      → length (listed i (spared (getD text i 0))) ≤ 1
+      → Counted text (record { begun = c .begun; from = c .from; tabs = tabs; length = c .length; changes = c .changes }) (i + 1)
+  held tabs b e one = record {
     run = pending-more text (c .from) i (k .run) h b;
-    tabs-are = omega (arith, k .tabs-are, tabs-more text (c .from) i (k .run) h, one-tab i (getD text i 0) e);
+    tabs-are = omega (arith, k .tabs-are, tabs-more text (c .from) i (k .run) h);
     few-tabs = omega (arith, k .few-tabs, k .run .onward);
     few-bytes = k .few-bytes;
     few-changes = k .few-changes;
@@ -51,16 +53,12 @@ module _ (text : List ℕ) (c : Counting) (i : ℕ) (k : Counted text c i) (h : 
     all-changes = k .all-changes;
   }
 
+  pub counted-tab : blank (getD text i 0) ≡ true → getD text i 0 ≡ tab
+      → Counted text (record { begun = c .begun; from = c .from; tabs = c .tabs + 1; length = c .length; changes = c .changes }) (i + 1)
+  counted-tab b e = let n = one-tab i (getD text i 0) e in held (c .tabs + 1) b (omega (arith, n)) (omega (arith, n))
+
   pub counted-blank : blank (getD text i 0) ≡ true → (getD text i 0 ≡ tab → ⊥) → Counted text c (i + 1)
-  counted-blank b f = record {
-    run = pending-more text (c .from) i (k .run) h b;
-    tabs-are = omega (arith, k .tabs-are, tabs-more text (c .from) i (k .run) h, not-tab i (getD text i 0) f);
-    few-tabs = omega (arith, k .few-tabs, k .run .onward);
-    few-bytes = k .few-bytes;
-    few-changes = k .few-changes;
-    all-bytes = k .all-bytes;
-    all-changes = k .all-changes;
-  }
+  counted-blank b f = let n = not-tab i (getD text i 0) f in held (c .tabs) b (omega (arith, n)) (omega (arith, n))
 
   pub counted-other : blank (getD text i 0) ≡ false → (getD text i 0 ≡ feed → ⊥)
       → Counted text (no-run true (i + 1) (c .length + (i - c .from) + 1) (c .changes + c .tabs)) (i + 1)
@@ -129,18 +127,6 @@ module _ (text : List ℕ) (c : Counting) (i : ℕ) (k : Counted text c i) (h : 
       }
 
 -- ---- bytes above a space
-
-pub plain-none : (text : List ℕ) (i : ℕ) → i ≤ length text → Plain text i i
-plain-none text i h = record { onward = omega arith; within = h; bytes = omega arith; changes = refl }
-
-pub plain-more : (text : List ℕ) (i j : ℕ) → Plain text i j → j < length text → space < getD text j 0 → Plain text i (j + 1)
-plain-more text i j p h g =
-    record {
-      onward = omega (arith, p .onward);
-      within = omega arith;
-      bytes = omega (arith, p .onward, p .bytes, ap length (bytes-at-plain text j h g));
-      changes = p .changes ∙ changes-at-plain text j h g;
-    }
 
 -- The rest of a word, after its first byte at i.
 pub counted-plain : (text : List ℕ) (i start bytes changes next : ℕ) → Counted text (no-run true (i + 1) (bytes + (i - start) + 1) changes) (i + 1)

@@ -16,7 +16,7 @@ use Rattle.series_lines.specs.Grammar.{feed, space}
 use Rattle.mending.specs.Rule.{tab, carriage-return, blank, blank-to-feed, stays, dropped, spaced, fate, begins, begun-after, left, mended-from}
 use Rattle.mending.specs.Rule.{Change, listed, changes-from, numbers}
 use Rattle.mending.specs.machine.Runs.{Blanks, none, more, Pending, spared, spared-run, tab-changes, drops}
-use Rattle.mending.specs.machine.Passes.{next-byte}
+use Rattle.mending.specs.machine.Passes.{Plain, next-byte}
 
 -- ---- one blank
 
@@ -253,6 +253,20 @@ module _ (text : List ℕ) (from i : ℕ) (p : Pending text from i) where
 -- No run is held back before byte i.
 pub pending-none : (text : List ℕ) (i : ℕ) → i ≤ length text → Pending text i i
 pending-none text i h = record { onward = omega arith; within = h; blanks = rw (slice-empty i text) none }
+
+-- ---- bytes above a space
+
+pub plain-none : (text : List ℕ) (i : ℕ) → i ≤ length text → Plain text i i
+plain-none text i h = record { onward = omega arith; within = h; bytes = omega arith; changes = refl }
+
+pub plain-more : (text : List ℕ) (i j : ℕ) → Plain text i j → j < length text → space < getD text j 0 → Plain text i (j + 1)
+plain-more text i j p h g =
+    record {
+      onward = omega (arith, p .onward);
+      within = omega arith;
+      bytes = omega (arith, p .onward, p .bytes, ap length (bytes-at-plain text j h g));
+      changes = p .changes ∙ changes-at-plain text j h g;
+    }
 
 -- ---- the byte that is looked at next
 

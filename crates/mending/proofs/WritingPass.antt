@@ -16,7 +16,7 @@ use Rattle.mending.specs.Rule.{tab, blank, stays, dropped, left, mended-
 use Rattle.mending.specs.machine.Runs.{spared, spared-run, tab-changes, drops, Room, Wrote, run-bytes, run-numbers}
 use Rattle.mending.specs.machine.Passes.{bytes-left, numbers-left, plain-left, Ready, Rest, Copied, Came}
 use Rattle.mending.proofs.Runs.{bytes-at-feed, changes-at-feed, bytes-at-other, changes-at-other, bytes-at-end, changes-at-end}
-use Rattle.mending.proofs.Runs.{pending-more, pending-none, bytes-at-plain, changes-at-plain, numbers-append}
+use Rattle.mending.proofs.Runs.{pending-more, pending-none, bytes-at-plain, plain-none, plain-more, numbers-append}
 
 -- ---- numbers that are written piece by piece
 
@@ -105,7 +105,7 @@ drops-none i end h = let e : end - i ≡ 0 = omega arith in rw e
 -- ---- bytes above a space
 
 pub copied-none : (text : List ℕ) (i at : ℕ) (out : List ℕ) → i ≤ length text → Copied text i at out i at out
-copied-none text i at out h = record { onward = omega arith; within = h; bytes = rest-start; changes = refl }
+copied-none text i at out h = record { plain = plain-none text i h; bytes = rest-start }
 
 module _ {text : List ℕ} {i at : ℕ} {out : List ℕ} {j p : ℕ} {after : List ℕ} (c : Copied text i at out j p after) where
   module _ (h : j < length text) (g : space < getD text j 0) where
@@ -117,10 +117,8 @@ module _ {text : List ℕ} {i at : ℕ} {out : List ℕ} {j p : ℕ} {after : Li
 
     pub copied-more : Copied text i at out (j + 1) (p + 1) (set after p (getD text j 0))
     copied-more = record {
-      onward = omega (arith, c .onward);
-      within = omega arith;
+      plain = plain-more text i j (c .plain) h g;
       bytes = rest-more {ys = getD text j 0 ∷ []} next-left (wrote-one (getD text j 0) p after);
-      changes = c .changes ∙ changes-at-plain text j h g;
     }
 
 -- ---- a byte of the text
@@ -170,11 +168,11 @@ module _ (text : List ℕ) (w : Writing) (i : ℕ) (out list : List ℕ) (r : Re
           → Copied text (i + 1) (at + 1) (set out-then at (getD text i 0)) next (at + 1 + (next - (i + 1))) after
           → Came text w out list (record { begun = true; from = next; at = at + (next - i); slot = slot }) next after list-then
       came-word next after c =
-          let e : at + 1 + (next - (i + 1)) ≡ at + (next - i) = omega (arith, c .onward) in
+          let e : at + 1 + (next - (i + 1)) ≡ at + (next - i) = omega (arith, c .plain .onward) in
           record {
-            run = pending-none text next (c .within);
+            run = pending-none text next (c .plain .within);
             bytes = subst (λ (k : ℕ). Rest (bytes-left text w) (w .at) out (plain-left text next) k after) e (rest-then (came-other .bytes) (c .bytes));
-            changes = rest-is (ap numbers (c .changes)) (came-other .changes);
+            changes = rest-is (ap numbers (c .plain .changes)) (came-other .changes);
           }
 
   module _ (e : getD text i 0 ≡ feed) where

@@ -68,10 +68,8 @@ pub record Plain (text : List ℕ) (i j : ℕ) : Type 0 where
 
 -- They are written as they are.
 pub record Copied (text : List ℕ) (i at : ℕ) (out : List ℕ) (j to : ℕ) (after : List ℕ) : Type 0 where
-  pub onward : i ≤ j
-  pub within : j ≤ length text
+  pub plain : Plain text i j
   pub bytes : Rest (plain-left text i) at out (plain-left text j) to after
-  pub changes : changes-from true i (drop i text) ≡ changes-from true j (drop j text)
 
 -- The byte after byte i that is looked at next: those before from are done.
 unfoldable pub next-byte : ℕ → ℕ → ℕ

@@ -3,7 +3,7 @@ use Prim.Native.Nat.{_-_}
 use native.Mathlib.Omega.{arith}
 use lib.ListN.{length}
 use Rattle.mending.specs.machine.Passes.{Plain}
-use Rattle.mending.proofs.CountingPass.{plain-none, plain-more}
+use Rattle.mending.proofs.Runs.{plain-none, plain-more}
 use Rattle.mending.proofs.counting.past_plain.Statement.{statement}
 use Rattle.mending.proofs.counting.past_plain.Tie as tie
 

@@ -40,7 +40,7 @@ loop-less c = omega arith
 
 loop-again : tie.Need-loop-again Inv-loop μ-loop
 loop-again c =
-    let l = c .before .before .before .loop in (copied-more (l .inv .0) (omega arith) (omega arith), omega (arith, l .inv .0 .onward, l .inv .1))
+    let l = c .before .before .before .loop in (copied-more (l .inv .0) (omega arith) (omega arith), omega (arith, l .inv .0 .plain .onward, l .inv .1))
 
 same-length-2 : tie.Need-same-length-2 Inv-loop μ-loop
 same-length-2 c = c .before .loop .inv .0 .bytes .same

@@ -74,7 +74,7 @@ returns c =
     let p = c .before .before .before .before .before .before .before .before .before .put-run in
     let q = c .before .before .put-plain .ensures in
     let came = came-word _ _ _ _ _ (s .pre .0) (t .inside) (t .no-blank) (t .no-feed) _ _ _ _ (p .ensures .0) (p .ensures .1) _ _ q in
-    (came, omega (arith, q .onward))
+    (came, omega (arith, q .plain .onward))
 
 pub put-word-spec : {M : Type 1} → statement M
 put-word-spec =
