@@ -2,7 +2,6 @@
 pub mod Signs
 pub mod Cells
 pub mod Long
-pub mod Residues
 pub mod Naturals
 pub mod Split
 pub mod Ranges

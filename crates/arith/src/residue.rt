@@ -1,7 +1,6 @@
 // The remainder that is never negative: RULES, "Units and rounding". For the crates above.
 ghost use mathlib.Core.Path.{_≡_};
-ghost use Prim.Native.Nat.{_*_, _<_, _^_};
-ghost use lib.IntN.{pos, _*ℤ_};
+ghost use Prim.Native.Nat.{_<_};
 ghost use Rattle.integers.specs.Division.{modulo};
 use crate::signed::flip;
 use crate::signed::is_neg;
@@ -16,12 +15,4 @@ pub fn residue(n: i64, d: u64) -> u64
     } else {
         low(n) % d
     }
-}
-
-// The remainder of k·n, which need not fit 64 bits.
-pub fn residue_times(k: u64, n: i64, d: u64) -> u64
-    requires { ⌜ (0 < d) × (k * d < 2 ^ 64) ⌝ }
-    ensures { λ r. ⌜ r ≡ modulo (pos k *ℤ n) d ⌝ }
-{
-    k * residue(n, d) % d
 }

@@ -8,9 +8,11 @@ pub mod WholeTurns
 pub mod Figures
 -- The steps of the working cosine on natural numbers.
 pub mod NaturalSteps
--- Whole numbers by T, but for whole turns.
+-- Whole numbers by ticks, but for whole turns.
 pub mod Residues
 -- The angle of a term from what is prepared for an instant.
 pub mod TermAngle
+-- The angle of a whole number of parts.
+pub mod PartsAngle
 -- The value of a term by the parity of its quarter.
 pub mod TermValue

@@ -1,5 +1,5 @@
 -- What `prepare` works out, and the angle that `angle` makes of it. Assumes nothing.
-use mathlib.Core.Path.{_≡_, refl, sym, ap, _∙_, subst, subst₂}
+use mathlib.Core.Path.{_≡_, refl, sym, ap, ap₂, _∙_, subst}
 use mathlib.Core.List.{[], _∷_}
 use Prim.Native.Nat.{ℕ, suc, _+_, _*_, _-_, _/_, _%_, _^_, _≤_, _<_}
 use native.Mathlib.Omega.{arith}
@@ -12,14 +12,16 @@ use Rattle.integers.specs.Division.{rounded, modulo}
 use Rattle.integers.proofs.Auto.{polys, ring!, cert!, gap}
 use Rattle.integers.proofs.Division.{rounded-add}
 use Rattle.integers.proofs.Order.{natAbs-low, natAbs-+, fits}
-use Rattle.units.specs.Units.{U, millennium as T, turn as P, tau-limit, t-limit, a-limit, angle-per-part}
+use Rattle.units.specs.Units.{U, turn as P, tau-limit, t-limit, a-limit, angle-per-part}
 use Rattle.cosine.specs.declared.term.Prepared.{Prepared}
-use Rattle.cosine.specs.machine.Prepared.{base, base², base³, half-base, c-bias, half-millennium, Residue, Ready}
+use Rattle.cosine.specs.declared.term.ByTick.{ByTick}
+use Rattle.cosine.specs.machine.Prepared.{tick as D, half-tick, cut, cuts, base, c-bias, three-steps, base-step, bias-step, Residue, Times, Ready}
 use Rattle.cosine.specs.Cosine.{cosine}
 use Rattle.cosine.specs.Terms.{term-angle, term-cosine, term-value}
 use Rattle.cosine.proofs.NaturalSteps.{rounded-nat}
 use Rattle.cosine.proofs.WholeTurns.{cosine-mod}
-use Rattle.cosine.proofs.Residues.{residue-+, residue-*, residue-carry, residue-rest, residue-as, angle-of}
+use Rattle.cosine.proofs.Residues.{residue-+, residue-*, residue-carry, residue-rest, residue-as, residue-at, residue-less, residue-times}
+use Rattle.cosine.proofs.Residues.{in-turn, in-tick, less-cuts, in-cuts, angle-of}
 
 -- ---- x + k
 
@@ -29,132 +31,104 @@ biased-fits x k h l = let m = natAbs-+ x (pos k) in fits (x +ℤ pos k) (omega a
 pub biased-low : (x : ℤ) (k : ℕ) → natAbs x ≤ k → pos 0 ≼ x +ℤ pos k
 biased-low x k h = cert! (x ∷ pos k ∷ []) 0 (gap (natAbs-low x k h)) (search polys depth 60 fits 100000) tt
 
--- ---- the places
+-- ---- what is prepared
 
-residue-at : {n : ℤ} {q q′ r r′ : ℕ} → q ≡ q′ → r ≡ r′ → Residue n q′ r′ → Residue n q r
-residue-at {n} e f a = subst₂ (λ s t. Residue n s t) (sym e) (sym f) a
-
-place-first : (t : ℤ) (m q r : ℕ) → pos m ≡ t +ℤ pos t-limit → q ≡ (P - angle-per-part * tau-limit + angle-per-part * m / T) % P
-    → r ≡ angle-per-part * m % T → Residue (pos angle-per-part *ℤ t) q r
-place-first t m q r e f g = residue-at f g
-    (residue-carry (record {
-      turns = negℤ (pos 1);
-      is = law t
-          ∙ ap (λ z. pos T *ℤ (pos P *ℤ negℤ (pos 1) +ℤ pos (P - angle-per-part * tau-limit)) +ℤ pos angle-per-part *ℤ z) (sym e);
-    }))
+-- t itself, from m = t + t-limit
+place-first : (t : ℤ) (m : ℕ) → pos m ≡ t +ℤ pos t-limit → Residue t ((P - angle-per-part * tau-limit + m / D) % P) (m % D)
+place-first t m e = residue-carry (record {
+  turns = negℤ (pos 1);
+  is = law t ∙ ap (λ z. pos D *ℤ (pos P *ℤ negℤ (pos 1) +ℤ pos (P - angle-per-part * tau-limit)) +ℤ z) (sym e);
+})
   where
-    law : (t : ℤ) → pos angle-per-part *ℤ t ≡ pos T *ℤ (pos P *ℤ negℤ (pos 1) +ℤ pos (P - angle-per-part * tau-limit))
-        +ℤ pos angle-per-part *ℤ (t +ℤ pos t-limit)
+    law : (t : ℤ) → t ≡ pos D *ℤ (pos P *ℤ negℤ (pos 1) +ℤ pos (P - angle-per-part * tau-limit)) +ℤ (t +ℤ pos t-limit)
     law t = ring! (t ∷ []) (search polys depth 60 fits 100000) tt
 
-place-next : (t : ℤ) (g w : ℕ) {q r : ℕ} (z s : ℕ) → z ≡ (g * q + g * r / T) % P → s ≡ g * r % T → Residue (pos w *ℤ t) q r → Residue (pos (g * w) *ℤ t) z s
-place-next t g w z s e f a = residue-at e f (residue-as (law (pos g) (pos w) t) (residue-carry (residue-* g a)))
-  where
-    law : (g w t : ℤ) → g *ℤ (w *ℤ t) ≡ g *ℤ w *ℤ t
-    law g w t = ring! (g ∷ w ∷ t ∷ []) (search polys depth 60 fits 100000) tt
-
--- ---- the angle
-
--- the number that the digits g₀ .. g₃ of c + the bias stand for
-digits : (c t g₀ g₁ g₂ g₃ d : ℤ) → d ≡ c +ℤ pos c-bias → d ≡ g₀ +ℤ pos base *ℤ g₁ +ℤ pos base² *ℤ g₂ +ℤ pos base³ *ℤ g₃
-    → g₀ *ℤ (pos angle-per-part *ℤ t) +ℤ g₁ *ℤ (pos (angle-per-part * base) *ℤ t) +ℤ g₂ *ℤ (pos (angle-per-part * base²) *ℤ t)
-    +ℤ g₃ *ℤ (pos (angle-per-part * base³) *ℤ t) +ℤ (pos half-millennium -ℤ pos (angle-per-part * c-bias) *ℤ t)
-    ≡ pos half-millennium +ℤ pos angle-per-part *ℤ c *ℤ t
-digits c t g₀ g₁ g₂ g₃ d e f =
-    ring! (t ∷ g₀ ∷ g₁ ∷ g₂ ∷ g₃ ∷ [])
-    {y = pos half-millennium +ℤ pos angle-per-part *ℤ (g₀ +ℤ pos base *ℤ g₁ +ℤ pos base² *ℤ g₂ +ℤ pos base³ *ℤ g₃ -ℤ pos c-bias) *ℤ t}
-    (search polys depth 60 fits 100000) tt
-    ∙ ap (λ z. pos half-millennium +ℤ pos angle-per-part *ℤ (z -ℤ pos c-bias) *ℤ t) (sym f ∙ e)
-    ∙ ring! (c ∷ t ∷ []) (search polys depth 60 fits 100000) tt
-
-pub angle-is : (p : Prepared) → Ready p → (b : ℕ) (c : ℤ) (d q r : ℕ) → pos d ≡ c +ℤ pos c-bias
-    → q ≡ d % base * p .q0 + d / base % base * p .q1 + d / base² % base * p .q2 + d / base³ * p .q3 + p .q4
-    → r ≡ d % base * p .r0 + d / base % base * p .r1 + d / base² % base * p .r2 + d / base³ * p .r3 + p .r4
-    → modulo (pos (q + r / T + angle-per-part * b)) P ≡ term-angle b c (p .t)
-angle-is p h b c d q r e f g =
-    let g₀ = d % base in
-    let g₁ = d / base % base in
-    let g₂ = d / base² % base in
-    let g₃ = d / base³ in
-    let whole : d ≡ g₀ + base * g₁ + base² * g₂ + base³ * g₃ = omega arith in
-    angle-of b c (p .t) q r
-    (residue-at f g (residue-as (digits c (p .t) (pos g₀) (pos g₁) (pos g₂) (pos g₃) (pos d) e (ap pos whole))
-    (residue-+ (residue-+ (residue-+ (residue-+ (residue-* g₀ (h .place-0)) (residue-* g₁ (h .place-1))) (residue-* g₂ (h .place-2)))
-    (residue-* g₃ (h .place-3))) (h .rest))))
-
--- ---- what fits
-
-pub digit-product : (g x : ℕ) → g < base → x < P → g * x ≤ (base - 1) * (P - 1)
-digit-product g x h k = let m : g * x ≤ (base - 1) * (P - 1) = mul-le-mul (le-pred g (base - 1) h) (le-pred x (P - 1) k) in omega arith
-  where
-    le-pred : (a b : ℕ) → a < suc b → a ≤ b
-    le-pred a b h = omega arith
-
-pub times-product : (g x : ℕ) → g ≤ base → x < P → g * x ≤ base * P
-times-product g x h k = let m : g * x ≤ base * P = mul-le-mul h (weak x k) in omega arith
-  where
-    weak : (x : ℕ) → x < P → x ≤ P
-    weak x k = omega arith
-
-pub biased-most : (x : ℤ) (k d : ℕ) → pos d ≡ x +ℤ pos k → d ≤ natAbs x + k
-biased-most x k d e = subst (λ n. n ≤ natAbs x + k) (sym (ap natAbs e)) (natAbs-+ x (pos k))
-
--- ---- all that is prepared
-
-pub ready : (t : ℤ) (m q₁ r₁ q₂ r₂ q₃ r₃ q₄ r₄ : ℕ) → pos m ≡ t +ℤ pos t-limit
-    → (let q₀ = (P - angle-per-part * tau-limit + angle-per-part * m / T) % P in let r₀ = angle-per-part * m % T in
-    (q₁ ≡ (base * q₀ + base * r₀ / T) % P) × (r₁ ≡ base * r₀ % T))
-    → (q₂ ≡ (base * q₁ + base * r₁ / T) % P) × (r₂ ≡ base * r₁ % T)
-    → (q₃ ≡ (base * q₂ + base * r₂ / T) % P) × (r₃ ≡ base * r₂ % T)
-    → (q₄ ≡ (half-base * q₃ + half-base * r₃ / T) % P) × (r₄ ≡ half-base * r₃ % T)
-    → Ready (record {
+pub ready : (t : ℤ) (m : ℕ) (a b : ByTick) → pos m ≡ t +ℤ pos t-limit
+    → Times (three-steps * base-step) ((P - angle-per-part * tau-limit + m / D) % P) (m % D) a → Times (three-steps * bias-step) (a .q) (a .r) b
+    → (let q = (P - angle-per-part * tau-limit + m / D) % P in let e = (P - 1) - b .q in Ready (record {
       t = t;
-      q0 = (P - angle-per-part * tau-limit + angle-per-part * m / T) % P;
-      q1 = q₁;
-      q2 = q₂;
-      q3 = q₃;
-      q4 = (P - 1) - q₄;
-      r0 = angle-per-part * m % T;
-      r1 = r₁;
-      r2 = r₂;
-      r3 = r₃;
-      r4 = (T + half-millennium) - r₄;
-    })
-ready t m q₁ r₁ q₂ r₂ q₃ r₃ q₄ r₄ e h₁ h₂ h₃ h₄ =
-    let p₀ = place-first t m _ _ e refl refl in
-    let p₁ = place-next t base angle-per-part q₁ r₁ (h₁ .0) (h₁ .1) p₀ in
-    let p₂ = place-next t base (angle-per-part * base) q₂ r₂ (h₂ .0) (h₂ .1) p₁ in
-    let p₃ = place-next t base (angle-per-part * base²) q₃ r₃ (h₃ .0) (h₃ .1) p₂ in
-    let p₄ = place-next t half-base (angle-per-part * base³) q₄ r₄ (h₄ .0) (h₄ .1) p₃ in
+      h0 = q / cut;
+      h1 = a .q / cut;
+      h2 = e / cut;
+      l0 = q % cut;
+      l1 = a .q % cut;
+      l2 = e % cut;
+      r0 = m % D;
+      r1 = a .r;
+      r2 = (D + half-tick) - b .r;
+    }))
+ready t m a b e f g =
+    let p = place-first t m e in
+    let s = residue-times f p in
     record {
-      place-0 = p₀;
-      place-1 = p₁;
-      place-2 = p₂;
-      place-3 = p₃;
-      rest = residue-rest (in-turn _ q₄ (h₄ .0)) (in-millennium _ r₄ (h₄ .1)) p₄;
-      q0-in = in-turn _ _ refl;
-      q1-in = in-turn _ q₁ (h₁ .0);
-      q2-in = in-turn _ q₂ (h₂ .0);
-      q3-in = in-turn _ q₃ (h₃ .0);
-      q4-in = less-turn q₄;
-      r0-in = in-millennium _ _ refl;
-      r1-in = in-millennium _ r₁ (h₁ .1);
-      r2-in = in-millennium _ r₂ (h₂ .1);
-      r3-in = in-millennium _ r₃ (h₃ .1);
-      r4-in = less-millennia r₄;
+      place-0 = in-cuts p;
+      place-1 = in-cuts s;
+      rest = in-cuts (residue-rest (g .q-in) (g .r-in) (residue-as (law t) (residue-times g s)));
+      h0-in = few _ (in-turn (P - angle-per-part * tau-limit + m / D));
+      h1-in = few _ (f .q-in);
+      h2-in = few _ (less-turn (b .q));
+      l0-in = in-cut _;
+      l1-in = in-cut _;
+      l2-in = in-cut _;
+      r0-in = in-tick m;
+      r1-in = f .r-in;
+      r2-in = less-ticks (b .r);
     }
   where
-    in-turn : (x q : ℕ) → q ≡ x % P → q < P
-    in-turn x q e = omega arith
+    law : (t : ℤ) → pos (three-steps * bias-step) *ℤ (pos (three-steps * base-step) *ℤ t) ≡ pos c-bias *ℤ t
+    law t = ring! (t ∷ []) (search polys depth 60 fits 100000) tt
 
-    in-millennium : (x r : ℕ) → r ≡ x % T → r < T
-    in-millennium x r e = omega arith
+    few : (q : ℕ) → q < P → q / cut < cuts
+    few q h = omega arith
 
     less-turn : (q : ℕ) → (P - 1) - q < P
     less-turn q = omega arith
 
-    less-millennia : (r : ℕ) → (T + half-millennium) - r < 2 * T
-    less-millennia r = omega arith
+    in-cut : (q : ℕ) → q % cut < cut
+    in-cut q = omega arith
+
+    less-ticks : (r : ℕ) → (D + half-tick) - r < 2 * D
+    less-ticks r = omega arith
+
+-- ---- the angle
+
+-- the number that the digits g₀, g₁ of c + the bias stand for
+digits : (c t g₀ g₁ d : ℤ) → d ≡ c +ℤ pos c-bias → d ≡ g₀ +ℤ pos base *ℤ g₁
+    → g₀ *ℤ t +ℤ g₁ *ℤ (pos base *ℤ t) +ℤ (pos half-tick -ℤ pos c-bias *ℤ t) ≡ pos half-tick +ℤ c *ℤ t
+digits c t g₀ g₁ d e f =
+    ring! (t ∷ g₀ ∷ g₁ ∷ []) {y = pos half-tick +ℤ (g₀ +ℤ pos base *ℤ g₁ -ℤ pos c-bias) *ℤ t} (search polys depth 60 fits 100000) tt
+    ∙ ap (λ z. pos half-tick +ℤ (z -ℤ pos c-bias) *ℤ t) (sym f ∙ e)
+    ∙ ring! (c ∷ t ∷ []) (search polys depth 60 fits 100000) tt
+
+-- the quotients together are cut h + l
+together : (g₀ g₁ h₀ h₁ h₂ l₀ l₁ l₂ h l : ℕ) → h ≡ g₀ * h₀ + g₁ * h₁ + h₂ → l ≡ g₀ * l₀ + g₁ * l₁ + l₂
+    → g₀ * (cut * h₀ + l₀) + g₁ * (cut * h₁ + l₁) + (cut * h₂ + l₂) ≡ P * (h / cuts) + (h % cuts * cut + l)
+together g₀ g₁ h₀ h₁ h₂ l₀ l₁ l₂ h l e f = sum cut ∙ ap₂ (λ x y. cut * x + y) (sym e) (sym f) ∙ less-cuts h l
+  where
+    sum : (k : ℕ) → g₀ * (k * h₀ + l₀) + g₁ * (k * h₁ + l₁) + (k * h₂ + l₂) ≡ k * (g₀ * h₀ + g₁ * h₁ + h₂) + (g₀ * l₀ + g₁ * l₁ + l₂)
+    sum k = omega arith
+
+pub angle-is : (p : Prepared) → Ready p → (b : ℕ) (c : ℤ) (d h l r : ℕ) → pos d ≡ c +ℤ pos c-bias
+    → h ≡ d % base * p .h0 + d / base * p .h1 + p .h2
+    → l ≡ d % base * p .l0 + d / base * p .l1 + p .l2
+    → r ≡ d % base * p .r0 + d / base * p .r1 + p .r2
+    → modulo (pos (h % cuts * cut + l + r / D + angle-per-part * b)) P ≡ term-angle b c (p .t)
+angle-is p a b c d h l r e eh el er =
+    let g₀ = d % base in
+    let g₁ = d / base in
+    let whole : d ≡ g₀ + base * g₁ = omega arith in
+    let all = residue-+ (residue-+ (residue-* g₀ (a .place-0)) (residue-* g₁ (a .place-1))) (a .rest) in
+    let n = digits c (p .t) (pos g₀) (pos g₁) (pos d) e (ap pos whole) in
+    let s = together g₀ g₁ (p .h0) (p .h1) (p .h2) (p .l0) (p .l1) (p .l2) h l eh el in
+    angle-of b c (p .t) (h % cuts * cut + l) r (residue-at refl er (residue-less (h / cuts) (h % cuts * cut + l) s (residue-as n all)))
+
+-- ---- what fits
+
+pub product-most : (g x G X : ℕ) → g ≤ G → x < suc X → g * x ≤ G * X
+product-most g x G X h k = mul-le-mul h (omega arith)
+
+pub biased-most : (x : ℤ) (k d : ℕ) → pos d ≡ x +ℤ pos k → d ≤ natAbs x + k
+biased-most x k d e = subst (λ n. n ≤ natAbs x + k) (sym (ap natAbs e)) (natAbs-+ x (pos k))
 
 -- ---- the value
 

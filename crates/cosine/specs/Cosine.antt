@@ -55,7 +55,7 @@ working-cosine Q step x = cosine-by negℤ (modulo (q-of Q x) 4) (even-part (w-o
 unfoldable pub working-sine : ℕ → ℕ → ℤ → ℤ
 working-sine Q step x = sine-by negℤ (modulo (q-of Q x) 4) (even-part (w-of Q step x)) (odd-part (w-of Q step x))
 
--- Of an angle in 10^-13 radian.
+-- Of an angle in 10^-16 radian.
 unfoldable pub cosine : ℤ → ℤ
 cosine x = working-cosine quarter angle-step x
 

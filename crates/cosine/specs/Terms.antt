@@ -5,7 +5,7 @@ use Rattle.integers.specs.Division.{rounded, modulo}
 use Rattle.units.specs.Units.{U, millennium, turn, angle-per-part}
 use Rattle.cosine.specs.Cosine.{cosine}
 
--- The angle b + c*tau in 10^-13 radian, rounded, less whole turns.
+-- The angle b + c*tau in 10^-16 radian, rounded, less whole turns.
 unfoldable pub term-angle : ℕ → ℤ → ℤ → ℕ
 term-angle b c t = modulo (pos (angle-per-part * b) +ℤ rounded (pos angle-per-part *ℤ c *ℤ t) millennium) turn
 

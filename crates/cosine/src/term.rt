@@ -1,12 +1,12 @@
 // A term of a series at an instant: its angle, its value: RULES, "Working cosine and sums". What is public is for the crates above.
-// Angles are worked modulo the turn while they are divided by T, so that no product passes 64 bits.
+// c t is divided by a tick modulo the turn, so that no product passes 64 bits.
 ghost use mathlib.Core.Path.{_≡_};
-ghost use Prim.Native.Nat.{_+_, _*_, _/_, _%_, _<_, _≤_, _^_};
+ghost use Prim.Native.Nat.{_+_, _*_, _<_, _≤_, _^_};
 ghost use lib.IntN.{pos, negℤ, natAbs, _+ℤ_, _-ℤ_, _*ℤ_};
 ghost use Rattle.integers.specs.Division.{rounded, modulo};
-ghost use Rattle.units.specs.Units.{U, millennium, turn, t-limit, a-limit, b-limit, c-limit};
+ghost use Rattle.units.specs.Units.{U, turn, t-limit, a-limit, b-limit, c-limit};
 ghost use Rattle.cosine.specs.machine.Parity.{value-by-parity, In-range};
-ghost use Rattle.cosine.specs.machine.Prepared.{base, combined-limit, Ready, Products};
+ghost use Rattle.cosine.specs.machine.Prepared.{tick, cuts, base, top-digit, step-limit, three-steps, combined-limit, Times, Ready};
 ghost use Rattle.cosine.specs.Terms.{term-angle, term-value};
 use crate::working::HALF_UNIT;
 use crate::working::biased_angle;
@@ -25,24 +25,39 @@ use units::TAU_LIMIT;
 use units::TURN;
 use units::U;
 
-// The base of the four digits of c, 2^15, its powers, and what c is raised by: specs/machine/Prepared.antt.
-const BASE: u64 = 32768;
+// A millennium by the units of angle in a part, and half of that: specs/machine/Prepared.antt has these, and all down to BIAS_STEP.
+const TICK: u64 = MILLENNIUM / ANGLE_PER_PART;
 
-const BASE_2: u64 = BASE * BASE;
+const HALF_TICK: u64 = TICK / 2;
 
-const BASE_3: u64 = BASE * BASE_2;
+// A divisor of the turn, and how often the turn has it.
+pub const CUT: u64 = 9367192;
+
+pub const CUTS: u64 = TURN / CUT;
+
+// The base of the two digits of c, 2^29, and what c is raised by, 2^57.
+const BASE: u64 = 536870912;
 
 const HALF_BASE: u64 = BASE / 2;
 
-const C_BIAS: u64 = HALF_BASE * BASE_3;
+const C_BIAS: u64 = HALF_BASE * BASE;
 
-// t is raised by T_LIMIT, which is TAU_LIMIT times T: by so much is the quotient by T of its angle too great. A turn keeps it from 0 on.
+// The greatest factor of one step, and the last step to the second digit's place and from there to C_BIAS.
+const STEP_LIMIT: u64 = 256;
+
+const THREE_STEPS: u64 = STEP_LIMIT * STEP_LIMIT * STEP_LIMIT;
+
+const BASE_STEP: u64 = BASE / THREE_STEPS;
+
+const BIAS_STEP: u64 = HALF_BASE / THREE_STEPS;
+
+// t is raised by T_LIMIT, which is TAU_LIMIT times T: by so much is its quotient by a tick too great. A turn keeps it from 0 on.
 const T_BIAS: u64 = TURN - ANGLE_PER_PART * TAU_LIMIT;
 
-// What T q + r is taken from, so that its opposite and T/2 more come out: T times a turn, and T/2.
+// What tick q + r is taken from, so that its opposite and half a tick more come out: a turn of ticks, and half a tick.
 const REST_Q: u64 = TURN - 1;
 
-const REST_R: u64 = MILLENNIUM + MILLENNIUM / 2;
+const REST_R: u64 = TICK + HALF_TICK;
 
 // An amplitude is raised by A_LIMIT; its quotient by U is so much too great.
 const A_BIAS: u64 = A_LIMIT / U;
@@ -50,20 +65,19 @@ const A_BIAS: u64 = A_LIMIT / U;
 // specs/machine/Prepared.antt says what the figures are.
 pub struct Prepared {
     pub t: i64,
-    pub q0: u64,
-    pub q1: u64,
-    pub q2: u64,
-    pub q3: u64,
-    pub q4: u64,
+    pub h0: u64,
+    pub h1: u64,
+    pub h2: u64,
+    pub l0: u64,
+    pub l1: u64,
+    pub l2: u64,
     pub r0: u64,
     pub r1: u64,
     pub r2: u64,
-    pub r3: u64,
-    pub r4: u64,
 }
 
-// T q + r.
-struct ByMillennium {
+// tick q + r.
+struct ByTick {
     pub q: u64,
     pub r: u64,
 }
@@ -83,16 +97,27 @@ fn biased(x: i64, k: u64) -> u64
     low(add(x, wide(k)))
 }
 
-// g times T q + r, brought below T times the turn again.
-fn times(g: u64, q: u64, r: u64) -> ByMillennium
-    requires { ⌜ (g ≤ base) × (q < turn) × (r < millennium) ⌝ }
-    ensures { λ z. ⌜ (z .q ≡ (g * q + g * r / millennium) % turn) × (z .r ≡ g * r % millennium) ⌝ }
+// g times tick q + r, brought below a tick and a turn again.
+fn times(g: u64, q: u64, r: u64) -> ByTick
+    requires { ⌜ (g ≤ step-limit) × (q < turn) × (r < tick) ⌝ }
+    ensures { λ z. ⌜ Times g q r z ⌝ }
 {
     let s = g * r;
-    ByMillennium {
-        q: (g * q + s / MILLENNIUM) % TURN,
-        r: s % MILLENNIUM,
+    ByTick {
+        q: (g * q + s / TICK) % TURN,
+        r: s % TICK,
     }
+}
+
+// The same for a factor of four steps, g times 2^24.
+fn times_far(g: u64, q: u64, r: u64) -> ByTick
+    requires { ⌜ (g ≤ step-limit) × (q < turn) × (r < tick) ⌝ }
+    ensures { λ z. ⌜ Times (three-steps * g) q r z ⌝ }
+{
+    let a = times(STEP_LIMIT, q, r);
+    let b = times(STEP_LIMIT, a.q, a.r);
+    let c = times(STEP_LIMIT, b.q, b.r);
+    times(g, c.q, c.r)
 }
 
 // Once for an instant.
@@ -101,36 +126,32 @@ pub fn prepare(at: Instant) -> Prepared
     ensures { λ p. ⌜ (p .t ≡ at .ms) × Ready p ⌝ }
 {
     let t = at.ms;
-    let n = ANGLE_PER_PART * biased(t, T_LIMIT);
-    let a = ByMillennium {
-        q: (T_BIAS + n / MILLENNIUM) % TURN,
-        r: n % MILLENNIUM,
-    };
-    let b = times(BASE, a.q, a.r);
-    let c = times(BASE, b.q, b.r);
-    let d = times(BASE, c.q, c.r);
-    let e = times(HALF_BASE, d.q, d.r);
+    let n = biased(t, T_LIMIT);
+    let q = (T_BIAS + n / TICK) % TURN;
+    let r = n % TICK;
+    let a = times_far(BASE_STEP, q, r);
+    let b = times_far(BIAS_STEP, a.q, a.r);
+    let e = REST_Q - b.q;
     Prepared {
         t: t,
-        q0: a.q,
-        q1: b.q,
-        q2: c.q,
-        q3: d.q,
-        q4: REST_Q - e.q,
-        r0: a.r,
-        r1: b.r,
-        r2: c.r,
-        r3: d.r,
-        r4: REST_R - e.r,
+        h0: q / CUT,
+        h1: a.q / CUT,
+        h2: e / CUT,
+        l0: q % CUT,
+        l1: a.q % CUT,
+        l2: e % CUT,
+        r0: r,
+        r1: a.r,
+        r2: REST_R - b.r,
     }
 }
 
-// The sum of four products and a fifth number.
-fn combined(g0: u64, g1: u64, g2: u64, g3: u64, x0: u64, x1: u64, x2: u64, x3: u64, x4: u64) -> u64
-    requires { ⌜ Products g0 g1 g2 g3 x0 x1 x2 x3 x4 ⌝ }
-    ensures { λ r. ⌜ (r ≡ g0 * x0 + g1 * x1 + g2 * x2 + g3 * x3 + x4) × (r < combined-limit) ⌝ }
+// The sum of two products and a third number.
+fn combined(g0: u64, g1: u64, x0: u64, x1: u64, x2: u64) -> u64
+    requires { ⌜ (g0 < base) × (g1 ≤ top-digit) × (x0 < cuts) × (x1 < cuts) × (x2 < cuts) ⌝ }
+    ensures { λ r. ⌜ (r ≡ g0 * x0 + g1 * x1 + x2) × (r < combined-limit) ⌝ }
 {
-    g0 * x0 + g1 * x1 + g2 * x2 + g3 * x3 + x4
+    g0 * x0 + g1 * x1 + x2
 }
 
 // A term's angle, but for whole turns.
@@ -140,12 +161,11 @@ pub fn angle(p: Prepared, b: u64, c: i64) -> u64
 {
     let d = biased(c, C_BIAS);
     let g0 = d % BASE;
-    let g1 = d / BASE % BASE;
-    let g2 = d / BASE_2 % BASE;
-    let g3 = d / BASE_3;
-    let q = combined(g0, g1, g2, g3, p.q0, p.q1, p.q2, p.q3, p.q4);
-    let r = combined(g0, g1, g2, g3, p.r0, p.r1, p.r2, p.r3, p.r4);
-    q + r / MILLENNIUM + ANGLE_PER_PART * b
+    let g1 = d / BASE;
+    let h = combined(g0, g1, p.h0, p.h1, p.h2);
+    let l = combined(g0, g1, p.l0, p.l1, p.l2);
+    let r = combined(g0, g1, p.r0, p.r1, p.r2);
+    h % CUTS * CUT + l + r / TICK + ANGLE_PER_PART * b
 }
 
 // a (c - U) / U rounded, for a cosine c that is U too great; a is split at U, and raised until the end.

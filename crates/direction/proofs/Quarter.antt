@@ -2,7 +2,7 @@
 use mathlib.Core.Path.{_≡_, refl, sym, ap, subst₂}
 use mathlib.Core.List.{[], _∷_}
 use mathlib.Core.Logic.{_⊎_, inl, inr}
-use Prim.Native.Nat.{_*_, _<_}
+use Prim.Native.Nat.{_*_, _-_}
 use lib.Dec.{lit<}
 use lib.IntN.{ℤ, pos, _+ℤ_, _-ℤ_, _*ℤ_, negℤ}
 use lib.Signed.{≤ℤ-refl}
@@ -85,11 +85,11 @@ lower x h k = record {
   where
     lower-least : pos 0 ≼ lower-w x
     lower-least = unfold lower-w in let r = x -ℤ pos 0 *ℤ pos quarter in
-        cert! (x ∷ rounded r angle-step ∷ []) 19999 (gap< (rounded-high r angle-step (lit< tt)) ⊞ 2 · h) (search polys depth 60 fits 100000) tt
+        cert! (x ∷ rounded r angle-step ∷ []) (2 * angle-step - 1) (gap< (rounded-high r angle-step (lit< tt)) ⊞ 2 · h) (search polys depth 60 fits 100000) tt
 
     lower-most : lower-w x ≼ pos w-most
     lower-most = unfold lower-w in let r = x -ℤ pos 0 *ℤ pos quarter in
-        cert! (x ∷ rounded r angle-step ∷ []) 19999 (gap (rounded-low r angle-step (lit< tt)) ⊞ gap< k) (search polys depth 60 fits 100000) tt
+        cert! (x ∷ rounded r angle-step ∷ []) (2 * angle-step - 1) (gap (rounded-low r angle-step (lit< tt)) ⊞ gap< k) (search polys depth 60 fits 100000) tt
 
 upper : (x : ℤ) → pos quarter ≼ pos 2 *ℤ x → x ≼ pos quarter → Upper x (upper-w x)
 upper x h k = record {
@@ -101,11 +101,11 @@ upper x h k = record {
   where
     upper-least : pos 0 ≼ upper-w x
     upper-least = unfold upper-w in let r = x -ℤ pos 1 *ℤ pos quarter in
-        cert! (x ∷ rounded r angle-step ∷ []) 19999 (gap (rounded-low r angle-step (lit< tt)) ⊞ 2 · gap k) (search polys depth 60 fits 100000) tt
+        cert! (x ∷ rounded r angle-step ∷ []) (2 * angle-step - 1) (gap (rounded-low r angle-step (lit< tt)) ⊞ 2 · gap k) (search polys depth 60 fits 100000) tt
 
     upper-most : upper-w x ≼ pos w-most
     upper-most = unfold upper-w in let r = x -ℤ pos 1 *ℤ pos quarter in
-        cert! (x ∷ rounded r angle-step ∷ []) 19999 (gap< (rounded-high r angle-step (lit< tt)) ⊞ gap h) (search polys depth 60 fits 100000) tt
+        cert! (x ∷ rounded r angle-step ∷ []) (2 * angle-step - 1) (gap< (rounded-high r angle-step (lit< tt)) ⊞ gap h) (search polys depth 60 fits 100000) tt
 
 lower-rises : (x x′ : ℤ) → x ≼ x′ → lower-w x ≼ lower-w x′
 unfolding lower-w

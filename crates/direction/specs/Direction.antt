@@ -16,7 +16,7 @@ quarter-steps = 90 * 3600 * 100
 abbrev pub turn-steps : ℕ
 turn-steps = 4 * quarter-steps
 
--- The angle of k hundredths, in 10^-13 radian.
+-- The angle of k hundredths, in 10^-16 radian.
 unfoldable pub steps-angle : ℤ → ℤ
 steps-angle k = units-angle turn-steps k
 

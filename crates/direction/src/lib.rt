@@ -32,12 +32,12 @@ const TWO_TURNS: u64 = 2 * TURN_STEPS;
 // The turn as a signed number.
 const SIGNED_TURN: i64 = TURN as i64;
 
-// The angle of s units, of which a turn has `units`, in 10^-13 radian.
+// The angle of s units, of which a turn has `units`, in 10^-16 radian. The turn comes first: a second factor has at most 47 bits.
 pub fn units_angle(s: i64, units: u64) -> i64
-    requires { ⌜ (0 < units) × (units ≤ 2 ^ 47) × (natAbs s * turn < units * (2 ^ 63 - 1)) ⌝ }
+    requires { ⌜ (0 < units) × (units ≤ 2 ^ 47) × (natAbs s ≤ 2 ^ 47) × (natAbs s * turn < units * (2 ^ 63 - 1)) ⌝ }
     ensures { λ r. ⌜ r ≡ units-angle units s ⌝ }
 {
-    mul_div_round(s, SIGNED_TURN, units)
+    mul_div_round(SIGNED_TURN, s, units)
 }
 
 // The angle of k hundredths of an arcsecond.

@@ -39,11 +39,11 @@ unfolding floor rounded modulo next closed groups-from number groups encode fold
 worked = (
   record {
     p = record { longitude = pos 507209511301; latitude = minus 6707974031; radius = pos 68435804865 };
-    e = record { longitude = pos 444630145945; latitude = pos 0; radius = pos 189478458001 };
-    s = record { x = pos 49825003689; y = pos 182810161197; z = pos 0 };
-    g = record { x = pos 73860174509; y = pos 118898288895; z = minus 4587214018 };
-    s-length = 189478457956;
-    g-length = 140047031432;
+    e = record { longitude = pos 444630146067; latitude = pos 0; radius = pos 189478458001 };
+    s = record { x = pos 49825003499; y = pos 182810161387; z = pos 0 };
+    g = record { x = pos 73860174319; y = pos 118898289085; z = minus 4587214018 };
+    s-length = 189478458089;
+    g-length = 140047031493;
     planet-in = refl;
     earth-in = refl;
     time-in = lit≤ tt;
@@ -92,12 +92,12 @@ worked = (
     usable-is = refl;
   },
   record {
-    p = record { longitude = minus 220001349603881702; latitude = pos 0; radius = pos 60000000000 };
-    e = record { longitude = pos 220001349603881702; latitude = pos 0; radius = pos 100000000000 };
-    s = record { x = minus 98978905900; y = minus 14253988400; z = pos 0 };
-    g = record { x = minus 39591562360; y = minus 22806381440; z = pos 0 };
-    s-length = 99999999992;
-    g-length = 45690511536;
+    p = record { longitude = minus 220001349603938502; latitude = pos 0; radius = pos 60000000000 };
+    e = record { longitude = pos 220001349603938502; latitude = pos 0; radius = pos 100000000000 };
+    s = record { x = minus 98978897700; y = minus 14254045100; z = pos 0 };
+    g = record { x = minus 39591559080; y = minus 22806472160; z = pos 0 };
+    s-length = 99999999958;
+    g-length = 45690553977;
     planet-in = refl;
     earth-in = refl;
     time-in = lit≤ tt;
@@ -110,12 +110,12 @@ worked = (
     usable-is = refl;
   },
   record {
-    p = record { longitude = minus 220001321651221707; latitude = pos 0; radius = pos 60000000000 };
-    e = record { longitude = pos 220001321651221707; latitude = pos 0; radius = pos 100000000000 };
-    s = record { x = minus 99069838900; y = pos 13607608500; z = pos 0 };
-    g = record { x = minus 39627935560; y = pos 21772173600; z = pos 0 };
-    s-length = 99999999943;
-    g-length = 45215050812;
+    p = record { longitude = minus 220001321651278507; latitude = pos 0; radius = pos 60000000000 };
+    e = record { longitude = pos 220001321651278507; latitude = pos 0; radius = pos 100000000000 };
+    s = record { x = minus 99069846800; y = pos 13607551700; z = pos 0 };
+    g = record { x = minus 39627938720; y = pos 21772082720; z = pos 0 };
+    s-length = 100000000041;
+    g-length = 45215009821;
     planet-in = refl;
     earth-in = refl;
     time-in = lit≤ tt;

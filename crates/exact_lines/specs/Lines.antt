@@ -143,7 +143,7 @@ early k within = record {
   within = within;
 }
 
--- A series nearly as coarse as one may be: its L has a term of the greatest rate, and every power of tau with the greatest amplitude.
+-- A series far from the published ones: its L has a great term of the greatest rate, and every power of tau with the greatest amplitude.
 abbrev wild : (b : ℕ) (a r : ℤ) → List (List Term)
 wild b a r =
     (record { a = pos 14200000000000; b = b; c = pos 99999999999999999 } ∷ [])

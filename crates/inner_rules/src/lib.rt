@@ -44,7 +44,7 @@ const B_LAST: u64 = B_LIMIT - 1;
 
 const C_LAST: u64 = C_LIMIT - 1;
 
-// The angle of a term, in 10^-13 radian and less than a turn, and its value in parts.
+// The angle of a term, in 10^-16 radian and less than a turn, and its value in parts.
 #[repr(C)]
 pub struct TermFigures {
     pub angle: u64,
@@ -52,7 +52,7 @@ pub struct TermFigures {
 }
 
 // The nutation in longitude and in obliquity and the mean obliquity, in 10^-5 arcsecond, and the angles of the nutation in longitude and of the
-// true obliquity, in 10^-13 radian.
+// true obliquity, in 10^-16 radian.
 #[repr(C)]
 pub struct NutationFigures {
     pub longitude: i64,

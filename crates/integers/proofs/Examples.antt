@@ -63,9 +63,9 @@ third : (x y : ℤ) → pos 3 *ℤ x ≼ pos 3 *ℤ y +ℤ pos 2 → x ≼ y
 third x y h = cert! (x ∷ y ∷ []) 2 (gap h) (search polys depth 30) tt
 
 -- numbers of any width
-fourth : (x : ℤ) → pos 0 ≼ x → x ≼ pos 62831853071796 → x *ℤ x *ℤ x *ℤ x ≼ pos (62831853071796 ^ 4)
+fourth : (x : ℤ) → pos 0 ≼ x → x ≼ pos 62831853071795864 → x *ℤ x *ℤ x *ℤ x ≼ pos (62831853071795864 ^ 4)
 fourth x h k =
-    cert! (x ∷ []) 0 (62831853071796 ^ 3 · gap k ⊞ 62831853071796 ^ 2 · (h ⊛ gap k) ⊞ 62831853071796 · (h ⊛ h ⊛ gap k) ⊞ h ⊛ h ⊛ h ⊛ gap k)
+    cert! (x ∷ []) 0 (62831853071795864 ^ 3 · gap k ⊞ 62831853071795864 ^ 2 · (h ⊛ gap k) ⊞ 62831853071795864 · (h ⊛ h ⊛ gap k) ⊞ h ⊛ h ⊛ h ⊛ gap k)
     (search polys depth 40) tt
 
 -- ---- a rounding in a certificate: `rounded n d` itself stands in the list, and `rounded-low`, `rounded-high` bound it

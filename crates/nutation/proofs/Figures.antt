@@ -10,13 +10,13 @@ use Rattle.nutation.specs.Nutation.{polynomial, mean-elongation, sun-ano
 use Rattle.nutation.specs.Nutation.{coefficient, longitude-term, obliquity-term, add-up, longitude-nutation, obliquity-nutation, mean-obliquity}
 use Rattle.nutation.specs.Nutation.{true-obliquity, nutation-angle, obliquity-angle}
 
--- The sums, the mean and the true obliquity in 10^-5 arcsecond, and the two angles in 10^-13 radian.
+-- The sums, the mean and the true obliquity in 10^-5 arcsecond, and the two angles in 10^-16 radian.
 unfoldable pub figures-at : ℤ → List ℤ
 figures-at t = longitude-nutation t ∷ obliquity-nutation t ∷ mean-obliquity t ∷ true-obliquity t ∷ nutation-angle t ∷ obliquity-angle t ∷ []
 
 pub figures : figures-at (pos 157809600000) ∷ figures-at (negℤ (pos 63115200000000)) ∷ []
-    ≡ (negℤ (pos 741297) ∷ pos 759608 ∷ pos 8437910693 ∷ pos 8438670301 ∷ negℤ (pos 359390927) ∷ pos 4091182812298 ∷ [])
-    ∷ (pos 1568609 ∷ pos 251233 ∷ pos 8530300800 ∷ pos 8530552033 ∷ pos 760483104 ∷ pos 4135728333015 ∷ []) ∷ []
+    ≡ (negℤ (pos 741297) ∷ pos 759608 ∷ pos 8437910693 ∷ pos 8438670301 ∷ negℤ (pos 359390927365) ∷ pos 4091182812297526 ∷ [])
+    ∷ (pos 1568609 ∷ pos 251233 ∷ pos 8530300800 ∷ pos 8530552033 ∷ pos 760483103512 ∷ pos 4135728333015166 ∷ []) ∷ []
 unfolding figures-at floor rounded modulo q-of r-of w-of y-of horner even-part odd-part cosine-by sine-by working-cosine working-sine cosine sine
     units-angle rows polynomial mean-elongation sun-anomaly moon-anomaly latitude-argument moon-node row-argument row-angle coefficient longitude-term
     obliquity-term add-up longitude-nutation obliquity-nutation mean-obliquity true-obliquity nutation-angle obliquity-angle

@@ -95,6 +95,9 @@ sine-row t r a s c h e f = f ∙ ap (λ z. sine (units-angle argument-turn z)) (
     ∙ sine-left (whole-turns t r) (reduced-sum t r) (row-argument t r) (sum-turns t r)
 
 -- the angle of a remainder is not negative, and small enough to be worked out
+pub left-small : (m : ℕ) → m < argument-turn → m ≤ 2 ^ 47
+left-small m h = omega arith
+
 pub left-room : (m : ℕ) → m < argument-turn → m * turn < argument-turn * (2 ^ 63 - 1)
 left-room m h = omega arith
 

@@ -103,7 +103,7 @@ mean-obliquity t = polynomial t millennium obliquity-coefficients
 unfoldable pub true-obliquity : ℤ → ℤ
 true-obliquity t = mean-obliquity t +ℤ obliquity-nutation t
 
--- Both as angles, in 10^-13 radian.
+-- Both as angles, in 10^-16 radian.
 unfoldable pub nutation-angle : ℤ → ℤ
 nutation-angle t = units-angle sum-turn (longitude-nutation t)
 

@@ -40,7 +40,7 @@ pub struct Nutation {
     pub obliquity: i64,
 }
 
-// The angle of the nutation in longitude and that of the true obliquity, in 10^-13 radian.
+// The angle of the nutation in longitude and that of the true obliquity, in 10^-16 radian.
 pub struct Angles {
     pub nutation: i64,
     pub obliquity: i64,
@@ -54,7 +54,7 @@ pub fn mean_obliquity_at(t: i64) -> i64
     polynomial(t, MILLENNIUM, &OBLIQUITY)
 }
 
-// The nutation in longitude and the true obliquity at t milliseconds, as angles in 10^-13 radian.
+// The nutation in longitude and the true obliquity at t milliseconds, as angles in 10^-16 radian.
 pub fn angles_at(t: i64) -> Angles
     requires { ⌜ natAbs t ≤ t-limit ⌝ }
     ensures { λ r. ⌜ (r .nutation ≡ nutation-angle t) × (r .obliquity ≡ obliquity-angle t) ⌝ }

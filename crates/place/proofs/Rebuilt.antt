@@ -56,8 +56,8 @@ module _ (k : ℤ) (h : natAbs k ≤ turn-steps) where
   k-cell : Cell k ≡ k
   k-cell = cell k (omega arith)
 
-  pub steps-ask : (0 < turn-steps) × (turn-steps ≤ 2 ^ 47) × (natAbs (Cell k) * turn < turn-steps * (2 ^ 63 - 1))
-  steps-ask = (omega arith, omega arith, rw k-cell (omega arith))
+  pub steps-ask : (0 < turn-steps) × (turn-steps ≤ 2 ^ 47) × (natAbs (Cell k) ≤ 2 ^ 47) × (natAbs (Cell k) * turn < turn-steps * (2 ^ 63 - 1))
+  steps-ask = (omega arith, omega arith, rw k-cell (omega arith), rw k-cell (omega arith))
 
   angle-size : natAbs (steps-angle k) ≤ turn
   unfolding steps-angle units-angle

@@ -28,7 +28,7 @@ pub enum Sighting {
     NoSight(Refusal),
 }
 
-// The apparent equatorial vector, in parts, with the nutation in longitude and the true obliquity as angles, in 10^-13 radian.
+// The apparent equatorial vector, in parts, with the nutation in longitude and the true obliquity as angles, in 10^-16 radian.
 pub struct Apparent {
     pub vector: Vector,
     pub nutation: i64,

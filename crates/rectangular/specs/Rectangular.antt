@@ -6,7 +6,7 @@ use Rattle.cosine.specs.Cosine.{cosine, sine}
 use Rattle.units.specs.declared.Coordinates.{Coordinates}
 use Rattle.rectangular.specs.declared.Vector.{Vector}
 
--- From a radius R and the angles of B and L, in 10^-13 radian: R cos B is rounded before it meets cos L and sin L.
+-- From a radius R and the angles of B and L, in 10^-16 radian: R cos B is rounded before it meets cos L and sin L.
 unfoldable pub rectangular : (radius latitude longitude : ℤ) → Vector
 rectangular r b l = record {
   x = rounded (rounded (r *ℤ cosine b) U *ℤ cosine l) U;

@@ -10,12 +10,10 @@ pub mod from_earth;
 
 use arith::muldiv::mul_div_round;
 use arith::muldiv::scale;
-use arith::residue::residue_times;
 use arith::signed::sub;
+use cosine::parts::parts_angle;
 use cosine::working::cosine_sine;
-use units::ANGLE_PER_PART;
 use units::Coordinates;
-use units::TURN;
 use units::U;
 
 // U as the multiplier of a signed product.
@@ -41,7 +39,7 @@ pub enum Sight {
     Unusable,
 }
 
-// From a radius and the angles of B and L, in 10^-13 radian.
+// From a radius and the angles of B and L, in 10^-16 radian.
 pub fn from_angles(radius: i64, latitude: u64, longitude: u64) -> Vector
     requires { ⌜ (natAbs radius < 2 ^ 63) × (latitude < 2 ^ 63) × (longitude < 2 ^ 63) ⌝ }
     ensures { λ v. ⌜ v ≡ rectangular radius (pos latitude) (pos longitude) ⌝ }
@@ -60,8 +58,8 @@ fn place(c: Coordinates) -> Vector
     requires { ⌜ natAbs (c .radius) < 2 ^ 63 ⌝ }
     ensures { λ v. ⌜ v ≡ place-of c ⌝ }
 {
-    let b = residue_times(ANGLE_PER_PART, c.latitude, TURN);
-    let l = residue_times(ANGLE_PER_PART, c.longitude, TURN);
+    let b = parts_angle(c.latitude);
+    let l = parts_angle(c.longitude);
     from_angles(c.radius, b, l)
 }
 

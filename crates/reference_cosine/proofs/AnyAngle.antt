@@ -1,6 +1,6 @@
 -- The working parts of any angle against the nested series of any fraction near it. Assumes nothing.
 use mathlib.Core.List.{[], _∷_}
-use Prim.Native.Nat.{ℕ, _*_, _+_, _<_}
+use Prim.Native.Nat.{ℕ, _*_, _<_}
 use native.Mathlib.Omega.{arith}
 use lib.IntN.{ℤ, pos, _+ℤ_, _-ℤ_, _*ℤ_, negℤ}
 use Rattle.integers.specs.Order.{_≼_, _≺_}
@@ -9,9 +9,9 @@ use Rattle.integers.proofs.Auto.{ring!, cert!, polys, gap, gap<, _⊞_, _⊛_, 
 use Rattle.integers.proofs.Order.{≺-≼, product-pos, ≺-nat}
 use Rattle.integers.specs.Division.{rounded, modulo}
 use Rattle.integers.proofs.Division.{rounded-low, rounded-high}
-use Rattle.units.specs.Units.{U}
+use Rattle.units.specs.Units.{U, two-pi as A, four-radians as F}
 use Rattle.cosine.specs.Cosine.{q-of, r-of, w-of}
-use Rattle.reference_cosine.specs.Reference.{two-pi as A, four as F, ref-q, ref-r}
+use Rattle.reference_cosine.specs.Reference.{ref-q, ref-r}
 use Rattle.integers.proofs.Near.{Near, near-trans, near-weaken, near-times, near-as}
 use Rattle.reference_cosine.proofs.Lipschitz.{Angle, f-up, f-low, f-low-pos, near-f}
 use Rattle.reference_cosine.proofs.WorkingSeries.{rounded-most, rounded-least, working, near-working}

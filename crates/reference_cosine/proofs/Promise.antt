@@ -1,7 +1,7 @@
--- P1: an allowed term has its working cosine within 7/U of the reference, and equal to it if the term is constant. Assumes nothing.
+-- P1: an allowed term has its working cosine within 3/U of the reference, and equal to it if the term is constant. Assumes nothing.
 use mathlib.Core.Path.{_≡_, sym, ap, subst, subst₂}
 use mathlib.Core.List.{[], _∷_}
-use Prim.Native.Nat.{ℕ, _*_, _+_, _/_, _<_}
+use Prim.Native.Nat.{ℕ, _*_, _+_, _/_}
 use native.Mathlib.Omega.{arith}
 use lib.IntN.{ℤ, pos, _+ℤ_, _*ℤ_, negℤ, zero-*ℤ}
 use Rattle.integers.specs.Order.{_≼_}
@@ -11,12 +11,12 @@ use Rattle.integers.proofs.Order.{natAbs-low, natAbs-high}
 use Rattle.integers.proofs.Bounds.{Bd, bd-*}
 use Rattle.integers.specs.Division.{rounded, modulo, floor}
 use Rattle.integers.proofs.Division.{rounded-low, rounded-high}
-use Rattle.integers.specs.Fractions.{negᶠ}
-use Rattle.units.specs.Units.{parts, millennium as T, tau-limit, t-limit, cosine-distance, turn as P, quarter, angle-step, angle-per-part, b-limit, c-limit}
+use Rattle.integers.specs.Fractions.{Fraction, negᶠ}
+use Rattle.units.specs.Units.{parts, millennium as T, tau-limit, t-limit, turn as P, quarter, angle-step, angle-per-part, b-limit, c-limit, four-radians as F}
 use Rattle.cosine.specs.Cosine.{horner, y-of, cosine-by, even-part, odd-part, q-of, r-of, w-of, working-cosine, cosine}
-use Rattle.reference_cosine.specs.Reference.{power, factorial, sum, alternate, four as F, ref-q, ref-r, even-series, odd-series, reference-cosine, Within}
+use Rattle.reference_cosine.specs.Reference.{power, factorial, sum, alternate, ref-q, ref-r, even-series, odd-series, reference-cosine, Within}
 use Rattle.cosine.specs.Terms.{term-angle, term-cosine}
-use Rattle.reference_cosine.specs.Terms.{Allowed, term-reference}
+use Rattle.reference_cosine.specs.Terms.{Allowed, term-reference, Promised}
 use Rattle.reference_cosine.proofs.WorkingSeries.{rounded-most, rounded-least}
 use Rattle.reference_cosine.proofs.AnyAngle.{Close-angles}
 use Rattle.cosine.proofs.WholeTurns.{cosine-mod}
@@ -39,12 +39,12 @@ quarter-limit = (angle-per-part * b-limit + drift-limit + quarter / 2) / quarter
 drift-most : {b : ℕ} {c t : ℤ} → Allowed b c t → rounded (pos angle-per-part *ℤ c *ℤ t) T ≼ pos drift-limit
 drift-most {b} {c} {t} h =
     rounded-most (pos angle-per-part *ℤ c *ℤ t) (pos drift-limit) T (omega arith)
-    (cert! (c ∷ t ∷ []) 0 (100 · gap (product h .high)) (search polys depth 60 fits 100000) tt)
+    (cert! (c ∷ t ∷ []) 0 (angle-per-part · gap (product h .high)) (search polys depth 60 fits 100000) tt)
 
 drift-least : {b : ℕ} {c t : ℤ} → Allowed b c t → negℤ (pos drift-limit) ≼ rounded (pos angle-per-part *ℤ c *ℤ t) T
 drift-least {b} {c} {t} h =
     rounded-least (pos angle-per-part *ℤ c *ℤ t) (negℤ (pos drift-limit)) T (omega arith)
-    (cert! (c ∷ t ∷ []) 0 (100 · gap (product h .low)) (search polys depth 60 fits 100000) tt)
+    (cert! (c ∷ t ∷ []) 0 (angle-per-part · gap (product h .low)) (search polys depth 60 fits 100000) tt)
 
 -- the angle before it is reduced
 abbrev angle : ℕ → ℤ → ℤ → ℤ
@@ -62,23 +62,26 @@ angles {b} {c} {t} h =
       m-pos = record { le = tt };
       e-pos = record { le = tt };
       q-most = rounded-most (angle b c t) (pos quarter-limit) quarter (omega arith)
-          (cert! ρ 0 (100 · gap few ⊞ gap (drift-most h)) (search polys depth 60 fits 100000) tt);
+          (cert! ρ 0 (angle-per-part · gap few ⊞ gap (drift-most h)) (search polys depth 60 fits 100000) tt);
       q-least = rounded-least (angle b c t) (negℤ (pos quarter-limit)) quarter (omega arith)
-          (cert! ρ 0 (100 · nonneg b ⊞ gap (drift-least h)) (search polys depth 60 fits 100000) tt);
-      e-most = cert! ρ 0 (400000000000000000000000000000000000000000 · gap (rounded-low (pos angle-per-part *ℤ c *ℤ t) T (omega arith)))
+          (cert! ρ 0 (angle-per-part · nonneg b ⊞ gap (drift-least h)) (search polys depth 60 fits 100000) tt);
+      e-most = cert! ρ 0 ((F * parts) · gap (rounded-low (pos angle-per-part *ℤ c *ℤ t) T (omega arith)))
           (search polys depth 60 fits 100000) tt;
-      e-least = cert! ρ 0 (400000000000000000000000000000000000000000 · gap< (rounded-high (pos angle-per-part *ℤ c *ℤ t) T (omega arith)))
+      e-least = cert! ρ 0 ((F * parts) · gap< (rounded-high (pos angle-per-part *ℤ c *ℤ t) T (omega arith)))
           (search polys depth 60 fits 100000) tt;
       near-enough = record { lt = tt };
     }
 
--- P1: the working and the reference cosine of every allowed term differ by at most 7/U
-pub P1 : (b : ℕ) (c t : ℤ) → Allowed b c t → Within cosine-distance (term-cosine b c t) (term-reference b c t)
+at-turns : {k : ℕ} {z : Fraction} (x : ℤ) → Within k (cosine x) z → Within k (cosine (pos (modulo x P))) z
+at-turns {k} {z} x h = subst (λ y. Within k y z) (sym (cosine-mod x)) h
+
+-- P1: the working and the reference cosine of every allowed term differ by at most 3/U
+pub P1 : (b : ℕ) (c t : ℤ) → Allowed b c t → Promised b c t
 unfolding term-cosine term-angle term-reference cosine
 P1 b c t h =
-    subst (λ x. Within cosine-distance x (reference-cosine (pos b *ℤ pos T +ℤ c *ℤ t) (parts * T))) (sym (cosine-mod (angle b c t)))
+    at-turns (angle b c t)
     (within-any the-turn (angle b c t) (pos b *ℤ pos T +ℤ c *ℤ t) (parts * T) (pos quarter-limit) (pos F *ℤ pos (parts * T)) (angles h)
-    cosine-distance (record { le = tt }))
+    _ (record { le = tt }))
 
 -- ---- a constant term
 zero-angle : (t : ℤ) → term-angle 0 (pos 0) t ≡ 0

@@ -6,8 +6,9 @@ use lib.IntN.{ℤ, pos, _+ℤ_, _*ℤ_, negℤ, +ℤ-idr}
 use Rattle.integers.specs.Division.{modulo}
 use Rattle.integers.proofs.Division.{modulo-lt}
 use Rattle.integers.specs.Fractions.{Fraction, negᶠ}
+use Rattle.units.specs.Units.{four-radians as F}
 use Rattle.cosine.specs.Cosine.{cosine-by, even-part, odd-part, q-of, w-of, working-cosine, working-sine}
-use Rattle.reference_cosine.specs.Reference.{four as F, ref-q, ref-r, even-series, odd-series, reference-cosine, reference-sine}
+use Rattle.reference_cosine.specs.Reference.{ref-q, ref-r, even-series, odd-series, reference-cosine, reference-sine}
 use Rattle.cosine.proofs.Shifts.{shifted, sine-shift}
 use Rattle.reference_cosine.proofs.Divisors.{low-by-quarter}
 use Rattle.reference_cosine.proofs.Lipschitz.{f-up, f-low}

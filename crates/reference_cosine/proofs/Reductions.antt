@@ -2,7 +2,7 @@
 use mathlib.Core.Path.{_≡_, sym, ap, _∙_, subst}
 use mathlib.Core.Logic.{_⊎_, inl, inr}
 use mathlib.Core.List.{[], _∷_}
-use Prim.Native.Nat.{ℕ, zero, suc, _*_, _+_, _%_, _^_, _<_}
+use Prim.Native.Nat.{ℕ, zero, suc, _+_, _%_, _^_, _<_}
 use native.Mathlib.Omega.{arith}
 use lib.IntN.{ℤ, pos, _+ℤ_, _-ℤ_, _*ℤ_, negℤ}
 use Rattle.integers.specs.Order.{_≼_, _≺_}
@@ -11,8 +11,8 @@ use Rattle.integers.proofs.Auto.{ring!, cert!, polys, gap, gap<, _⊞_, _⊛_, 
 use Rattle.integers.proofs.Order.{≺-≼, ≼-or-≺, ≼-antisym}
 use Rattle.integers.specs.Division.{modulo}
 use Rattle.integers.proofs.Division.{modulo-lt, modulo-add}
+use Rattle.units.specs.Units.{two-pi as A, four-radians as F}
 use Rattle.cosine.specs.Cosine.{cosine-by}
-use Rattle.reference_cosine.specs.Reference.{two-pi as A, four as F}
 use Rattle.reference_cosine.proofs.Divisors.{low-by-quarter}
 use Rattle.reference_cosine.proofs.NestedSeries.{low, up}
 use Rattle.integers.proofs.Near.{Near, near-sym, near-trans, near-weaken, near-times, near-as}

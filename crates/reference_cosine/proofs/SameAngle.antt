@@ -2,7 +2,7 @@
 use mathlib.Core.Path.{_≡_, sym, ap, _∙_, subst, subst₂}
 use mathlib.Core.Logic.{_⊎_, inl, inr}
 use mathlib.Core.List.{[], _∷_}
-use Prim.Native.Nat.{ℕ, _*_, _+_, _<_}
+use Prim.Native.Nat.{ℕ, _*_, _<_}
 use native.Mathlib.Omega.{arith}
 use lib.IntN.{ℤ, pos, _+ℤ_, _-ℤ_, _*ℤ_}
 use Rattle.integers.specs.Order.{_≼_, _≺_}
@@ -12,7 +12,8 @@ use Rattle.integers.proofs.Order.{≼-or-≺, ≼-antisym, ≺-nat}
 use Rattle.integers.specs.Division.{rounded, modulo}
 use Rattle.integers.proofs.Division.{rounded-low, rounded-high}
 use Rattle.integers.specs.Fractions.{Fraction, _≈ᶠ_}
-use Rattle.reference_cosine.specs.Reference.{two-pi as A, four as F, ref-q, ref-r, reference-cosine, reference-sine}
+use Rattle.units.specs.Units.{two-pi as A, four-radians as F}
+use Rattle.reference_cosine.specs.Reference.{ref-q, ref-r, reference-cosine, reference-sine}
 use Rattle.integers.proofs.Near.{Near}
 use Rattle.reference_cosine.proofs.Lipschitz.{f-up, f-low, near-f}
 use Rattle.reference_cosine.proofs.Reductions.{R′-angle}

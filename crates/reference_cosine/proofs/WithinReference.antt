@@ -1,16 +1,16 @@
 -- How far the working cosine and sine of a whole angle are from the reference's of a fraction near it, for any turn. Assumes nothing.
 use mathlib.Core.Path.{subst₂}
 use mathlib.Core.List.{[], _∷_}
-use Prim.Native.Nat.{ℕ, _*_, _+_}
+use Prim.Native.Nat.{ℕ, _*_, _+_, _-_}
 use native.Mathlib.Omega.{arith}
 use lib.IntN.{ℤ, pos, _+ℤ_, _-ℤ_, _*ℤ_, negℤ}
 use Rattle.integers.specs.Order.{_≼_, _≺_}
 use Rattle.integers.proofs.Auto.{polys, gap, _⊞_, _⊛_, _·_}
 use Rattle.integers.proofs.Order.{≺-≼, cert*!, product-pos, ≺-nat}
 use Rattle.integers.specs.Division.{modulo}
-use Rattle.units.specs.Units.{U, quarter, angle-step}
+use Rattle.units.specs.Units.{U, quarter, angle-step, two-pi, four-radians as F}
 use Rattle.cosine.specs.Cosine.{q-of, w-of, working-cosine, working-sine}
-use Rattle.reference_cosine.specs.Reference.{four as F, ref-q, ref-r, reference-cosine, reference-sine, Within}
+use Rattle.reference_cosine.specs.Reference.{ref-q, ref-r, reference-cosine, reference-sine, Within}
 use Rattle.reference_cosine.proofs.Lipschitz.{f-up, f-low, f-low-pos}
 use Rattle.reference_cosine.proofs.WorkingSeries.{working}
 use Rattle.reference_cosine.proofs.Reductions.{Y, B}
@@ -65,9 +65,9 @@ pub within-any-sine : {Q step G : ℕ} → Turn Q step G → (X n : ℤ) (N : �
 within-any-sine {Q} {step} {G} t X n N m e c k h =
     subst₂ (λ x z. Within k x z) (sine-is Q step X) (reference-sine-is n N) (within-shift t (pos 3) X n N m e c k h)
 
--- ---- the turn of the rules. G is how far its quarter lies from the reference's: |quarter*Y - 2*two-pi*angle-step*U|, computed.
+-- ---- the turn of the rules. G is how far its quarter lies from the reference's, in 1/(Y angle-step U) radian.
 abbrev pub G : ℕ
-G = 270461494264668820000000000000
+G = (quarter * Y - 2 * two-pi * angle-step * U) + (2 * two-pi * angle-step * U - quarter * Y)
 
 pub the-turn : Turn quarter angle-step G
 the-turn = record { Q-pos = omega arith; step-pos = omega arith; eighth = record { le = tt }; gap-most = record { le = tt }; gap-least = record { le = tt } }

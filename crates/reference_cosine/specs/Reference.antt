@@ -4,15 +4,8 @@ use lib.IntN.{ℤ, pos, negℤ, _+ℤ_, _-ℤ_, _*ℤ_}
 use Rattle.integers.specs.Order.{_≼_, _≺_}
 use Rattle.integers.specs.Division.{rounded, modulo}
 use Rattle.integers.specs.Fractions.{Fraction, _*ᶠ_, _+ᶠ_, negᶠ, overᶠ, powerᶠ}
-use Rattle.units.specs.Units.{U}
+use Rattle.units.specs.Units.{U, two-pi, four-radians}
 use Rattle.cosine.specs.Cosine.{cosine-by, sine-by}
-
--- The reference's 2 pi is two-pi/10^30. A quarter of it is two-pi/four.
-abbrev pub two-pi : ℕ
-two-pi = 6283185307179586476925286766559
-
-abbrev pub four : ℕ
-four = 4000000000000000000000000000000
 
 unfoldable pub power : ℤ → ℕ → ℤ
 power x zero = pos 1
@@ -56,18 +49,21 @@ total (suc m) t = total m t +ᶠ t (suc m)
 unfoldable pub power-term : Fraction → ℕ → ℕ → Fraction
 power-term x m i = overᶠ (alternate m (pos 1)) (factorial i) *ᶠ powerᶠ x i
 
--- Of the angle n/N in radians: q is rounded (n/N) / (two-pi/four), and r = n/N - q (two-pi/four) is ref-r over four N.
+-- Of the angle n/N in radians, 2 pi being two-pi/10^30: q is rounded (n/N) / (two-pi/four-radians), and
+-- r = n/N - q (two-pi/four-radians) is ref-r over four-radians N.
 unfoldable pub ref-q : ℤ → ℕ → ℤ
-ref-q n N = rounded (n *ℤ pos four) (two-pi * N)
+ref-q n N = rounded (n *ℤ pos four-radians) (two-pi * N)
 
 unfoldable pub ref-r : ℤ → ℕ → ℤ
-ref-r n N = n *ℤ pos four -ℤ ref-q n N *ℤ pos (two-pi * N)
+ref-r n N = n *ℤ pos four-radians -ℤ ref-q n N *ℤ pos (two-pi * N)
 
 unfoldable pub reference-cosine : ℤ → ℕ → Fraction
-reference-cosine n N = cosine-by negᶠ (modulo (ref-q n N) 4) (even-series (ref-r n N) (pos (four * N))) (odd-series (ref-r n N) (pos (four * N)))
+reference-cosine n N =
+    cosine-by negᶠ (modulo (ref-q n N) 4) (even-series (ref-r n N) (pos (four-radians * N))) (odd-series (ref-r n N) (pos (four-radians * N)))
 
 unfoldable pub reference-sine : ℤ → ℕ → Fraction
-reference-sine n N = sine-by negᶠ (modulo (ref-q n N) 4) (even-series (ref-r n N) (pos (four * N))) (odd-series (ref-r n N) (pos (four * N)))
+reference-sine n N =
+    sine-by negᶠ (modulo (ref-q n N) 4) (even-series (ref-r n N) (pos (four-radians * N))) (odd-series (ref-r n N) (pos (four-radians * N)))
 
 -- The working x, in U, and the fraction z differ by at most m/U.
 pub record Within (m : ℕ) (x : ℤ) (z : Fraction) : Type 0 where

@@ -7,8 +7,7 @@ use lib.IntN.{ℤ, pos, negsuc, natAbs}
 use Rattle.integers.specs.Order.{_≺_}
 use Rattle.integers.specs.Fractions.{Fraction, _*ᶠ_, _+ᶠ_, negᶠ}
 use Rattle.integers.proofs.Order.{product-pos}
-use Rattle.units.specs.Units.{parts}
-use Rattle.reference_cosine.specs.Reference.{two-pi}
+use Rattle.units.specs.Units.{parts, two-pi}
 use Rattle.reference_cosine.proofs.Ranges.{cosine-unit, sine-unit}
 use Rattle.separation.specs.Arcminutes.{arcminutes}
 use Rattle.separation.specs.Positive.{Positive, Positive-coordinates, Positive-test}

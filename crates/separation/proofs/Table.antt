@@ -9,9 +9,9 @@ use lib.IntN.{ℤ, pos, _+ℤ_, _-ℤ_, _*ℤ_}
 use lib.Signed.{leZ, ltZ}
 use Rattle.integers.specs.Division.{floor, rounded, modulo}
 use Rattle.integers.specs.Fractions.{Fraction}
-use Rattle.units.specs.Units.{U, turn}
+use Rattle.units.specs.Units.{U, turn, two-pi, four-radians}
 use Rattle.cosine.specs.Cosine.{q-of, r-of, w-of, y-of, horner, even-part, odd-part, cosine-by, sine-by, working-sine, sine}
-use Rattle.reference_cosine.specs.Reference.{two-pi, four, ref-q, ref-r}
+use Rattle.reference_cosine.specs.Reference.{ref-q, ref-r}
 use Rattle.reference_cosine.proofs.Divisors.{low-by-quarter}
 use Rattle.reference_cosine.proofs.NestedSeries.{low, up}
 use Rattle.reference_cosine.proofs.Lipschitz.{C-up, C-low, S-up, S-low, f-up, f-low}
@@ -28,7 +28,7 @@ witness k = let j = sine (rounded (pos (k * turn)) arcminutes) in j +ℤ floor j
 
 -- The reference cosine by its nested series, which is quicker to compute than the plain one.
 unfoldable quick : ℕ → Fraction
-quick k = let n = pos (k * two-pi) in let N = arcminutes * 10 ^ 30 in nested (modulo (ref-q n N +ℤ pos 0) 4) (ref-r n N) (pos four *ℤ pos N)
+quick k = let n = pos (k * two-pi) in let N = arcminutes * 10 ^ 30 in nested (modulo (ref-q n N +ℤ pos 0) 4) (ref-r n N) (pos four-radians *ℤ pos N)
 
 quick-is : (k : ℕ) → quick k ≡ cosine-of-arcminutes k
 unfolding quick cosine-of-arcminutes

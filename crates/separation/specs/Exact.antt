@@ -4,8 +4,8 @@ use Prim.Native.Nat.{ℕ, _*_, _^_}
 use lib.IntN.{pos, natAbs}
 use Rattle.integers.specs.Order.{_≺_}
 use Rattle.integers.specs.Fractions.{Fraction, _*ᶠ_, _+ᶠ_, _-ᶠ_, negᶠ, _≤ᶠ_}
-use Rattle.units.specs.Units.{parts}
-use Rattle.reference_cosine.specs.Reference.{two-pi, reference-cosine, reference-sine}
+use Rattle.units.specs.Units.{parts, two-pi}
+use Rattle.reference_cosine.specs.Reference.{reference-cosine, reference-sine}
 use Rattle.separation.specs.Arcminutes.{arcminutes}
 
 -- The exact L, B and R of a body, in parts, each a fraction whose lower number is positive.

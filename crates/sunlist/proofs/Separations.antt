@@ -2,7 +2,7 @@
 use mathlib.Core.Path.{_≡_, sym, ap, _∙_, subst}
 use mathlib.Core.Bool.{true, false}
 use mathlib.Core.List.{List, [], _∷_}
-use Prim.Native.Nat.{ℕ, _+_, _*_, _/_, _≤_, _<_}
+use Prim.Native.Nat.{ℕ, _+_, _*_, _/_, _%_, _≤_, _<_}
 use native.Mathlib.Omega.{arith}
 use native.Mathlib.Nat.{mul-le-mul}
 use lib.Dec.{le→leb, leb→le}
@@ -38,14 +38,14 @@ use Rattle.separation.proofs.Joined.{figures}
 
 -- The angle of keep-out k and an arcminute, halved.
 abbrev pub half-angle : ℕ → ℕ
-half-angle k = ((k + 1) * turn + arcminutes) / (2 * arcminutes)
+half-angle k = (k + 1) * (turn / (2 * arcminutes)) + ((k + 1) * (turn % (2 * arcminutes)) + arcminutes) / (2 * arcminutes)
 
 half-angle-is : (k : ℕ) → rounded (pos ((k + 1) * turn)) (2 * arcminutes) ≡ pos (half-angle k)
 unfolding sgn near
-half-angle-is k = rounded-near false ((k + 1) * turn) (2 * arcminutes) (omega arith) ∙ ap pos (halved ((k + 1) * turn))
+half-angle-is k = rounded-near false ((k + 1) * turn) (2 * arcminutes) (omega arith) ∙ ap pos (halved k)
   where
-    halved : (m : ℕ) → (2 * m + 2 * arcminutes) / (2 * (2 * arcminutes)) ≡ (m + arcminutes) / (2 * arcminutes)
-    halved m = omega arith
+    halved : (k : ℕ) → (2 * ((k + 1) * turn) + 2 * arcminutes) / (2 * (2 * arcminutes)) ≡ half-angle k
+    halved k = omega arith
 
 pub threshold-is : (k : ℕ) (s : ℤ) → s ≡ sine (pos (half-angle k)) → pos 4 *ℤ (s *ℤ s) ≡ threshold k
 unfolding threshold

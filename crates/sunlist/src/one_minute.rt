@@ -30,12 +30,18 @@ const ARCMINUTES: u64 = 21600;
 
 const HALF_ARCMINUTES: u64 = 2 * ARCMINUTES;
 
+// A turn has so many units of angle for each half arcminute, and this rest.
+const ANGLES_A_HALF: u64 = TURN / HALF_ARCMINUTES;
+
+const ANGLES_LEFT: u64 = TURN % HALF_ARCMINUTES;
+
 // Four times the squared sine of half of k + 1 arcminutes, the half angle rounded.
 fn threshold(k: u64) -> i64
     requires { ⌜ k ≤ greatest-keep-out ⌝ }
     ensures { λ r. ⌜ r ≡ threshold-of k ⌝ }
 {
-    let s = sine_at(((k + 1) * TURN + ARCMINUTES) / HALF_ARCMINUTES);
+    let n = k + 1;
+    let s = sine_at(n * ANGLES_A_HALF + (n * ANGLES_LEFT + ARCMINUTES) / HALF_ARCMINUTES);
     let q = mul(s, s);
     mul(4, q)
 }

@@ -1,5 +1,5 @@
--- RULES, "Units and rounding": each constant by its name. src/lib.rt has the same names.
-use Prim.Native.Nat.{ℕ, _*_}
+-- RULES, "Units and rounding": each constant by its name. src/lib.rt has the same names, but for 2 pi, which no code needs.
+use Prim.Native.Nat.{ℕ, _+_, _*_, _-_, _^_}
 use mathlib.Core.Bool.{Bool}
 use lib.IntN.{ℤ, natAbs}
 use lib.Dec.{leb}
@@ -31,18 +31,30 @@ t-limit = tau-limit * millennium
 unfoldable pub in-limit : ℤ → Bool
 in-limit t = leb (natAbs t) t-limit
 
--- The turn P and its quarter, in 10^-13 radian; how many of these a part has, and the step to the working angle w.
+-- The turn P and its quarter, in 10^-16 radian; how many of these a part has, and the step to the working angle w.
 abbrev pub quarter : ℕ
-quarter = 15707963267949
+quarter = 15707963267948966
 
 abbrev pub turn : ℕ
 turn = 4 * quarter
 
 abbrev pub angle-per-part : ℕ
-angle-per-part = 100
+angle-per-part = 100000
 
 abbrev pub angle-step : ℕ
-angle-step = 10000
+angle-step = 10000000
+
+-- 2 pi as the reference cosine has it, and four radians, in 10^-30 radian: a quarter of it is two-pi/four-radians. No turn of four whole quarters is
+-- nearer to it than the one above (`nearest-turn`, proofs/Turn).
+abbrev pub two-pi : ℕ
+two-pi = 6283185307179586476925286766559
+
+abbrev pub four-radians : ℕ
+four-radians = 4 * 10 ^ 30
+
+-- How far x units of an angle are from it, in 10^-30 radian, of which such a unit has 10^14.
+abbrev pub from-two-pi : ℕ → ℕ
+from-two-pi x = (x * 10 ^ 14 - two-pi) + (two-pi - x * 10 ^ 14)
 
 -- RULES, "Series, as text and packed": what |a|, b and |c| of a term stay below, in parts.
 abbrev pub a-limit : ℕ
@@ -73,7 +85,7 @@ block-count = 3 * powers
 
 -- The promise on the cosine: the working one of a term is at most so many 1/U from the reference.
 abbrev pub cosine-distance : ℕ
-cosine-distance = 7
+cosine-distance = 3
 
 -- The coarseness of a coordinate: a term that is not constant weighs `coarse-share` for each part of |a| and U, times `coarse-tau` for
 -- each power; a coordinate begins with `coarse-base`, and the sum is at most `coarse-limit`. The rule has a |tau| of its own, so that

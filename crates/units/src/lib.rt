@@ -3,7 +3,7 @@ ghost use mathlib.Core.Path.{_≡_};
 ghost use Rattle.units.specs.Units.{in-limit};
 ghost use Rattle.units.specs.Refusals.{number, figure, of-number, whole};
 
-// specs/Units.antt has the same constants under the same names.
+// specs/Units.antt has these constants under the same names.
 
 // The unit of a cosine.
 pub const U: u64 = 1000000000;
@@ -23,17 +23,17 @@ pub const TAU_LIMIT: u64 = 2;
 // The greatest |t|, in milliseconds.
 pub const T_LIMIT: u64 = TAU_LIMIT * MILLENNIUM;
 
-// A quarter turn, in 10^-13 radian.
-pub const QUARTER: u64 = 15707963267949;
+// A quarter turn, in 10^-16 radian.
+pub const QUARTER: u64 = 15707963267948966;
 
 // A whole turn, likewise.
 pub const TURN: u64 = 4 * QUARTER;
 
-// How many 10^-13 radian a part has.
-pub const ANGLE_PER_PART: u64 = 100;
+// How many 10^-16 radian a part has.
+pub const ANGLE_PER_PART: u64 = 100000;
 
 // The step from an angle to the working angle w.
-pub const ANGLE_STEP: u64 = 10000;
+pub const ANGLE_STEP: u64 = 10000000;
 
 // The limits of a term's a, b and c, in parts.
 pub const A_LIMIT: u64 = 100000 * PARTS;
@@ -58,7 +58,7 @@ pub const POWERS: u64 = 6;
 pub const BLOCK_COUNT: u64 = 3 * POWERS;
 
 // The promised distance of a working cosine from the reference, in 1/U.
-pub const COSINE_DISTANCE: u64 = 7;
+pub const COSINE_DISTANCE: u64 = 3;
 
 // The coarseness rule: the factor of a power, the share of a part of |a|, what a coordinate begins with, and the limit.
 pub const COARSE_TAU: u64 = 2;

@@ -1,6 +1,6 @@
 -- `nutation::angles_at` meets its contract. Assumes nothing.
 use mathlib.Core.Path.{_≡_, _∙_, ap, ap₂}
-use Prim.Native.Nat.{ℕ, _+_, _-_, _*_, _^_, _≤_, _<_}
+use Prim.Native.Nat.{ℕ, _-_, _*_, _^_, _≤_, _<_}
 use native.Mathlib.Omega.{arith}
 use lib.Dec.{lit<, lit≤}
 use lib.IntN.{ℤ, natAbs, _+ℤ_}
@@ -22,6 +22,9 @@ nutation-at-requires c κs = search needs
 
 mean-obliquity-at-requires : tie.Need-mean-obliquity-at-requires
 mean-obliquity-at-requires c κs = search needs
+
+few : (n : ℕ) → n ≤ 2 ^ 35 → n ≤ 2 ^ 47
+few n h = omega arith
 
 room : (n : ℕ) → n ≤ 2 ^ 35 → n * turn < sum-turn * (2 ^ 63 - 1)
 room n h = omega arith
@@ -52,7 +55,8 @@ units-angle-requires : tie.Need-units-angle-requires
 units-angle-requires c κs =
     let n = c .before .before .before .before in
     let e : toZ w64 (ofZ w64 (n .nutation-at .result .longitude)) ≡ n .nutation-at .result .longitude = search needs in
-    (lit< tt, lit≤ tt, room _ (same-small _ _ _ e (more _ (n .nutation-at .ensures .longitude-small))))
+    let h = same-small _ _ _ e (more _ (n .nutation-at .ensures .longitude-small)) in
+    (lit< tt, lit≤ tt, few _ h, room _ h)
   where
     more : (n : ℕ) → n ≤ sum-limit → n ≤ 2 ^ 35
     more n h = omega arith
@@ -61,13 +65,10 @@ units-angle-requires-2 : tie.Need-units-angle-requires-2
 units-angle-requires-2 c κs =
     let a = c .before .before in
     let m = a .before .before in
-    let n = m .before in (
-      lit< tt,
-      lit≤ tt,
-      room _ (same-small _ _ _ (back (a .add .result) (ok (a .add .ok)) ∙ at-add a)
-          (sum (m .mean-obliquity-at .result) (n .nutation-at .result .obliquity) (m .mean-obliquity-at .ensures .1)
-          (n .nutation-at .ensures .obliquity-small))),
-    )
+    let n = m .before in
+    let h = same-small _ _ _ (back (a .add .result) (ok (a .add .ok)) ∙ at-add a)
+    (sum (m .mean-obliquity-at .result) (n .nutation-at .result .obliquity) (m .mean-obliquity-at .ensures .1) (n .nutation-at .ensures .obliquity-small)) in
+    (lit< tt, lit≤ tt, few _ h, room _ h)
   where
     sum : (x y : ℤ) → natAbs x ≤ 2 ^ 34 → natAbs y ≤ sum-limit → natAbs (x +ℤ y) ≤ 2 ^ 35
     sum x y h k = omega (arith, natAbs-+ x y)

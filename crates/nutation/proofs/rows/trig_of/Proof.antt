@@ -11,7 +11,7 @@ use Rattle.arith.proofs.Signs.{back, ok}
 use Rattle.cosine.specs.Cosine.{cosine, sine}
 use Rattle.direction.specs.Angles.{units-angle}
 use Rattle.nutation.specs.Nutation.{argument-turn}
-use Rattle.nutation.proofs.Terms.{cosine-left, sine-left, left-room, left-angle}
+use Rattle.nutation.proofs.Terms.{cosine-left, sine-left, left-small, left-room, left-angle}
 use Rattle.nutation.proofs.rows.trig_of.Statement.{statement}
 use Rattle.nutation.proofs.rows.trig_of.Tie as tie
 
@@ -32,7 +32,9 @@ wide-requires c κs = below _ (small c)
 
 units-angle-requires : tie.Need-units-angle-requires
 units-angle-requires c κs =
-    rw (back (c .wide .result) (ok (c .wide .ok)), c .wide .ensures) (lit< tt, lit≤ tt, left-room (c .before .residue .result) (small (c .before)))
+    let m = c .before .residue .result in
+    let h = small (c .before) in
+    rw (back (c .wide .result) (ok (c .wide .ok)), c .wide .ensures) (lit< tt, lit≤ tt, left-small m h, left-room m h)
 
 at-angle : (c : tie.After-units-angle) → c .units-angle .result ≡ units-angle argument-turn (pos (c .before .before .residue .result))
 at-angle c = let w = c .before in rw (back (w .wide .result) (ok (w .wide .ok)), w .wide .ensures) at (c .units-angle .ensures)

@@ -4,11 +4,17 @@ use borrow.Author.Needs.{needs}
 use Rattle.sunlist.proofs.one_minute.threshold.Statement.{statement}
 use Rattle.sunlist.proofs.one_minute.threshold.Tie as tie
 
-add-sine-at : tie.Need-add-sine-at
-add-sine-at c = search needs
+add-n : tie.Need-add-n
+add-n c = search needs
 
 mul-sine-at : tie.Need-mul-sine-at
 mul-sine-at c = search needs
+
+mul-sine-at-2 : tie.Need-mul-sine-at-2
+mul-sine-at-2 c = search needs
+
+add-sine-at : tie.Need-add-sine-at
+add-sine-at c = search needs
 
 add-sine-at-2 : tie.Need-add-sine-at-2
 add-sine-at-2 c = search needs
@@ -32,8 +38,10 @@ pub threshold-spec : {M : Type 1} → statement M
 threshold-spec =
     tie.close
     (tie.spec
-    add-sine-at
+    add-n
     mul-sine-at
+    mul-sine-at-2
+    add-sine-at
     add-sine-at-2
     sine-at-requires
     mul-requires
