@@ -11,7 +11,7 @@ use lib.Seq.{drop-drop}
 use Rattle.units.specs.Units.{powers, block-count, coarse-base, coarse-limit}
 use Rattle.limits.specs.declared.Term.{Term}
 use Rattle.limits.specs.Limits.{factor}
-use Rattle.limits.specs.Allowed.{coarseness, coordinate}
+use Rattle.limits.specs.Allowed.{coarseness-by, coarseness, coordinate}
 use Rattle.limits.proofs.Terms.{burden}
 
 -- The coarseness sum before the terms of block k: at power 0 a new coordinate begins.
@@ -43,13 +43,13 @@ pub data Coarse : ℕ → ℕ → List (List Term) → Type 0 where
 -- The first block of some.
 first-block : (k p : ℕ) (ts : List Term) (bs : List (List Term))
     → k % powers ≡ p → coarseness p (ts ∷ bs) ≡ burden (factor k) ts + coarseness (suc p) bs
-unfolding coarseness burden factor
+unfolding coarseness-by burden factor
 first-block k p ts bs e = rw e
 
 -- Blocks of one coordinate, from the judgement block by block.
 coarse-part : (j p k c : ℕ) (bs : List (List Term))
     → Coarse k c bs → k % powers ≡ p → p + j ≤ powers → start k c ≤ coarse-limit → start k c + coarseness p (take j bs) ≤ coarse-limit
-unfolding coarseness
+unfolding coarseness-by
 coarse-part zero p k c bs h e l b = omega arith
 coarse-part (suc j) p k c [] h e l b = omega arith
 coarse-part (suc zero) p k c (ts ∷ bs) (a-block w r) e l b = rw (first-block k p ts [] e) (omega arith)

@@ -1,5 +1,6 @@
 -- Laws of the limits, each file on those above it. Room, Weights, Passing, Magnitudes: what the tests of the code say. Terms, Coarseness,
--- Series: what is judged one by one, and the limits of blocks, of coordinates and of a whole series.
+-- Series: what is judged one by one, and the limits of blocks, of coordinates and of a whole series. Shares: the coarseness rule with a
+-- smaller share.
 pub mod Room
 pub mod Weights
 pub mod Passing
@@ -7,3 +8,4 @@ pub mod Magnitudes
 pub mod Terms
 pub mod Coarseness
 pub mod Series
+pub mod Shares

@@ -40,10 +40,13 @@ pub record Block-fits (ts : List Term) : Type 0 where
   pub total : total-of ts ≤ total-limit
 
 -- The coarseness sum over blocks, the first of which has power i: each block's share of A_i and U for each of its n_i terms, times the
--- greatest |tau| to its power.
-unfoldable pub coarseness : ℕ → List (List Term) → ℕ
-coarseness i [] = 0
-coarseness i (ts ∷ blocks) = coarse-tau ^ i * (coarse-share * moving-total ts + U * moving-count ts) + coarseness (suc i) blocks
+-- greatest |tau| to its power. The rule's share is `coarse-share`.
+unfoldable pub coarseness-by : (share : ℕ) → ℕ → List (List Term) → ℕ
+coarseness-by share i [] = 0
+coarseness-by share i (ts ∷ blocks) = coarse-tau ^ i * (share * moving-total ts + U * moving-count ts) + coarseness-by share (suc i) blocks
+
+abbrev pub coarseness : ℕ → List (List Term) → ℕ
+coarseness i blocks = coarseness-by coarse-share i blocks
 
 -- The six blocks of coordinate q: 0 longitude, 1 latitude, 2 radius.
 abbrev pub coordinate : ℕ → List (List Term) → List (List Term)
@@ -54,9 +57,12 @@ unfoldable pub term-count : List (List Term) → ℕ
 term-count [] = 0
 term-count (ts ∷ blocks) = length ts + term-count blocks
 
--- A series within the limits.
-pub record Allowed (blocks : List (List Term)) : Type 0 where
+-- A series within the limits, with any share in the coarseness rule, and with the rule's own.
+pub record Allowed-by (share : ℕ) (blocks : List (List Term)) : Type 0 where
   pub eighteen : length blocks ≡ block-count
   pub few : term-count blocks ≤ series-limit
   pub fits : (k : ℕ) → k < block-count → Block-fits (getD blocks k [])
-  pub coarse : (q : ℕ) → q < 3 → coarseness 0 (coordinate q blocks) + coarse-base ≤ coarse-limit
+  pub coarse : (q : ℕ) → q < 3 → coarseness-by share 0 (coordinate q blocks) + coarse-base ≤ coarse-limit
+
+abbrev pub Allowed : List (List Term) → Type 0
+Allowed blocks = Allowed-by coarse-share blocks

@@ -25,7 +25,7 @@ use Rattle.reference_cosine.proofs.Promise.{P1, P1-constant}
 use Rattle.cosine.proofs.Figures.{figures}
 use Rattle.limits.specs.declared.Term.{Term}
 use Rattle.limits.specs.Limits.{constant, weight}
-use Rattle.limits.specs.Allowed.{Term-fits, All-fit, none, more, coarseness, moving-total, moving-count}
+use Rattle.limits.specs.Allowed.{Term-fits, All-fit, none, more, coarseness-by, coarseness, moving-total, moving-count}
 use Rattle.limits.proofs.Terms.{burden, burden-more}
 use Rattle.pieces.specs.Sums.{block-sum}
 use Rattle.series.specs.Sums.{running-sum}
@@ -158,13 +158,13 @@ errors-step i b c bs = ap pos (add (burden (tau-limit ^ i) b) (tau-limit ^ i) (c
     add m w k r k′ r′ e f = omega arith
 
     coarse-is : (i : ℕ) (b : List Term) (bs : List (List Term)) → coarseness i (b ∷ bs) ≡ burden (tau-limit ^ i) b + coarseness (suc i) bs
-    coarse-is i b bs = unfold coarseness burden in refl
+    coarse-is i b bs = unfold coarseness-by burden in refl
 
     roundings-is : (i : ℕ) (b c : List Term) (bs : List (List Term)) → roundings i (b ∷ c ∷ bs) ≡ tau-limit ^ i + roundings (suc i) (c ∷ bs)
     roundings-is i b c bs = unfold roundings in refl
 
 errors-one : (i : ℕ) (b : List Term) → pos (burden (tau-limit ^ i) b) +ℤ pos 0 ≡ pos (coarseness i (b ∷ []) + U * roundings i (b ∷ []))
-unfolding coarseness roundings burden
+unfolding coarseness-by roundings burden
 errors-one i b = ap pos (omega arith)
 
 exact-step : (t : ℤ) (i : ℕ) (b : List Term) (bs : List (List Term)) → exact-sum t i (b ∷ bs) ≡ exact-block t i b +ᶠ exact-sum t (suc i) bs
@@ -205,6 +205,6 @@ more-close t ht i b c bs h k =
     power-next t i h = unfold powerᶠ _*ᶠ_ in h
 
 pub sum-close : (t : ℤ) → natAbs t ≤ t-limit → (i : ℕ) (bs : List (List Term)) → Blocks-in bs → Sum-close t i bs
-sum-close t ht i [] h = unfold coarseness roundings running-sum exact-sum in close-zero u (powerᶠ (tau t) i .upper) (powerᶠ (tau t) i .lower)
+sum-close t ht i [] h = unfold coarseness-by roundings running-sum exact-sum in close-zero u (powerᶠ (tau t) i .upper) (powerᶠ (tau t) i .lower)
 sum-close t ht i (b ∷ []) h = one-close t ht i b (in-head b [] h .terms)
 sum-close t ht i (b ∷ c ∷ bs) h = more-close t ht i b c bs (in-head b (c ∷ bs) h .terms) (sum-close t ht (suc i) (c ∷ bs) (in-tail b (c ∷ bs) h))
