@@ -1,4 +1,4 @@
-//! Figures of the published documents, with the published series.
+//! Figures of the published documents, and some of our own, with the published series.
 
 mod common;
 
@@ -27,6 +27,17 @@ fn mercury_in_2005() {
     let wanted = -((21.0 * 60.0 + 17.0) * 60.0 + 23.81) * 100.0;
     assert!((declination as f64 - wanted).abs() <= hundredths, "{declination} against {wanted}");
     assert!((distance as f64 - 1.059_197_986e11).abs() < 1e4, "{distance}");
+}
+
+/// L, B and R of Mercury on 2005-01-01, where three figures more of the turn change nothing; and L three and a half days before the end of
+/// two millennia, where without them it was 5,218,049,938,527,110.
+#[test]
+fn coordinates_of_mercury() {
+    let mercury = packed("mercury");
+    let near = (LIBRARY.coordinates_at)(&mercury, 157_809_600_000);
+    assert_eq!(near, Ok([13_526_611_349_607, 7_586_278_953, 40_230_582_936]));
+    let [longitude, _, _] = (LIBRARY.coordinates_at)(&mercury, 63_114_900_000_000).unwrap();
+    assert_eq!(longitude, 5_218_049_938_527_069);
 }
 
 /// The transit of 11 November 2019: listed from minute 296 to the day's end.

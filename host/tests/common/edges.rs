@@ -4,8 +4,8 @@ use super::Random;
 use reference::plain::cosine::sine;
 use reference::plain::packed::{Series, Term};
 use reference::plain::place::geometry;
-use reference::plain::sun_list::{squared_separation, threshold};
-use reference::plain::{rounded, MILLENNIUM, PARTS, QUARTER, TURN};
+use reference::plain::sun_list::{squared_separation, threshold, TURN_HALF_ARCMINUTES};
+use reference::plain::{rounded, ANGLE_PER_PART, ANGLE_STEP, MILLENNIUM, PARTS, QUARTER, TURN};
 
 /// Milliseconds in a minute, and minutes in a millennium.
 const MINUTE: i64 = 60_000;
@@ -79,11 +79,11 @@ impl Window {
     /// parts in a millennium while the planet's radius grows by `growing` billionths of the sides each minute. At t = 0 and
     /// without turning the squared separation is the threshold to the last digit: then all figures are exact.
     pub fn at_the_threshold(keep_out: i64, sides: i64, turning: i64, growing: i64) -> Window {
-        let half = rounded((keep_out as i128 + 1) * TURN as i128, 43_200);
-        let working = rounded(half, 10_000) as i64;
+        let half = rounded((keep_out as i128 + 1) * TURN as i128, TURN_HALF_ARCMINUTES);
+        let working = rounded(half, ANGLE_STEP as i128) as i64;
         let (mut planet, mut earth) = (Series::default(), Series::default());
-        planet.blocks[0].push(constant(3 * QUARTER / 100));
-        earth.blocks[0].push(constant((2 * QUARTER + 10_000 * working) / 100));
+        planet.blocks[0].push(constant(3 * QUARTER / ANGLE_PER_PART));
+        earth.blocks[0].push(constant((2 * QUARTER + ANGLE_STEP * working) / ANGLE_PER_PART));
         planet.blocks[1].push(constant(turning));
         earth.blocks[1].push(constant(turning));
         planet.blocks[12].push(constant(200 * sides * sine(half as i64)));

@@ -1,6 +1,6 @@
 //! The working cosine.
 
-use super::{QUARTER, TURN, U};
+use super::{ANGLE_STEP, QUARTER, TURN, U};
 
 /// The even part: U - y h/(U 2m(2m-1)), for m = 6 down to 1.
 fn even(w: i64) -> i64 {
@@ -32,10 +32,10 @@ fn square(w: i64) -> u64 {
 fn reduced(x: i64) -> (i64, i64) {
     let q = (2 * x + QUARTER).div_euclid(2 * QUARTER);
     let r = x - q * QUARTER;
-    (q % 4, (2 * r + 10_000).div_euclid(20_000))
+    (q % 4, (2 * r + ANGLE_STEP).div_euclid(2 * ANGLE_STEP))
 }
 
-/// The cosine of an angle in 10^-13 radian. Whole turns change q by a multiple of 4 and nothing else.
+/// The cosine of an angle in 10^-16 radian. Whole turns change q by a multiple of 4 and nothing else.
 pub fn cosine(x: i64) -> i64 {
     let (q, w) = reduced(x.rem_euclid(TURN));
     match q {

@@ -59,7 +59,8 @@ pub fn reference(x: &Fraction) -> Reference {
     Reference { cosine, sine, lower }
 }
 
-fn common_factor(a: i64, b: i64) -> i64 {
+/// The greatest number that divides both; neither is negative.
+pub fn common_factor(a: i64, b: i64) -> i64 {
     if b == 0 {
         a
     } else {
@@ -73,23 +74,28 @@ fn tau(t: i64) -> (i128, i128) {
     ((t / factor) as i128, (MILLENNIUM / factor) as i128)
 }
 
+/// b + c tau, in radians. Its lower number depends on t alone.
+pub fn exact_angle(b: i64, c: i64, t: i64) -> Fraction {
+    let (tau_upper, tau_lower) = tau(t);
+    Fraction {
+        upper: Wide::of(b as i128 * tau_lower).plus(&Wide::of(c as i128 * tau_upper)),
+        lower: Wide::of(PARTS * tau_lower),
+    }
+}
+
 /// The exact sum of one coordinate's six blocks. Its lower number depends on t alone.
 pub fn exact_sum(blocks: &[Vec<Term>], t: i64) -> Fraction {
     let (tau_upper, tau_lower) = tau(t);
-    let angle = |b: i64, c: i64| Fraction {
-        upper: Wide::of(b as i128 * tau_lower).plus(&Wide::of(c as i128 * tau_upper)),
-        lower: Wide::of(PARTS * tau_lower),
-    };
     let mut upper = Wide::of(0);
     for (power, block) in (0..).zip(blocks) {
         let mut sum = Wide::of(0);
         for term in block {
-            sum = sum.plus(&reference(&angle(term.b, term.c)).cosine.times_small(term.a as i128));
+            sum = sum.plus(&reference(&exact_angle(term.b, term.c, t)).cosine.times_small(term.a as i128));
         }
         let tau_power = Wide::of(tau_upper).power(power).times(&Wide::of(tau_lower).power(5 - power));
         upper = upper.plus(&sum.times(&tau_power));
     }
-    let lower = reference(&angle(0, 0)).lower.times(&Wide::of(tau_lower).power(5)).times_small(PARTS);
+    let lower = reference(&exact_angle(0, 0, t)).lower.times(&Wide::of(tau_lower).power(5)).times_small(PARTS);
     Fraction { upper, lower }
 }
 

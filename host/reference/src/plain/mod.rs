@@ -33,9 +33,12 @@ pub const U: i64 = 1_000_000_000;
 pub const MILLENNIUM: i64 = 31_557_600_000_000;
 /// The greatest |t|.
 pub const T_LIMIT: i64 = 2 * MILLENNIUM;
-/// A quarter of a turn, and the turn, in 10^-13 radian.
-pub const QUARTER: i64 = 15_707_963_267_949;
+/// A quarter of a turn, and the turn, in 10^-16 radian, the unit of an angle.
+pub const QUARTER: i64 = 15_707_963_267_948_966;
 pub const TURN: i64 = 4 * QUARTER;
+/// How many units of an angle a part has, and the step to the working angle w.
+pub const ANGLE_PER_PART: i64 = 100_000;
+pub const ANGLE_STEP: i64 = 10_000_000;
 /// Parts (10^-11) in a radian or an AU.
 pub const PARTS: i64 = 100_000_000_000;
 

@@ -73,7 +73,7 @@ impl Nutation {
         self.mean_obliquity + self.obliquity
     }
 
-    /// The nutation in longitude as an angle in 10^-13 radian.
+    /// The nutation in longitude as an angle in 10^-16 radian.
     pub fn longitude_angle(self) -> i64 {
         angle(self.longitude as i128, SUM_TURN) as i64
     }

@@ -1,6 +1,11 @@
 //! Packed numbers, the limits of a series, packed series, and the printer.
 
-use super::{refused, Refused, PARTS};
+use super::{refused, Refused, PARTS, U};
+
+/// The coarseness sum of a coordinate: what each part of |a| counts, what the sum begins with, and what it may reach.
+const COARSE_SHARE: i128 = 6;
+const COARSE_BASE: i128 = 32 * U as i128;
+const COARSE_LIMIT: i128 = 200_000_000_000_000;
 
 /// A term a cos(b + c tau), all three in parts.
 #[derive(Clone, Copy, Debug, PartialEq, Eq)]
@@ -96,7 +101,7 @@ impl Judge {
             return 4;
         }
         if self.blocks_begun.is_multiple_of(6) {
-            self.coarseness = 32_000_000_000;
+            self.coarseness = COARSE_BASE;
         }
         self.blocks_begun += 1;
         self.declared += n as i64;
@@ -152,9 +157,9 @@ impl Judge {
         self.terms_left -= 1;
         if self.last_b != 0 || c != 0 {
             let power = (self.blocks_begun - 1) % 6;
-            self.coarseness += (14 * self.last_a.abs() as i128 + 1_000_000_000) << power;
+            self.coarseness += (COARSE_SHARE * self.last_a.abs() as i128 + U as i128) << power;
         }
-        if 200_000_000_000_000 < self.coarseness {
+        if COARSE_LIMIT < self.coarseness {
             return 6;
         }
         0

@@ -4,7 +4,7 @@ use super::cosine::{cosine, sine};
 use super::nutation::nutation;
 use super::packed::{parse, Series};
 use super::series::{coordinates, Coordinates};
-use super::{refused, rounded, within_limit, within_turn, Refused, PARTS, TURN, U};
+use super::{refused, rounded, within_limit, within_turn, Refused, ANGLE_PER_PART, PARTS, TURN, U};
 
 /// Three numbers in parts.
 #[derive(Clone, Copy, Debug, PartialEq, Eq)]
@@ -50,7 +50,7 @@ pub fn floor_root(n: u128) -> u128 {
 }
 
 impl Vector {
-    /// From a length and two angles in 10^-13 radian.
+    /// From a length and two angles in 10^-16 radian.
     fn of_angles(length: i64, longitude: i64, latitude: i64) -> Vector {
         let flat = scaled(length, cosine(latitude));
         Vector {
@@ -61,7 +61,7 @@ impl Vector {
     }
 
     pub fn of_coordinates(c: Coordinates) -> Vector {
-        let angle = |parts: i64| within_turn(100 * parts as i128);
+        let angle = |parts: i64| within_turn(ANGLE_PER_PART as i128 * parts as i128);
         Vector::of_angles(c.radius, angle(c.longitude), angle(c.latitude))
     }
 
@@ -149,7 +149,11 @@ pub struct Geometry {
 }
 
 pub fn geometry(planet: &Series, earth: &Series, t: i64) -> Option<Geometry> {
-    let (p, e) = (coordinates(planet, t), coordinates(earth, t));
+    seen(coordinates(planet, t), coordinates(earth, t))
+}
+
+/// The geometry of these coordinates of the planet and of Earth.
+pub fn seen(p: Coordinates, e: Coordinates) -> Option<Geometry> {
     let radii = PARTS / 10..=64 * PARTS;
     if !radii.contains(&p.radius) || !radii.contains(&e.radius) {
         return None;

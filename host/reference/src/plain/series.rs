@@ -2,7 +2,7 @@
 
 use super::cosine::cosine;
 use super::packed::{parse, Series, Term};
-use super::{rounded, within_limit, within_turn, Refused, MILLENNIUM, U};
+use super::{rounded, within_limit, within_turn, Refused, ANGLE_PER_PART, MILLENNIUM, U};
 
 #[derive(Clone, Copy, Debug, PartialEq, Eq)]
 pub struct Coordinates {
@@ -12,8 +12,9 @@ pub struct Coordinates {
 }
 
 pub fn term_angle(term: Term, t: i64) -> i64 {
-    let turned = rounded(100 * term.c as i128 * t as i128, MILLENNIUM as i128);
-    within_turn(100 * term.b as i128 + turned)
+    let unit = ANGLE_PER_PART as i128;
+    let turned = rounded(unit * term.c as i128 * t as i128, MILLENNIUM as i128);
+    within_turn(unit * term.b as i128 + turned)
 }
 
 pub fn term_value(term: Term, t: i64) -> i64 {

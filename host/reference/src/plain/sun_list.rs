@@ -5,9 +5,12 @@ use super::packed::parse;
 use super::place::{geometry, Geometry};
 use super::{refused, rounded, within_limit, Refused, TURN};
 
+/// Half arcminutes in a turn.
+pub const TURN_HALF_ARCMINUTES: i128 = 43_200;
+
 /// Four times the squared sine of (keep-out + 1)/2 arcminutes.
 pub fn threshold(keep_out: i64) -> i64 {
-    let s = sine(rounded((keep_out as i128 + 1) * TURN as i128, 43_200) as i64);
+    let s = sine(rounded((keep_out as i128 + 1) * TURN as i128, TURN_HALF_ARCMINUTES) as i64);
     4 * s * s
 }
 

@@ -1,0 +1,8 @@
+//! The inner rules of the proved library: against the vectors, and against the independent implementation.
+
+#[path = "../common/mod.rs"]
+mod common;
+mod proved;
+mod random;
+mod terms;
+mod vectors;
