@@ -1,5 +1,6 @@
 -- The number and the values of each answer, as the C interface has them: `refusal` is 0 or the refusal's number, `figure` what comes with a
 -- refusal (RULES, "Refusals and what they leave"); what an answer does not use is 0.
+use mathlib.Core.Bool.{Bool, cond}
 use Prim.Native.Nat.{ℕ, min}
 use lib.IntN.{ℤ, pos, negsuc}
 use lib.Ieee.{Float, binary64, ofInt}
@@ -14,7 +15,8 @@ use Rattle.calendar.specs.declared.InstantAnswer.the-variants.{At, NoInstant}
 use Rattle.calendar.specs.declared.MomentAnswer.{MomentAnswer}
 use Rattle.calendar.specs.declared.MomentAnswer.the-variants.{Moment as OnAt, NoMoment}
 use Rattle.packed.specs.declared.Checked.{Checked}
-use Rattle.packed.specs.declared.Checked.the-variants.{Terms, NoSeries}
+use Rattle.packed.specs.declared.Checked.the-variants.{Series, NoSeries}
+use Rattle.packed.specs.declared.Content.{Content}
 use Rattle.series_lines.specs.declared.Outcome.{Outcome}
 use Rattle.series_lines.specs.declared.Outcome.the-variants.{More, Accepted, Refused}
 use Rattle.mending.specs.declared.Clean.{Clean}
@@ -31,6 +33,7 @@ use Rattle.place.specs.declared.PlaceAnswer.the-variants.{Place, NoPlace}
 use Rattle.place.specs.declared.Mount.{Mount}
 use Rattle.place.specs.declared.Mount.the-variants.{At as AtPlace, Refused as NoMount}
 use Rattle.answers.specs.declared.One.{One}
+use Rattle.answers.specs.declared.Examined.{Examined}
 use Rattle.answers.specs.declared.Moment.{Moment}
 use Rattle.answers.specs.declared.Three.{Three}
 use Rattle.answers.specs.declared.Doubles.{Doubles}
@@ -80,12 +83,23 @@ unfoldable pub moment-shown : MomentAnswer → Moment
 moment-shown (OnAt d m) = record { refusal = 0; figure = pos 0; year = d .year; month = d .month; day = d .day; ms = m }
 moment-shown (NoMoment r) = moment-refused r
 
--- RULES, "Series, as text and packed" and "Published files": stephylax_checked, the number of terms; stephylax_written, the length of the packed
--- form of a text or of a published file, so far or in all, or of the printed text.
-unfoldable pub checked-shown : Checked → One
-checked-shown (Terms n) = one-counted n
-checked-shown (NoSeries r) = one-refused r
+-- RULES, "Series, as text and packed" and "The wide range": stephylax_checked, the number of terms, and 1 where the series is good for the wide
+-- range, else 0.
+unfoldable pub examined-refused : Refusal → Examined
+examined-refused r = record { refusal = number r; figure = clipped (figure r); terms = pos 0; wide = pos 0 }
 
+unfoldable pub flag : Bool → ℤ
+flag so = cond so (pos 1) (pos 0)
+
+unfoldable pub content-shown : Content → Examined
+content-shown c = record { refusal = 0; figure = pos 0; terms = clip (c .terms); wide = flag (c .wide) }
+
+unfoldable pub checked-shown : Checked → Examined
+checked-shown (Series c) = content-shown c
+checked-shown (NoSeries r) = examined-refused r
+
+-- RULES, "Series, as text and packed" and "Published files": stephylax_written, the length of the packed form of a text or of a published file, so far
+-- or in all, or of the printed text.
 unfoldable pub text-shown : Outcome → One
 text-shown (More n) = one-counted n
 text-shown (Accepted n) = one-counted n

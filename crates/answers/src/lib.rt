@@ -3,7 +3,8 @@
 ghost use mathlib.Core.Path.{_≡_};
 ghost use Rattle.units.specs.Refusals.{figure};
 ghost use Rattle.answers.specs.Answers.{clip, clipped, one-refused, one-counted, moment-refused, three-refused};
-ghost use Rattle.answers.specs.Answers.{day-shown, date-shown, instant-shown, moment-shown, checked-shown, text-shown};
+ghost use Rattle.answers.specs.Answers.{day-shown, date-shown, instant-shown, moment-shown, text-shown};
+ghost use Rattle.answers.specs.Answers.{examined-refused, flag, content-shown, checked-shown};
 ghost use Rattle.answers.specs.Answers.{accepted, standing-shown, mended-refused, verdict-place, clean-shown, mending-shown};
 ghost use Rattle.answers.specs.Answers.{printed-shown, list-shown, coordinates-shown, place-shown, mount-shown};
 use calendar::DateAnswer;
@@ -13,6 +14,7 @@ use calendar::MomentAnswer;
 use mending::Clean;
 use mending::Mending;
 use packed::Checked;
+use packed::Content;
 use place::Mount;
 use place::PlaceAnswer;
 use printer::Printed;
@@ -22,12 +24,21 @@ use sunlist::ListAnswer;
 use units::Figure;
 use units::Refusal;
 
-// stephylax_day, _instant, _written and _checked: one number.
+// stephylax_day, _instant and _written: one number.
 #[repr(C)]
 pub struct One {
     pub refusal: u64,
     pub figure: i64,
     pub value: i64,
+}
+
+// stephylax_checked.
+#[repr(C)]
+pub struct Examined {
+    pub refusal: u64,
+    pub figure: i64,
+    pub terms: i64,
+    pub wide: i64,
 }
 
 // stephylax_answer.
@@ -215,12 +226,48 @@ pub fn of_moment(a: MomentAnswer) -> Moment
     }
 }
 
-pub fn of_checked(a: Checked) -> One
-    ensures { λ r. ⌜ r ≡ checked-shown a ⌝ }
+fn refused_examined(r: Refusal) -> Examined
+    ensures { λ e. ⌜ e ≡ examined-refused r ⌝ }
+{
+    let refusal = r.number();
+    let figure = clipped_figure(r);
+    Examined {
+        refusal,
+        figure,
+        terms: 0,
+        wide: 0,
+    }
+}
+
+// 1 where it is so, else 0.
+fn flag(so: bool) -> i64
+    ensures { λ z. ⌜ z ≡ flag so ⌝ }
+{
+    if so {
+        return 1;
+    }
+    0
+}
+
+fn of_content(c: Content) -> Examined
+    ensures { λ e. ⌜ e ≡ content-shown c ⌝ }
+{
+    let terms = clip(c.terms);
+    let wide = flag(c.wide);
+    Examined {
+        refusal: 0,
+        figure: 0,
+        terms,
+        wide,
+    }
+}
+
+pub fn of_checked(a: Checked) -> Examined
+    ensures { λ e. ⌜ e ≡ checked-shown a ⌝ }
 {
     match a {
-        Checked::Terms(n) => counted(n),
-        Checked::NoSeries(r) => refused_one(r),
+        Checked::Series(c) => of_content(c),
+        Checked::NoSeries(r) => refused_examined(r),
     }
 }
 

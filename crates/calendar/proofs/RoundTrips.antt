@@ -51,10 +51,10 @@ pub record Since (t : ℤ) : Type 0 where
 
 pub since : (t : ℤ) → in-limit t ≡ true → Since t
 since (pos k) h =
-    let l : k ≤ t-limit = size-within (pos k) h in
+    let l : k ≤ t-limit = size-within t-limit (pos k) h in
     record { u = epoch-ms + k; is = same (nat (epoch-ms + k)) (int (pos k) +ᵢ nat epoch-ms) (omega arith); small = omega arith }
 since (negsuc k) h =
-    let l : suc k ≤ t-limit = size-within (negsuc k) h in
+    let l : suc k ≤ t-limit = size-within t-limit (negsuc k) h in
     record { u = epoch-ms - suc k; is = same (nat (epoch-ms - suc k)) (int (negsuc k) +ᵢ nat epoch-ms) (omega arith); small = omega arith }
 
 days-of : (n k : ℕ) → k < day-ms → ((day-ms * n + k) / day-ms ≡ n) × ((day-ms * n + k) % day-ms ≡ k)

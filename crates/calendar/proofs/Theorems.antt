@@ -5,7 +5,7 @@ use mathlib.Core.Bool.{true}
 use Prim.Native.Nat.{ℕ, _/_, _%_, _≤_}
 use lib.IntN.{ℤ, pos}
 use Rattle.integers.specs.Division.{floor, modulo}
-use Rattle.units.specs.Units.{in-limit}
+use Rattle.units.specs.Units.{within, in-limit}
 use Rattle.units.specs.declared.Instant.{Instant}
 use Rattle.calendar.specs.Calendar.{leap, month-length, first-bad, first-bad-of-four, noon-number, day-of-date, date-of-day, instant, instant-of-date}
 use Rattle.calendar.specs.Calendar.{date-of-instant}
@@ -66,5 +66,5 @@ one-moment t h =
 
 -- The marked figures.
 pub figures : All-right marked
-unfolding day-of-date instant-of-date first-bad-of-four first-bad month-length leap noon-number floor modulo instant in-limit
+unfolding day-of-date instant-of-date first-bad-of-four first-bad month-length leap noon-number floor modulo instant within
 figures = (refl, (refl, (refl, (refl, (refl, (refl, (refl, (refl, (refl, tt)))))))))

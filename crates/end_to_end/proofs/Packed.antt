@@ -12,22 +12,23 @@ use Rattle.units.specs.declared.Refusal.the-variants.{EndedEarly, ByteAfterEnd}
 use Rattle.packed_numbers.specs.Numbers.{All-bytes, Read, got, bad, number, groups-from, next}
 use Rattle.units.specs.Units.{block-count}
 use Rattle.limits.specs.declared.Term.{Term}
-use Rattle.limits.specs.Allowed.{term-count}
 use Rattle.limits.specs.Limits.{no-tally}
 use Rattle.limits.proofs.Series.{good-allowed}
-use Rattle.packed.specs.declared.Checked.the-variants.{Terms, NoSeries}
+use Rattle.packed.specs.declared.Content.{Content}
+use Rattle.packed.specs.declared.Checked.the-variants.{Series, NoSeries}
 use Rattle.packed.specs.Series.{Parsed, accepted, refused, read-block, read-blocks, read-series, ended, parse, checked, pack}
 use Rattle.packed_promises.specs.Bounds.{Where, over, total, coarse, early, after, unshortened}
 use Rattle.packed_promises.proofs.Appending.{series-append, series-bad}
 use Rattle.packed_promises.proofs.Refusing.{Placed, on, off, series-placed}
-use Rattle.packed_promises.proofs.Packing.{blocks-begin, blocks-are-good}
+use Rattle.packed.proofs.Blocks.{blocks-are-good}
+use Rattle.packed_promises.proofs.Packing.{blocks-begin}
 use Rattle.packed_promises.proofs.Theorems.{to-end, pack-parse}
 use Rattle.series_lines.specs.Calls.{joined}
 use Rattle.end_to_end.specs.EndToEnd.{Packed-series, Each, Found, at-end, goes-on}
 
 -- ---- A series, and more bytes.
 
-unlike : {r : Refusal} {n : ℕ} → NoSeries r ≡ Terms n → ⊥
+unlike : {r : Refusal} {c : Content} → NoSeries r ≡ Series c → ⊥
 unlike e = let z : _≡_ {A = ℕ} 0 1 = cc in omega arith
 
 -- What `check` accepts is parsed to blocks.
@@ -39,7 +40,7 @@ pub blocks-of : (x : List ℕ) → Packed-series x → Blocks-of x
 unfolding checked
 blocks-of x s = go (parse x) refl (s .is)
   where
-    go : (p : Parsed) → parse x ≡ p → checked p ≡ Terms (s .terms) → Blocks-of x
+    go : (p : Parsed) → parse x ≡ p → checked p ≡ Series (s .content) → Blocks-of x
     go (accepted blocks) p q = record { blocks = blocks; is = p }
     go (refused r) p q = absurd (unlike q)
 
@@ -66,7 +67,7 @@ before bytes blocks at b rest all e l =
     let n : length (pack blocks) ≡ at = omega (arith, l, ap length f, length-append (pack blocks) (b ∷ rest)) in
     let t : take at bytes ≡ pack blocks = ap (λ (s : List ℕ). take at s) f ∙ take-at (pack blocks) (b ∷ rest) at n in
     let p : parse (take at bytes) ≡ accepted blocks = ap parse t ∙ pack-parse blocks (good-allowed blocks (g .many) (g .good)) in
-    (record { terms = term-count blocks; is = ap checked p }, omega (arith, l))
+    (record { content = _; is = ap checked p }, omega (arith, l))
 
 pub front : (bytes : List ℕ) (at : ℕ) → All-bytes bytes → checked (parse bytes) ≡ NoSeries (ByteAfterEnd at)
     → Packed-series (take at bytes) × (at < length bytes)
@@ -137,7 +138,7 @@ drop-bytes (suc n) (b ∷ s) h = drop-bytes n s (h .1)
 
 pub found : (bytes : List ℕ) (xs : List (List ℕ)) → All-bytes bytes → Found bytes xs → Each Packed-series xs × (joined xs ≡ bytes)
 unfolding Each joined
-found bytes _ all (at-end {n = n} e) = ((record { terms = n; is = e }, tt), append-nil bytes)
+found bytes _ all (at-end {c = c} e) = ((record { content = c; is = e }, tt), append-nil bytes)
 found bytes _ all (goes-on {at = at} {xs = xs} e f) =
     let i = found (drop at bytes) xs (drop-bytes at bytes all) f in
     ((front bytes at all e .0, i .0), ap (λ (s : List ℕ). take at bytes ++ s) (i .1) ∙ take-append-drop at bytes)

@@ -8,7 +8,8 @@ use Prim.Native.Nat.{ℕ, _≤_, _<_}
 use lib.ListN.{length, take, drop}
 use Rattle.units.specs.declared.Refusal.the-variants.{EndedEarly, ByteAfterEnd}
 use Rattle.packed_numbers.specs.Numbers.{All-bytes}
-use Rattle.packed.specs.declared.Checked.the-variants.{Terms, NoSeries}
+use Rattle.packed.specs.declared.Content.{Content}
+use Rattle.packed.specs.declared.Checked.the-variants.{Series, NoSeries}
 use Rattle.packed.specs.Series.{parse, checked}
 use Rattle.packed_promises.specs.Bounds.{packed-limit}
 use Rattle.series_lines.specs.declared.Outcome.the-variants.{Accepted, Refused}
@@ -20,10 +21,10 @@ use Rattle.printer.specs.Printer.{printed, printed-out}
 
 -- ---- What is stored.
 
--- A packed series: `check` answers how many terms it has.
+-- A packed series: `check` answers what it holds.
 pub record Packed-series (x : List ℕ) : Type 0 where
-  pub terms : ℕ
-  pub is : checked (parse x) ≡ Terms terms
+  pub content : Content
+  pub is : checked (parse x) ≡ Series content
 
 -- A text that `read` accepts with this output.
 pub record Read-into (out text : List ℕ) : Type 0 where
@@ -73,7 +74,7 @@ pub record Kinds-told-apart : Type 0 where
 -- What `check` finds in bytes, series after series: where it accepts the rest, this is the last one; where it refuses the rest with 9, the
 -- bytes before that offset are one, and the next begins there.
 pub data Found : List ℕ → List (List ℕ) → Type 0 where
-  at-end : {x : List ℕ} {n : ℕ} → checked (parse x) ≡ Terms n → Found x (x ∷ [])
+  at-end : {x : List ℕ} {c : Content} → checked (parse x) ≡ Series c → Found x (x ∷ [])
   goes-on : {bytes : List ℕ} {at : ℕ} {xs : List (List ℕ)} → checked (parse bytes) ≡ NoSeries (ByteAfterEnd at)
       → Found (drop at bytes) xs → Found bytes (take at bytes ∷ xs)
 

@@ -13,6 +13,7 @@ use Rattle.integers.proofs.Tests.{false-true}
 use Rattle.units.specs.Units.{U, t-limit}
 use Rattle.units.specs.declared.Coordinates.{Coordinates}
 use Rattle.limits.specs.declared.Term.{Term}
+use Rattle.limits.specs.Wide.{reaches}
 use Rattle.packed.specs.Series.{parse, accepted, pack}
 use Rattle.series.specs.Sums.{coordinates}
 use Rattle.rectangular.specs.declared.Vector.{Vector}
@@ -38,6 +39,8 @@ pub record Worked (t : ℤ) (planet earth : List (List Term)) : Type 0 where
   pub planet-in : parse (pack planet) ≡ accepted planet
   pub earth-in : parse (pack earth) ≡ accepted earth
   pub time-in : natAbs t ≤ t-limit
+  pub planet-asked : reaches planet t ≡ true
+  pub earth-asked : reaches earth t ≡ true
   pub p-is : coordinates t planet ≡ p
   pub e-is : coordinates t earth ≡ e
   pub s-is : sun (place e) ≡ s
@@ -79,13 +82,13 @@ module _ {t : ℤ} {planet earth : List (List Term)} (w : Worked t planet earth)
   pub outside : (k : ℕ) → least-keep-out ≤ k → k ≤ greatest-keep-out → listed-by k (w .s) (w .g) (w .s-length) (w .g-length) ≡ false
       → Within-arcminutes k (exact-coordinates (record { ms = t }) planet) (exact-coordinates (record { ms = t }) earth) → ⊥
   outside k h l n within =
-      false-true (sym (listed-is k ∙ n) ∙ within-is-listed _ _ _ _ (near (pack planet) planet (record { ms = t }) (w .planet-in) (w .time-in))
-      (near (pack earth) earth (record { ms = t }) (w .earth-in) (w .time-in)) all-usable k h l within)
+      false-true (sym (listed-is k ∙ n) ∙ within-is-listed _ _ _ _ (near (pack planet) planet (record { ms = t }) (w .planet-in) (w .time-in) (w .planet-asked))
+      (near (pack earth) earth (record { ms = t }) (w .earth-in) (w .time-in) (w .earth-asked)) all-usable k h l within)
 
   pub inside : (k : ℕ) → least-keep-out + 2 ≤ k → k ≤ greatest-keep-out + 2 → listed-by (k - 2) (w .s) (w .g) (w .s-length) (w .g-length) ≡ true
       → Within-arcminutes k (exact-coordinates (record { ms = t }) planet) (exact-coordinates (record { ms = t }) earth)
   inside k h l y =
       let back : k - 2 + 2 ≡ k = omega arith in
       subst (λ (n : ℕ). Within-arcminutes n (exact-coordinates (record { ms = t }) planet) (exact-coordinates (record { ms = t }) earth)) back
-      (listed-is-within _ _ _ _ (near (pack planet) planet (record { ms = t }) (w .planet-in) (w .time-in))
-      (near (pack earth) earth (record { ms = t }) (w .earth-in) (w .time-in)) all-usable (k - 2) (omega arith) (omega arith) (listed-is (k - 2) ∙ y))
+      (listed-is-within _ _ _ _ (near (pack planet) planet (record { ms = t }) (w .planet-in) (w .time-in) (w .planet-asked))
+      (near (pack earth) earth (record { ms = t }) (w .earth-in) (w .time-in) (w .earth-asked)) all-usable (k - 2) (omega arith) (omega arith) (listed-is (k - 2) ∙ y))

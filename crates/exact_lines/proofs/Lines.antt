@@ -12,8 +12,8 @@ use Rattle.series.specs.Exact.{exact-term, exact-block, exact-sum, exact-longit
 use Rattle.separation.specs.Exact.{cosᶠ, sinᶠ, dotᶠ, cosine-of-arcminutes}
 use Rattle.sunlist.specs.Demand.{exact-coordinates}
 use Rattle.exact_lines.specs.Lines.{Line, Says, Right, All-right, lines}
-use Rattle.exact_lines.specs.Lines.{line-155, line-157, line-159, line-160, line-163, line-164}
-use Rattle.exact_lines.specs.Lines.{line-167, line-168, line-169, line-170, line-172, line-173}
+use Rattle.exact_lines.specs.Lines.{line-95, line-97, line-99, line-100, line-103, line-104}
+use Rattle.exact_lines.specs.Lines.{line-107, line-108, line-109, line-110, line-112, line-113}
 use Rattle.exact_lines.proofs.Decided.{natural-first, whole-first, forced, tested, decided, within, not-within}
 
 said : (b a : Bool) (P : Type 0) → (a ≡ true → P) → (a ≡ false → P → ⊥) → a ≡ b → Says b P
@@ -29,104 +29,104 @@ right l e =
     let d = exact-coordinates (record { ms = l .t }) (l .earth) in
     said (l .within) (decided (l .k) c d) _ (within (l .k) c d) (not-within (l .k) c d) e
 
-decided-155 : decided-line line-155 ≡ true
+decided-95 : decided-line line-95 ≡ true
 unfolding floor rounded modulo _*ᶠ_ _+ᶠ_ negᶠ powerᶠ cosine-by sine-by power factorial sum alternate even-series odd-series ref-q ref-r
     reference-cosine reference-sine term-reference longitude-blocks latitude-blocks radius-blocks exact-term exact-block exact-sum exact-longitude
     exact-latitude exact-radius exact-coordinates cosᶠ sinᶠ dotᶠ cosine-of-arcminutes natural-first whole-first forced tested decided
-decided-155 = refl
+decided-95 = refl
 
-decided-157 : decided-line line-157 ≡ true
+decided-97 : decided-line line-97 ≡ true
 unfolding floor rounded modulo _*ᶠ_ _+ᶠ_ negᶠ powerᶠ cosine-by sine-by power factorial sum alternate even-series odd-series ref-q ref-r
     reference-cosine reference-sine term-reference longitude-blocks latitude-blocks radius-blocks exact-term exact-block exact-sum exact-longitude
     exact-latitude exact-radius exact-coordinates cosᶠ sinᶠ dotᶠ cosine-of-arcminutes natural-first whole-first forced tested decided
-decided-157 = refl
+decided-97 = refl
 
-decided-159 : decided-line line-159 ≡ true
+decided-99 : decided-line line-99 ≡ true
 unfolding floor rounded modulo _*ᶠ_ _+ᶠ_ negᶠ powerᶠ cosine-by sine-by power factorial sum alternate even-series odd-series ref-q ref-r
     reference-cosine reference-sine term-reference longitude-blocks latitude-blocks radius-blocks exact-term exact-block exact-sum exact-longitude
     exact-latitude exact-radius exact-coordinates cosᶠ sinᶠ dotᶠ cosine-of-arcminutes natural-first whole-first forced tested decided
-decided-159 = refl
+decided-99 = refl
 
-decided-160 : decided-line line-160 ≡ false
+decided-100 : decided-line line-100 ≡ false
 unfolding floor rounded modulo _*ᶠ_ _+ᶠ_ negᶠ powerᶠ cosine-by sine-by power factorial sum alternate even-series odd-series ref-q ref-r
     reference-cosine reference-sine term-reference longitude-blocks latitude-blocks radius-blocks exact-term exact-block exact-sum exact-longitude
     exact-latitude exact-radius exact-coordinates cosᶠ sinᶠ dotᶠ cosine-of-arcminutes natural-first whole-first forced tested decided
-decided-160 = refl
+decided-100 = refl
 
-decided-163 : decided-line line-163 ≡ false
+decided-103 : decided-line line-103 ≡ false
 unfolding floor rounded modulo _*ᶠ_ _+ᶠ_ negᶠ powerᶠ cosine-by sine-by power factorial sum alternate even-series odd-series ref-q ref-r
     reference-cosine reference-sine term-reference longitude-blocks latitude-blocks radius-blocks exact-term exact-block exact-sum exact-longitude
     exact-latitude exact-radius exact-coordinates cosᶠ sinᶠ dotᶠ cosine-of-arcminutes natural-first whole-first forced tested decided
-decided-163 = refl
+decided-103 = refl
 
-decided-164 : decided-line line-164 ≡ false
+decided-104 : decided-line line-104 ≡ false
 unfolding floor rounded modulo _*ᶠ_ _+ᶠ_ negᶠ powerᶠ cosine-by sine-by power factorial sum alternate even-series odd-series ref-q ref-r
     reference-cosine reference-sine term-reference longitude-blocks latitude-blocks radius-blocks exact-term exact-block exact-sum exact-longitude
     exact-latitude exact-radius exact-coordinates cosᶠ sinᶠ dotᶠ cosine-of-arcminutes natural-first whole-first forced tested decided
-decided-164 = refl
+decided-104 = refl
 
-decided-167 : decided-line line-167 ≡ false
+decided-107 : decided-line line-107 ≡ false
 unfolding floor rounded modulo _*ᶠ_ _+ᶠ_ negᶠ powerᶠ cosine-by sine-by power factorial sum alternate even-series odd-series ref-q ref-r
     reference-cosine reference-sine term-reference longitude-blocks latitude-blocks radius-blocks exact-term exact-block exact-sum exact-longitude
     exact-latitude exact-radius exact-coordinates cosᶠ sinᶠ dotᶠ cosine-of-arcminutes natural-first whole-first forced tested decided
-decided-167 = refl
+decided-107 = refl
 
-decided-168 : decided-line line-168 ≡ true
+decided-108 : decided-line line-108 ≡ true
 unfolding floor rounded modulo _*ᶠ_ _+ᶠ_ negᶠ powerᶠ cosine-by sine-by power factorial sum alternate even-series odd-series ref-q ref-r
     reference-cosine reference-sine term-reference longitude-blocks latitude-blocks radius-blocks exact-term exact-block exact-sum exact-longitude
     exact-latitude exact-radius exact-coordinates cosᶠ sinᶠ dotᶠ cosine-of-arcminutes natural-first whole-first forced tested decided
-decided-168 = refl
+decided-108 = refl
 
-decided-169 : decided-line line-169 ≡ true
+decided-109 : decided-line line-109 ≡ true
 unfolding floor rounded modulo _*ᶠ_ _+ᶠ_ negᶠ powerᶠ cosine-by sine-by power factorial sum alternate even-series odd-series ref-q ref-r
     reference-cosine reference-sine term-reference longitude-blocks latitude-blocks radius-blocks exact-term exact-block exact-sum exact-longitude
     exact-latitude exact-radius exact-coordinates cosᶠ sinᶠ dotᶠ cosine-of-arcminutes natural-first whole-first forced tested decided
-decided-169 = refl
+decided-109 = refl
 
-decided-170 : decided-line line-170 ≡ false
+decided-110 : decided-line line-110 ≡ false
 unfolding floor rounded modulo _*ᶠ_ _+ᶠ_ negᶠ powerᶠ cosine-by sine-by power factorial sum alternate even-series odd-series ref-q ref-r
     reference-cosine reference-sine term-reference longitude-blocks latitude-blocks radius-blocks exact-term exact-block exact-sum exact-longitude
     exact-latitude exact-radius exact-coordinates cosᶠ sinᶠ dotᶠ cosine-of-arcminutes natural-first whole-first forced tested decided
-decided-170 = refl
+decided-110 = refl
 
-decided-172 : decided-line line-172 ≡ true
+decided-112 : decided-line line-112 ≡ true
 unfolding floor rounded modulo _*ᶠ_ _+ᶠ_ negᶠ powerᶠ cosine-by sine-by power factorial sum alternate even-series odd-series ref-q ref-r
     reference-cosine reference-sine term-reference longitude-blocks latitude-blocks radius-blocks exact-term exact-block exact-sum exact-longitude
     exact-latitude exact-radius exact-coordinates cosᶠ sinᶠ dotᶠ cosine-of-arcminutes natural-first whole-first forced tested decided
-decided-172 = refl
+decided-112 = refl
 
-decided-173 : decided-line line-173 ≡ true
+decided-113 : decided-line line-113 ≡ true
 unfolding floor rounded modulo _*ᶠ_ _+ᶠ_ negᶠ powerᶠ cosine-by sine-by power factorial sum alternate even-series odd-series ref-q ref-r
     reference-cosine reference-sine term-reference longitude-blocks latitude-blocks radius-blocks exact-term exact-block exact-sum exact-longitude
     exact-latitude exact-radius exact-coordinates cosᶠ sinᶠ dotᶠ cosine-of-arcminutes natural-first whole-first forced tested decided
-decided-173 = refl
+decided-113 = refl
 
 -- The table is right.
 pub lines-right : All-right lines
 lines-right = (
-  right line-155 decided-155,
+  right line-95 decided-95,
   (
-    right line-157 decided-157,
+    right line-97 decided-97,
     (
-      right line-159 decided-159,
+      right line-99 decided-99,
       (
-        right line-160 decided-160,
+        right line-100 decided-100,
         (
-          right line-163 decided-163,
+          right line-103 decided-103,
           (
-            right line-164 decided-164,
+            right line-104 decided-104,
             (
-              right line-167 decided-167,
+              right line-107 decided-107,
               (
-                right line-168 decided-168,
+                right line-108 decided-108,
                 (
-                  right line-169 decided-169,
+                  right line-109 decided-109,
                   (
-                    right line-170 decided-170,
+                    right line-110 decided-110,
                     (
-                      right line-172 decided-172,
+                      right line-112 decided-112,
                       (
-                        right line-173 decided-173,
+                        right line-113 decided-113,
                         tt,
                       ),
                     ),

@@ -6,6 +6,9 @@ use lib.Dec.{lit<, lit≤}
 use lib.IntN.{ℤ, pos, negℤ}
 use Rattle.integers.specs.Division.{floor, rounded, modulo}
 use Rattle.packed_numbers.specs.Numbers.{next, closed, groups-from, number, groups, encode, folded, unfolded}
+use Rattle.units.specs.Units.{within}
+use Rattle.limits.specs.Allowed.{total-of, moving-total, moving-count, coarseness-by}
+use Rattle.limits.specs.Wide.{totals-within, fine-enough, good-for-wide, reaches}
 use Rattle.limits.specs.Limits.{constant, weight, opened, added, summed, after-block, factor, count-fits, a-fits, b-fits, c-fits, total-fits, coarse-fits}
 use Rattle.packed.specs.Series.{judged, read-a, read-b, read-c, read-term, read-terms, read-block, read-blocks, read-series, ended, parse}
 use Rattle.packed.specs.Series.{pack-term, pack-terms, pack-block, pack}
@@ -18,8 +21,10 @@ use Rattle.rectangular.specs.Vectors.{geocentric, sun, squared}
 use Rattle.rectangular.specs.Sight.{radius-usable, usable}
 use Rattle.separation.specs.Listed.{squared-separation, threshold}
 use Rattle.exact_lines.specs.Lines.{Line, All-right, at-an-angle, late, between, early, first-minute, next-minute}
-use Rattle.exact_lines.specs.Lines.{line-177, line-178, line-181, line-185, line-188, line-189}
-use Rattle.exact_lines.specs.Lines.{line-257, line-260, line-261, line-302, line-304, line-305}
+use Rattle.exact_lines.specs.Lines.{beyond, long-before, wide-minute, minute-after}
+use Rattle.exact_lines.specs.Lines.{line-123, line-126, line-135, line-138, line-158, line-161}
+use Rattle.exact_lines.specs.Lines.{line-336, line-337, line-340, line-344, line-347, line-348}
+use Rattle.exact_lines.specs.Lines.{line-416, line-419, line-420, line-461, line-463, line-464}
 use Rattle.exact_lines.proofs.Angled.{Worked, outside, inside}
 
 abbrev minus : ℕ → ℤ
@@ -30,12 +35,13 @@ Worked-line l = Worked (l .t) (l .planet) (l .earth)
 
 -- Neither k nor what a line says of it changes what is worked.
 unfoldable worked : Worked-line (late 0 true) × Worked-line (between 0 true) × Worked-line (early 0 true) × Worked-line (first-minute 0 true)
-    × Worked-line (next-minute 0 true)
+    × Worked-line (next-minute 0 true) × Worked-line (beyond 0 true) × Worked-line (long-before 0 true) × Worked-line (wide-minute 0 true)
+    × Worked-line (minute-after 0 true)
 unfolding floor rounded modulo next closed groups-from number groups encode folded unfolded constant weight opened added summed after-block factor
     count-fits a-fits b-fits c-fits total-fits coarse-fits judged read-a read-b read-c read-term read-terms read-block read-blocks read-series ended parse
     pack-term pack-terms pack-block pack q-of r-of w-of y-of horner even-part odd-part cosine-by sine-by working-cosine working-sine cosine sine term-angle
     term-cosine term-value block-sum running-sum longitude-blocks latitude-blocks radius-blocks coordinates rectangular place geocentric sun squared
-    radius-usable usable
+    radius-usable usable within total-of moving-total moving-count coarseness-by totals-within fine-enough good-for-wide reaches
 worked = (
   record {
     p = record { longitude = pos 507209511301; latitude = minus 6707974031; radius = pos 68435804865 };
@@ -47,6 +53,8 @@ worked = (
     planet-in = refl;
     earth-in = refl;
     time-in = lit≤ tt;
+    planet-asked = refl;
+    earth-asked = refl;
     p-is = refl;
     e-is = refl;
     s-is = refl;
@@ -65,6 +73,8 @@ worked = (
     planet-in = refl;
     earth-in = refl;
     time-in = lit≤ tt;
+    planet-asked = refl;
+    earth-asked = refl;
     p-is = refl;
     e-is = refl;
     s-is = refl;
@@ -83,6 +93,8 @@ worked = (
     planet-in = refl;
     earth-in = refl;
     time-in = lit≤ tt;
+    planet-asked = refl;
+    earth-asked = refl;
     p-is = refl;
     e-is = refl;
     s-is = refl;
@@ -101,6 +113,8 @@ worked = (
     planet-in = refl;
     earth-in = refl;
     time-in = lit≤ tt;
+    planet-asked = refl;
+    earth-asked = refl;
     p-is = refl;
     e-is = refl;
     s-is = refl;
@@ -119,6 +133,88 @@ worked = (
     planet-in = refl;
     earth-in = refl;
     time-in = lit≤ tt;
+    planet-asked = refl;
+    earth-asked = refl;
+    p-is = refl;
+    e-is = refl;
+    s-is = refl;
+    g-is = refl;
+    s-root = record { low = lit≤ tt; high = lit< tt };
+    g-root = record { low = lit≤ tt; high = lit< tt };
+    usable-is = refl;
+  },
+  record {
+    p = record { longitude = pos 443424073057; latitude = minus 10529972384; radius = pos 150685076991 };
+    e = record { longitude = pos 87808588885; latitude = pos 0; radius = pos 60255767985 };
+    s = record { x = minus 38480855255; y = minus 46367891440; z = pos 0 };
+    g = record { x = minus 79626123131; y = minus 190458917356; z = minus 15837790730 };
+    s-length = 60255768003;
+    g-length = 207040465369;
+    planet-in = refl;
+    earth-in = refl;
+    time-in = lit≤ tt;
+    planet-asked = refl;
+    earth-asked = refl;
+    p-is = refl;
+    e-is = refl;
+    s-is = refl;
+    g-is = refl;
+    s-root = record { low = lit≤ tt; high = lit< tt };
+    g-root = record { low = lit≤ tt; high = lit< tt };
+    usable-is = refl;
+  },
+  record {
+    p = record { longitude = pos 54494851568; latitude = minus 4654020793; radius = pos 146219417657 };
+    e = record { longitude = pos 285025327955; latitude = pos 0; radius = pos 85768547788 };
+    s = record { x = pos 82154262814; y = minus 24635764418; z = pos 0 };
+    g = record { x = pos 207058986338; y = pos 51078517203; z = minus 6802625771 };
+    s-length = 85768547772;
+    g-length = 213374587194;
+    planet-in = refl;
+    earth-in = refl;
+    time-in = lit≤ tt;
+    planet-asked = refl;
+    earth-asked = refl;
+    p-is = refl;
+    e-is = refl;
+    s-is = refl;
+    g-is = refl;
+    s-root = record { low = lit≤ tt; high = lit< tt };
+    g-root = record { low = lit≤ tt; high = lit< tt };
+    usable-is = refl;
+  },
+  record {
+    p = record { longitude = minus 4099997083811713035; latitude = pos 0; radius = pos 60000000000 };
+    e = record { longitude = pos 4099997083811713035; latitude = pos 0; radius = pos 100000000000 };
+    s = record { x = minus 98718208800; y = minus 15959801100; z = pos 0 };
+    g = record { x = minus 39487283520; y = minus 25535681760; z = pos 0 };
+    s-length = 99999999999;
+    g-length = 47024638252;
+    planet-in = refl;
+    earth-in = refl;
+    time-in = lit≤ tt;
+    planet-asked = refl;
+    earth-asked = refl;
+    p-is = refl;
+    e-is = refl;
+    s-is = refl;
+    g-is = refl;
+    s-root = record { low = lit≤ tt; high = lit< tt };
+    g-root = record { low = lit≤ tt; high = lit< tt };
+    usable-is = refl;
+  },
+  record {
+    p = record { longitude = minus 4099997010644820906; latitude = pos 0; radius = pos 60000000000 };
+    e = record { longitude = pos 4099997010644820906; latitude = pos 0; radius = pos 100000000000 };
+    s = record { x = minus 84115251200; y = pos 54079797700; z = pos 0 };
+    g = record { x = minus 33646100480; y = pos 86527676320; z = pos 0 };
+    s-length = 100000000018;
+    g-length = 92839101928;
+    planet-in = refl;
+    earth-in = refl;
+    time-in = lit≤ tt;
+    planet-asked = refl;
+    earth-asked = refl;
     p-is = refl;
     e-is = refl;
     s-is = refl;
@@ -134,30 +230,48 @@ pub at-an-angle-right : All-right at-an-angle
 unfolding worked floor rounded modulo q-of r-of w-of y-of horner even-part odd-part cosine-by sine-by working-cosine working-sine cosine sine geocentric
     squared squared-separation threshold
 at-an-angle-right = (
-  outside (worked .0) (line-177 .k) (lit≤ tt) (lit≤ tt) refl,
+  outside (worked .5) (line-123 .k) (lit≤ tt) (lit≤ tt) refl,
   (
-    outside (worked .0) (line-178 .k) (lit≤ tt) (lit≤ tt) refl,
+    inside (worked .5) (line-126 .k) (lit≤ tt) (lit≤ tt) refl,
     (
-      inside (worked .0) (line-181 .k) (lit≤ tt) (lit≤ tt) refl,
+      outside (worked .6) (line-135 .k) (lit≤ tt) (lit≤ tt) refl,
       (
-        outside (worked .1) (line-185 .k) (lit≤ tt) (lit≤ tt) refl,
+        inside (worked .6) (line-138 .k) (lit≤ tt) (lit≤ tt) refl,
         (
-          inside (worked .1) (line-188 .k) (lit≤ tt) (lit≤ tt) refl,
+          inside (worked .7) (line-158 .k) (lit≤ tt) (lit≤ tt) refl,
           (
-            inside (worked .1) (line-189 .k) (lit≤ tt) (lit≤ tt) refl,
+            outside (worked .8) (line-161 .k) (lit≤ tt) (lit≤ tt) refl,
             (
-              outside (worked .2) (line-257 .k) (lit≤ tt) (lit≤ tt) refl,
+              outside (worked .0) (line-336 .k) (lit≤ tt) (lit≤ tt) refl,
               (
-                inside (worked .2) (line-260 .k) (lit≤ tt) (lit≤ tt) refl,
+                outside (worked .0) (line-337 .k) (lit≤ tt) (lit≤ tt) refl,
                 (
-                  inside (worked .2) (line-261 .k) (lit≤ tt) (lit≤ tt) refl,
+                  inside (worked .0) (line-340 .k) (lit≤ tt) (lit≤ tt) refl,
                   (
-                    outside (worked .3) (line-302 .k) (lit≤ tt) (lit≤ tt) refl,
+                    outside (worked .1) (line-344 .k) (lit≤ tt) (lit≤ tt) refl,
                     (
-                      outside (worked .3) (line-304 .k) (lit≤ tt) (lit≤ tt) refl,
+                      inside (worked .1) (line-347 .k) (lit≤ tt) (lit≤ tt) refl,
                       (
-                        inside (worked .4) (line-305 .k) (lit≤ tt) (lit≤ tt) refl,
-                        tt,
+                        inside (worked .1) (line-348 .k) (lit≤ tt) (lit≤ tt) refl,
+                        (
+                          outside (worked .2) (line-416 .k) (lit≤ tt) (lit≤ tt) refl,
+                          (
+                            inside (worked .2) (line-419 .k) (lit≤ tt) (lit≤ tt) refl,
+                            (
+                              inside (worked .2) (line-420 .k) (lit≤ tt) (lit≤ tt) refl,
+                              (
+                                outside (worked .3) (line-461 .k) (lit≤ tt) (lit≤ tt) refl,
+                                (
+                                  outside (worked .3) (line-463 .k) (lit≤ tt) (lit≤ tt) refl,
+                                  (
+                                    inside (worked .4) (line-464 .k) (lit≤ tt) (lit≤ tt) refl,
+                                    tt,
+                                  ),
+                                ),
+                              ),
+                            ),
+                          ),
+                        ),
                       ),
                     ),
                   ),

@@ -8,7 +8,7 @@ use Rattle.limits.specs.declared.Term.{Term}
 use Rattle.limits.specs.Allowed.{moving-total, moving-count, coarseness-by, coordinate, Allowed-by}
 
 -- Its coarseness sum is not greater.
-coarseness-less : (s s′ : ℕ) → s ≤ s′ → (i : ℕ) (blocks : List (List Term)) → coarseness-by s i blocks ≤ coarseness-by s′ i blocks
+coarseness-less : (s s′ : ℕ) → s ≤ s′ → (i : ℕ) (blocks : List (List Term)) → coarseness-by coarse-tau s i blocks ≤ coarseness-by coarse-tau s′ i blocks
 unfolding coarseness-by
 coarseness-less s s′ h i [] = omega arith
 coarseness-less s s′ h i (ts ∷ blocks) =

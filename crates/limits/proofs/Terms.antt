@@ -47,6 +47,11 @@ unfolding summed added
 summed-coarse f s [] = unfold burden moving-total moving-count in omega arith
 summed-coarse f s (t ∷ ts) = rw (burden-more f t ts) (summed-coarse f (added f s t) ts ∙ omega arith)
 
+pub summed-total : (f : ℕ) (s : Tally) (ts : List Term) → summed f s ts .total ≡ s .total + total-of ts
+unfolding summed added total-of
+summed-total f s [] = omega arith
+summed-total f s (t ∷ ts) = summed-total f (added f s t) ts ∙ omega arith
+
 pub terms-total : {f : ℕ} {s : Tally} {ts : List Term} → Good-terms f s ts → s .total ≤ total-limit → s .total + total-of ts ≤ total-limit
 unfolding added total-of
 terms-total good-none h = omega arith

@@ -40,13 +40,13 @@ pub record Block-fits (ts : List Term) : Type 0 where
   pub total : total-of ts ≤ total-limit
 
 -- The coarseness sum over blocks, the first of which has power i: each block's share of A_i and U for each of its n_i terms, times the
--- greatest |tau| to its power. The rule's share is `coarse-share`.
-unfoldable pub coarseness-by : (share : ℕ) → ℕ → List (List Term) → ℕ
-coarseness-by share i [] = 0
-coarseness-by share i (ts ∷ blocks) = coarse-tau ^ i * (share * moving-total ts + U * moving-count ts) + coarseness-by share (suc i) blocks
+-- greatest |tau| to its power. The rule has `coarse-tau` and `coarse-share`.
+unfoldable pub coarseness-by : (tau share : ℕ) → ℕ → List (List Term) → ℕ
+coarseness-by tau share i [] = 0
+coarseness-by tau share i (ts ∷ blocks) = tau ^ i * (share * moving-total ts + U * moving-count ts) + coarseness-by tau share (suc i) blocks
 
 abbrev pub coarseness : ℕ → List (List Term) → ℕ
-coarseness i blocks = coarseness-by coarse-share i blocks
+coarseness i blocks = coarseness-by coarse-tau coarse-share i blocks
 
 -- The six blocks of coordinate q: 0 longitude, 1 latitude, 2 radius.
 abbrev pub coordinate : ℕ → List (List Term) → List (List Term)
@@ -62,7 +62,7 @@ pub record Allowed-by (share : ℕ) (blocks : List (List Term)) : Type 0 where
   pub eighteen : length blocks ≡ block-count
   pub few : term-count blocks ≤ series-limit
   pub fits : (k : ℕ) → k < block-count → Block-fits (getD blocks k [])
-  pub coarse : (q : ℕ) → q < 3 → coarseness-by share 0 (coordinate q blocks) + coarse-base ≤ coarse-limit
+  pub coarse : (q : ℕ) → q < 3 → coarseness-by coarse-tau share 0 (coordinate q blocks) + coarse-base ≤ coarse-limit
 
 abbrev pub Allowed : List (List Term) → Type 0
 Allowed blocks = Allowed-by coarse-share blocks

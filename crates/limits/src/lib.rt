@@ -1,5 +1,7 @@
 // The limits of a series, each judged once: RULES, "Series, as text and packed". The tests take magnitudes and the tally of the part
 // so far, and no tally can make them wrap: a reader of texts may hold any numbers.
+pub mod wide;
+
 use units::A_LIMIT;
 use units::B_LIMIT;
 use units::BLOCK_LIMIT;

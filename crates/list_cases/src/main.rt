@@ -1,4 +1,4 @@
-// Eleven runs of the program `list` in one, for its stored cases: each 9 arguments are a run.
+// Thirteen runs of the program `list` in one, for its stored cases: each 9 arguments are a run.
 use list_lines::list_of_arguments;
 
 fn main() {
@@ -13,4 +13,6 @@ fn main() {
     list_of_arguments(73);
     list_of_arguments(82);
     list_of_arguments(91);
+    list_of_arguments(100);
+    list_of_arguments(109);
 }

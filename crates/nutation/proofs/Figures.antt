@@ -3,6 +3,7 @@ use mathlib.Core.Path.{_≡_, refl}
 use mathlib.Core.List.{List, [], _∷_}
 use lib.IntN.{ℤ, pos, negℤ}
 use Rattle.integers.specs.Division.{floor, rounded, modulo}
+use Rattle.units.specs.Units.{t-limit}
 use Rattle.cosine.specs.Cosine.{q-of, r-of, w-of, y-of, horner, even-part, odd-part, cosine-by, sine-by, working-cosine, working-sine, cosine, sine}
 use Rattle.direction.specs.Angles.{units-angle}
 use Rattle.nutation_table.specs.Table.{rows}
@@ -14,9 +15,9 @@ use Rattle.nutation.specs.Nutation.{true-obliquity, nutation-angle, obli
 unfoldable pub figures-at : ℤ → List ℤ
 figures-at t = longitude-nutation t ∷ obliquity-nutation t ∷ mean-obliquity t ∷ true-obliquity t ∷ nutation-angle t ∷ obliquity-angle t ∷ []
 
-pub figures : figures-at (pos 157809600000) ∷ figures-at (negℤ (pos 63115200000000)) ∷ []
+pub figures : figures-at (pos 157809600000) ∷ figures-at (negℤ (pos t-limit)) ∷ []
     ≡ (negℤ (pos 741297) ∷ pos 759608 ∷ pos 8437910693 ∷ pos 8438670301 ∷ negℤ (pos 359390927365) ∷ pos 4091182812297526 ∷ [])
-    ∷ (pos 1568609 ∷ pos 251233 ∷ pos 8530300800 ∷ pos 8530552033 ∷ pos 760483103512 ∷ pos 4135728333015166 ∷ []) ∷ []
+    ∷ (negℤ (pos 1691705) ∷ negℤ (pos 93915) ∷ pos 8613707200 ∷ pos 8613613285 ∷ negℤ (pos 820161728401) ∷ pos 4175997564354853 ∷ []) ∷ []
 unfolding figures-at floor rounded modulo q-of r-of w-of y-of horner even-part odd-part cosine-by sine-by working-cosine working-sine cosine sine
     units-angle rows polynomial mean-elongation sun-anomaly moon-anomaly latitude-argument moon-node row-argument row-angle coefficient longitude-term
     obliquity-term add-up longitude-nutation obliquity-nutation mean-obliquity true-obliquity nutation-angle obliquity-angle

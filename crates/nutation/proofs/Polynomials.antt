@@ -21,25 +21,24 @@ use Rattle.nutation.specs.machine.Reduced.{By, centuries, reach}
 pub room : (v n d w : ℕ) → 0 < d → n ≤ d * centuries → centuries * v < w → v * n < d * w
 room v n d w h k l = omega (arith, mul-le-mul-left v k, mul-le-mul-left d l)
 
-pub step-bound : (c v n : ℤ) (d : ℕ) → By n d → natAbs (c +ℤ rounded (v *ℤ n) d) ≤ natAbs c + centuries * natAbs v
-step-bound c v n d b =
+pub step-bound : (k : ℕ) (c v n : ℤ) (d : ℕ) → 0 < d → natAbs n ≤ d * k → natAbs (c +ℤ rounded (v *ℤ n) d) ≤ natAbs c + k * natAbs v
+step-bound k c v n d h l =
     let a = natAbs-+ c (rounded (v *ℤ n) d) in
-    let p = rounded-within (v *ℤ n) d (centuries * natAbs v) (b .positive) product in
+    let p = rounded-within (v *ℤ n) d (k * natAbs v) h product in
     omega arith
   where
-    product : natAbs (v *ℤ n) ≤ centuries * natAbs v * d
-    product = omega (arith, natAbs-* v n, mul-le-mul-left (natAbs v) (b .ratio))
+    product : natAbs (v *ℤ n) ≤ k * natAbs v * d
+    product = omega (arith, natAbs-* v n, mul-le-mul-left (natAbs v) l)
 
 pub step-fits : (c v n : ℤ) (d : ℕ) → By n d → natAbs c + centuries * natAbs v < 2 ^ 63 - 1 → SFits w64 (c +ℤ rounded (v *ℤ n) d)
-step-fits c v n d b h = fits (c +ℤ rounded (v *ℤ n) d) (omega (arith, step-bound c v n d b))
+step-fits c v n d b h = fits (c +ℤ rounded (v *ℤ n) d) (omega (arith, step-bound centuries c v n d (b .positive) (b .ratio)))
 
 -- ---- all steps
-pub polynomial-bound : (n : ℤ) (d : ℕ) → By n d → (cs : List ℤ) → natAbs (polynomial n d cs) ≤ reach cs
+pub polynomial-bound : (k : ℕ) (n : ℤ) (d : ℕ) → 0 < d → natAbs n ≤ d * k → (cs : List ℤ) → natAbs (polynomial n d cs) ≤ reach k cs
 unfolding polynomial reach
-polynomial-bound n d b [] = omega arith
-polynomial-bound n d b (c ∷ cs) =
-    let h = polynomial-bound n d b cs in
-    omega (arith, step-bound c (polynomial n d cs) n d b)
+polynomial-bound k n d h l [] = omega arith
+polynomial-bound k n d h l (c ∷ cs) =
+    omega (arith, step-bound k c (polynomial n d cs) n d h l, mul-le-mul-left k (polynomial-bound k n d h l cs))
 
 -- by 10n/10d, as by n/d
 pub polynomial-scale : (k : ℕ) → 0 < k → (n : ℤ) (d : ℕ) → 0 < d → (cs : List ℤ) → polynomial (pos k *ℤ n) (k * d) cs ≡ polynomial n d cs
@@ -78,15 +77,15 @@ pub worked-all : (n : ℤ) (d : ℕ) (cs : List ℤ) (v : ℤ) (i : ℕ) → i �
 worked-all n d cs v i h w = let none : i ≡ 0 = omega arith in w .value ∙ ap (λ (k : ℕ). polynomial n d (drop k cs)) none
 
 -- what the next step asks for
-reach-drop : (cs : List ℤ) (i : ℕ) → reach (drop i cs) ≤ reach cs
+reach-drop : (cs : List ℤ) (i : ℕ) → reach centuries (drop i cs) ≤ reach centuries cs
 unfolding reach
 reach-drop cs zero = omega arith
 reach-drop [] (suc i) = omega arith
 reach-drop (c ∷ cs) (suc i) = omega (arith, reach-drop cs i)
 
-pub worked-asks : (n : ℤ) (d : ℕ) (cs : List ℤ) (v : ℤ) (i : ℕ) → By n d → reach cs < 2 ^ 63 - 1 → 0 < i → Worked-down n d cs v i
+pub worked-asks : (n : ℤ) (d : ℕ) (cs : List ℤ) (v : ℤ) (i : ℕ) → By n d → reach centuries cs < 2 ^ 63 - 1 → 0 < i → Worked-down n d cs v i
     → natAbs (getD cs (i - 1) (pos 0)) + centuries * natAbs v < 2 ^ 63 - 1
 unfolding reach
 worked-asks n d cs v i b h g w =
-    let k = polynomial-bound n d b (drop i cs) in
-    omega (arith, ap natAbs (w .value), reach-drop cs (i - 1), ap reach (from-one-less cs i g (w .within)))
+    let k = polynomial-bound centuries n d (b .positive) (b .ratio) (drop i cs) in
+    omega (arith, ap natAbs (w .value), reach-drop cs (i - 1), ap (reach centuries) (from-one-less cs i g (w .within)))

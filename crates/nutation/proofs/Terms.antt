@@ -27,7 +27,7 @@ use Rattle.nutation_table.specs.machine.Small.{figure-limit, rate-limit, Small}
 use Rattle.nutation.specs.declared.Arguments.{Arguments}
 use Rattle.nutation.specs.Nutation.{polynomial, argument, mean-elongation, sun-anomaly, moon-anomaly, latitude-argument, moon-node, row-argument}
 use Rattle.nutation.specs.Nutation.{row-angle, argument-turn, coefficient, longitude-term, obliquity-term}
-use Rattle.nutation.specs.machine.Reduced.{century, By, less-turns, At, combined, coefficient-limit}
+use Rattle.nutation.specs.machine.Reduced.{century, centuries, By, less-turns, At, combined, coefficient-limit}
 use Rattle.nutation.proofs.Polynomials.{polynomial-scale, step-bound}
 
 -- ---- the time
@@ -120,7 +120,7 @@ ten-times first h = omega (arith, natAbs-* (pos 10) first)
 
 pub coefficient-small : (t first rate : ℤ) → natAbs t ≤ t-limit → natAbs first ≤ figure-limit → natAbs rate ≤ rate-limit
     → natAbs (pos 10 *ℤ first +ℤ rounded (rate *ℤ t) century) ≤ coefficient-limit
-coefficient-small t first rate h k l = omega (arith, step-bound (pos 10 *ℤ first) rate t century (by-time t h), ten-times first k)
+coefficient-small t first rate h k l = omega (arith, step-bound centuries (pos 10 *ℤ first) rate t century (lit< tt) (by-time t h .ratio), ten-times first k)
 
 term-small : (a c : ℤ) → natAbs a ≤ coefficient-limit → natAbs c ≤ U → natAbs (rounded (a *ℤ c) U) ≤ coefficient-limit
 term-small a c h k = scaled-within a c U coefficient-limit (lit< tt) h k

@@ -4,7 +4,7 @@ ghost use Prim.Native.Nat.{_-_, _<_, _≤_, _^_};
 ghost use lib.IntN.{natAbs};
 ghost use Rattle.units.specs.Units.{t-limit};
 ghost use Rattle.nutation.specs.Nutation.{argument, mean-elongation, sun-anomaly, moon-anomaly, latitude-argument, moon-node};
-ghost use Rattle.nutation.specs.machine.Reduced.{reach, less-turns, At};
+ghost use Rattle.nutation.specs.machine.Reduced.{centuries, reach, less-turns, At};
 use crate::ARGUMENT_TURN;
 use crate::Arguments;
 use crate::CENTURY;
@@ -43,7 +43,7 @@ const NODE: [i64; 5] = [45016039814400, -696289026560000, 747420000, 770200, -59
 
 // The argument with these coefficients. By 10t/T is by t over a century.
 fn argument_at(t: i64, c: &[i64]) -> i64
-    requires { ⌜ (natAbs t ≤ t-limit) × (reach (now c) < 2 ^ 63 - 1) ⌝ }
+    requires { ⌜ (natAbs t ≤ t-limit) × (reach centuries (now c) < 2 ^ 63 - 1) ⌝ }
     ensures { λ r. ⌜ r ≡ argument t (now (c .entry)) ⌝ }
 {
     polynomial(t, CENTURY, c)

@@ -18,7 +18,7 @@ pub fn next(c: i64, v: i64, n: i64, d: u64) -> i64
 
 // With these coefficients, from the constant one up.
 pub fn polynomial(n: i64, d: u64, c: &[i64]) -> i64
-    requires { ⌜ By n d × (reach (now c) < 2 ^ 63 - 1) ⌝ }
+    requires { ⌜ By n d × (reach centuries (now c) < 2 ^ 63 - 1) ⌝ }
     ensures { λ r. ⌜ r ≡ polynomial n d (now (c .entry)) ⌝ }
 {
     let mut v: i64 = 0;

@@ -1,5 +1,5 @@
 -- A block: each case of its count, and what holds of the tally after its terms. Assumes nothing.
-use mathlib.Core.Path.{_≡_, refl, sym, ap}
+use mathlib.Core.Path.{_≡_, refl, sym, ap, subst}
 use mathlib.Core.Bool.{true, false}
 use mathlib.Core.List.{List, [], _∷_}
 use Prim.Native.Nat.{ℕ, zero, suc, _+_, _-_, _≤_}
@@ -14,12 +14,13 @@ use Rattle.units.specs.Units.{series-limit}
 use Rattle.limits.specs.declared.Term.{Term}
 use Rattle.limits.specs.declared.Tally.{Tally}
 use Rattle.limits.specs.Limits.{factor, opened, added, summed, after-block, count-fits}
-use Rattle.limits.proofs.Passing.{count-passed}
-use Rattle.limits.proofs.Terms.{summed-terms}
-use Rattle.packed.specs.Series.{judged, read-term, read-terms, read-block}
+use Rattle.limits.proofs.Passing.{count-passed, good-of}
+use Rattle.limits.proofs.Terms.{summed-terms, Good-terms, good-none, good-term}
+use Rattle.limits.proofs.Series.{Good-block, Good-blocks, none, more}
+use Rattle.packed.specs.Series.{judged, read-term, read-terms, read-block, read-blocks}
 use Rattle.packed.specs.machine.Answers.{walked}
 use Rattle.packed.proofs.ReadCases.{judged-after, term-after}
-use Rattle.packed.proofs.Accepting.{next-got, judged-got}
+use Rattle.packed.proofs.Accepting.{next-got, judged-got, term-accepted}
 
 -- The count of a block.
 module _ (k : ℕ) (s : Tally) (at : ℕ) (x : List ℕ) where
@@ -84,6 +85,11 @@ pub terms-length : {f n : ℕ} {s : Tally} {at : ℕ} {x : List ℕ} {ts : List 
 terms-length no-terms = refl
 terms-length (a-term e h) = ap suc (terms-length h)
 
+-- They are good, one by one.
+pub terms-are-good : {f n : ℕ} {s : Tally} {at : ℕ} {x : List ℕ} {ts : List Term} {to : ℕ} {rest : List ℕ} → Terms-at f n s at x ts to rest → Good-terms f s ts
+terms-are-good no-terms = good-none
+terms-are-good {f} {s = s} {at = at} {x = x} (a-term e h) = good-term (good-of f s _ (term-accepted f s at x e .passes)) (terms-are-good h)
+
 -- A block that was read: its count and its terms.
 pub record Block-at (k : ℕ) (s : Tally) (at : ℕ) (x : List ℕ) (ts : List Term) (to : ℕ) (rest : List ℕ) : Type 0 where
   pub at-terms : ℕ
@@ -108,6 +114,10 @@ block-accepted k s at x ts to rest e =
       fits = rw l (p .passed);
       terms = rw l h;
     }
+
+pub block-is-good : (k : ℕ) (s : Tally) (at : ℕ) (x : List ℕ) (ts : List Term) (to : ℕ) (rest : List ℕ) → Block-at k s at x ts to rest → Good-block k s ts
+block-is-good k s at x ts to rest b =
+    let c = count-passed s (length ts) (b .fits) in record { few = c .few; fewer = c .fewer; terms = terms-are-good (b .terms) }
 
 -- The terms so far, after a block.
 pub record After-block (k : ℕ) (s : Tally) (ts : List Term) : Type 0 where
@@ -155,3 +165,27 @@ pub block-walked : (k n f to : ℕ) (s r : Tally) (x : List ℕ) {b : Read (List
     → b ≡ read-terms n (factor k) (opened k n s) to x → walked (summed f r) (read-terms (r .terms - s .terms) f r to x) ≡ walked (after-block k s) b
 block-walked k n f to s r x {b} ef er eb =
     rw (block-read k n f to s r x ef er eb, ef, er, eb) (walked-block k n s to x)
+
+-- Blocks that were read are good, one by one.
+pub record Blocks-are (n k : ℕ) (s : Tally) (bs : List (List Term)) : Type 0 where
+  pub many : length bs ≡ n
+  pub good : Good-blocks k s bs
+
+pub blocks-are-good : (n k : ℕ) (s : Tally) (at : ℕ) (x : List ℕ) (bs : List (List Term)) (to : ℕ) (rest : List ℕ)
+    → read-blocks n k s at x ≡ got bs to rest → Blocks-are n k s bs
+unfolding read-blocks
+blocks-are-good zero k s at x bs to rest e = let p : [] ≡ bs = cc in rw p at (none-are k s)
+  where
+    none-are : (k : ℕ) (s : Tally) → Blocks-are 0 k s []
+    none-are k s = record { many = refl; good = none }
+blocks-are-good (suc n) k s at x bs to rest e =
+    let u = next-got (read-block k s at x) _ e in
+    let v = next-got (read-blocks n (k + 1) (after-block k s (u .x)) (u .at) (u .rest)) _ (u .second) in
+    let b = block-accepted k s at x (u .x) (u .at) (u .rest) (u .first) in
+    let i = blocks-are-good n (k + 1) (after-block k s (u .x)) (u .at) (u .rest) (v .x) (v .at) (v .rest) (v .first) in
+    let p : (u .x ∷ v .x) ≡ bs = same (v .second) in
+    subst (Blocks-are (suc n) k s) p
+    (record { many = ap suc (i .many); good = more (block-is-good k s at x (u .x) (u .at) (u .rest) b) (i .good) })
+  where
+    same : {y z : List (List Term)} {i j : ℕ} {l m : List ℕ} → got y i l ≡ got z j m → y ≡ z
+    same h = cc

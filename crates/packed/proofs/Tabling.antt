@@ -9,8 +9,11 @@ use lib.Seq.{sets, sets-eq, take-at, length-take-le, drop-set-lt, drop-set-add}
 use Rattle.units.specs.Units.{series-limit, block-count}
 use Rattle.packed_numbers.proofs.Folding.{unfolded-folded}
 use Rattle.limits.specs.declared.Term.{Term}
+use Rattle.limits.specs.declared.Tally.{Tally}
+use Rattle.limits.specs.Limits.{after-block}
 use Rattle.limits.specs.Allowed.{term-count}
 use Rattle.packed.specs.machine.Table.{Sized, first, term-at, terms-at, blocks-at, ends, block-ends, table-blocks}
+use Rattle.packed.specs.machine.Tallies.{tally-row, tally-rows}
 use Rattle.packed.specs.machine.Answers.{row-of}
 
 -- The rows of all terms, in order.
@@ -35,8 +38,27 @@ ends-more k [] ts = ap (λ (n : ℕ). n ∷ []) (omega arith)
 ends-more k (x ∷ done) ts =
     rw (ends-more (k + length x) done ts) (ap (λ (n : ℕ). (k + length x) ∷ (block-ends (k + length x) done ++ n ∷ [])) (omega arith))
 
+-- The tally after blocks, the first of which is block k after the tally s; and after one more.
+unfoldable pub tally-upto : ℕ → Tally → List (List Term) → Tally
+tally-upto k s [] = s
+tally-upto k s (ts ∷ blocks) = tally-upto (k + 1) (after-block k s ts) blocks
+
+pub upto-more : (k : ℕ) (s : Tally) (done : List (List Term)) (ts : List Term)
+    → tally-upto k s (done ++ ts ∷ []) ≡ after-block (k + length done) (tally-upto k s done) ts
+unfolding tally-upto
+upto-more k s [] ts = let e : k + 0 ≡ k = omega arith in rw e
+upto-more k s (x ∷ done) ts = let e : k + 1 + length done ≡ k + suc (length done) = omega arith in rw (← e) (upto-more (k + 1) (after-block k s x) done ts)
+
+pub tallies-more : (k : ℕ) (s : Tally) (done : List (List Term)) (ts : List Term)
+    → tally-rows k s (done ++ ts ∷ []) ≡ tally-rows k s done ++ tally-row (after-block (k + length done) (tally-upto k s done) ts) ∷ []
+unfolding tally-rows tally-upto
+tallies-more k s [] ts = let e : k + 0 ≡ k = omega arith in rw e
+tallies-more k s (x ∷ done) ts =
+    let e : k + 1 + length done ≡ k + suc (length done) = omega arith in
+    rw (← e) (ap (λ (l : List (List ℕ)). tally-row (after-block k s x) ∷ l) (tallies-more (k + 1) (after-block k s x) done ts))
+
 -- A list that goes on from place k with an element, and one that goes on with a list.
-head-is : {X : Type 0} (k : ℕ) (l : List X) (x d : X) (m : List X) → drop k l ≡ x ∷ m → getD l k d ≡ x
+pub head-is : {X : Type 0} (k : ℕ) (l : List X) (x d : X) (m : List X) → drop k l ≡ x ∷ m → getD l k d ≡ x
 head-is zero [] x d m e = let z : _≡_ {A = ℕ} 0 1 = cc in absurd (omega arith)
 head-is zero (y ∷ l) x d m e = cc
 head-is (suc k) [] x d m e = let z : _≡_ {A = ℕ} 0 1 = cc in absurd (omega arith)
@@ -48,7 +70,7 @@ tail-is zero (y ∷ l) x m e = cc
 tail-is (suc k) [] x m e = let z : _≡_ {A = ℕ} 0 1 = cc in absurd (omega arith)
 tail-is (suc k) (y ∷ l) x m e = tail-is k l x m e
 
-tail-one : {X : Type 0} (k : ℕ) (l : List X) (x : X) (m : List X) → drop k l ≡ x ∷ m → drop (k + 1) l ≡ m
+pub tail-one : {X : Type 0} (k : ℕ) (l : List X) (x : X) (m : List X) → drop k l ≡ x ∷ m → drop (k + 1) l ≡ m
 tail-one k l x m e = rw add-one (tail-is k l x m e)
 
 past : (k : ℕ) (rows : List (List ℕ)) (ts : List Term) (q : List (List ℕ)) → drop k rows ≡ map row-of ts ++ q → drop (k + length ts) rows ≡ q

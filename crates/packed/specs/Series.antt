@@ -11,9 +11,10 @@ use Rattle.packed_numbers.specs.Numbers.{Read, got, bad, next, number, encode, 
 use Rattle.units.specs.Units.{block-count}
 use Rattle.limits.specs.declared.Term.{Term}
 use Rattle.packed.specs.declared.Checked.{Checked}
-use Rattle.packed.specs.declared.Checked.the-variants.{Terms, NoSeries}
+use Rattle.packed.specs.declared.Checked.the-variants.{Series, NoSeries}
 use Rattle.limits.specs.declared.Tally.{Tally}
 use Rattle.limits.specs.Allowed.{term-count}
+use Rattle.limits.specs.Wide.{good-for-wide}
 use Rattle.limits.specs.Limits.{no-tally, opened, added, after-block, factor, count-fits, a-fits, b-fits, c-fits, total-fits, coarse-fits}
 
 -- A value that passes a test, or the refusal with the offset of the last byte before at.
@@ -79,7 +80,7 @@ parse bytes = ended (read-series 0 bytes)
 
 -- What a check of a packed series answers.
 unfoldable pub checked : Parsed → Checked
-checked (accepted blocks) = Terms (term-count blocks)
+checked (accepted blocks) = Series (record { terms = term-count blocks; wide = good-for-wide blocks })
 checked (refused r) = NoSeries r
 
 -- The packed form: the numbers in their order, a and c folded.

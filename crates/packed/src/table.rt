@@ -1,7 +1,10 @@
 // The one walk over a packed series: it judges every number and fills a term table. For the crates above.
 use crate::Checked;
+use crate::Content;
 use crate::terms::TermRead;
 use crate::terms::read_term_at;
+use crate::wide::Tallies;
+use crate::wide::is_wide;
 use limits::Tally;
 use limits::add_term;
 use limits::block_factor;
@@ -104,12 +107,13 @@ fn take_block(bytes: &[u8], at: usize, k: usize, tally: Tally, table: &mut Table
     }
 }
 
-// Reads a packed series into a term table. The answer is the number of terms, or the refusal; after a refusal the table holds
+// Reads a packed series into a term table. The answer is what it holds, or the refusal; after a refusal the table holds
 // nothing that can be relied on.
 pub fn unpack(bytes: &[u8], table: &mut Table) -> Checked
     requires { ⌜ Sized (now table) ⌝ }
     ensures { λ r. ⌜ (r ≡ checked (parse (now (bytes .entry)))) × unpacked (parse (now (bytes .entry))) (now (table .exit)) × Sized (now (table .exit)) ⌝ }
 {
+    let mut tallies: Tallies = [[0; 3]; END_ROWS];
     let mut s = empty_tally();
     let mut i = 0;
     let mut k = 0;
@@ -121,6 +125,7 @@ pub fn unpack(bytes: &[u8], table: &mut Table) -> Checked
             }
             Walk::Moved(to, more) => {
                 table[TERM_ROWS + k] = [more.terms, 0, 0];
+                tallies[k] = [more.terms, more.total, more.coarse];
                 i = to;
                 s = more;
                 k = k + 1;
@@ -130,7 +135,10 @@ pub fn unpack(bytes: &[u8], table: &mut Table) -> Checked
     if i < bytes.len() {
         return Checked::NoSeries(Refusal::ByteAfterEnd(i));
     }
-    Checked::Terms(s.terms)
+    Checked::Series(Content {
+        terms: s.terms,
+        wide: is_wide(&tallies),
+    })
 }
 
 // The row where block k ends: the first that is no longer its own.

@@ -1,6 +1,6 @@
 -- Bytes that are read as terms, blocks and a series are their packed form, and the packed form of a series within the limits is
 -- read as that series. Assumes nothing.
-use mathlib.Core.Path.{_≡_, refl, sym, ap, _∙_}
+use mathlib.Core.Path.{_≡_, refl, sym, _∙_}
 use mathlib.Core.List.{List, [], _∷_, _++_, append-assoc}
 use Prim.Native.Nat.{ℕ, zero, suc, _+_, _^_, _<_}
 use native.Mathlib.Omega.{arith}
@@ -13,7 +13,7 @@ use Rattle.packed_numbers.proofs.Shortest.{All-bytes, bytes-append, encode-byte
 use Rattle.limits.specs.declared.Term.{Term}
 use Rattle.limits.specs.declared.Tally.{Tally}
 use Rattle.limits.specs.Limits.{after-block}
-use Rattle.limits.proofs.Passing.{Good-term, good-of, passes-of, count-passed, count-passes}
+use Rattle.limits.proofs.Passing.{Good-term, passes-of, count-passes}
 use Rattle.limits.proofs.Terms.{Good-terms, good-none, good-term}
 use Rattle.limits.proofs.Series.{Good-block, Good-blocks, none, more}
 use Rattle.packed.specs.Series.{read-term, read-terms, read-block, read-blocks, pack-term, pack-terms, pack-block, pack}
@@ -91,28 +91,6 @@ blocks-begin (suc n) k s at x bs to rest a e =
     let f = block-begins k s at x (u .x) (u .at) (u .rest) a (u .first) in
     carry (λ (l : List (List Term)) (r : List ℕ). Begins (pack l) x r) (v .second)
     (both f (blocks-begin n (k + 1) (after-block k s (u .x)) (u .at) (u .rest) (v .x) (v .at) (v .rest) (f .left) (v .first)))
-
--- What was read is good, one by one.
-terms-are-good : {f n : ℕ} {s : Tally} {at : ℕ} {x : List ℕ} {ts : List Term} {to : ℕ} {rest : List ℕ} → Terms-at f n s at x ts to rest → Good-terms f s ts
-terms-are-good no-terms = good-none
-terms-are-good {f} {s = s} {at = at} {x = x} (a-term e h) = good-term (good-of f s _ (term-accepted f s at x e .passes)) (terms-are-good h)
-
-pub record Blocks-are (n k : ℕ) (s : Tally) (bs : List (List Term)) : Type 0 where
-  pub many : length bs ≡ n
-  pub good : Good-blocks k s bs
-
-pub blocks-are-good : (n k : ℕ) (s : Tally) (at : ℕ) (x : List ℕ) (bs : List (List Term)) (to : ℕ) (rest : List ℕ)
-    → read-blocks n k s at x ≡ got bs to rest → Blocks-are n k s bs
-unfolding read-blocks
-blocks-are-good zero k s at x bs to rest e = carry (λ (l : List (List Term)) (r : List ℕ). Blocks-are 0 k s l) e (record { many = refl; good = none })
-blocks-are-good (suc n) k s at x bs to rest e =
-    let u = next-got (read-block k s at x) _ e in
-    let v = next-got (read-blocks n (k + 1) (after-block k s (u .x)) (u .at) (u .rest)) _ (u .second) in
-    let b = block-accepted k s at x (u .x) (u .at) (u .rest) (u .first) in
-    let i = blocks-are-good n (k + 1) (after-block k s (u .x)) (u .at) (u .rest) (v .x) (v .at) (v .rest) (v .first) in
-    let c = count-passed s (length (u .x)) (b .fits) in
-    carry (λ (l : List (List Term)) (r : List ℕ). Blocks-are (suc n) k s l) (v .second)
-    (record { many = ap suc (i .many); good = more (record { few = c .few; fewer = c .fewer; terms = terms-are-good (b .terms) }) (i .good) })
 
 -- The packed form is read.
 small : (v : ℕ) (z : ℤ) → natAbs z < c-limit → folded z < 2 ^ 63

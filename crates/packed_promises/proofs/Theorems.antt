@@ -19,7 +19,8 @@ use Rattle.packed_promises.specs.Bounds.{packed-limit, early-limit, Wher
 use Rattle.packed_promises.proofs.Appending.{series-append, series-bad}
 use Rattle.packed_promises.proofs.Refusing.{Placed, on, off, series-placed}
 use Rattle.packed_promises.proofs.Longest.{Bounded, within, stopped, By, series-bounded}
-use Rattle.packed_promises.proofs.Packing.{blocks-begin, blocks-are-good, blocks-packed}
+use Rattle.packed.proofs.Blocks.{blocks-are-good}
+use Rattle.packed_promises.proofs.Packing.{blocks-begin, blocks-packed}
 
 -- An accepted series was read to the end of its bytes.
 pub to-end : (x : List ℕ) (blocks : List (List Term)) → parse x ≡ accepted blocks → read-series 0 x ≡ got blocks (length x) []

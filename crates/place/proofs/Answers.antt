@@ -10,10 +10,9 @@ use Rattle.units.proofs.Limit.{size-within}
 use Rattle.units.specs.Refusals.{number}
 use Rattle.units.specs.declared.Instant.{Instant}
 use Rattle.units.specs.declared.Refusal.{Refusal}
-use Rattle.units.specs.declared.Refusal.the-variants.{PastLimit}
 use Rattle.limits.specs.declared.Term.{Term}
+use Rattle.limits.specs.Wide.{four-millennia, both-asked}
 use Rattle.packed.specs.Series.{Parsed, accepted, refused, parse}
-use Rattle.series.specs.Sums.{coordinates}
 use Rattle.rectangular.specs.declared.Vector.{Vector}
 use Rattle.rectangular.specs.machine.Components.{Components}
 use Rattle.nutation.specs.Nutation.{nutation-angle, obliquity-angle}
@@ -30,10 +29,11 @@ use Rattle.place.specs.declared.Mount.the-variants.{At, Refused}
 use Rattle.place.specs.declared.PlaceAnswer.{PlaceAnswer}
 use Rattle.place.specs.declared.PlaceAnswer.the-variants.{Place, NoPlace}
 use Rattle.place.specs.Apparent.{earlier, apparent, equatorial}
-use Rattle.place.specs.Place.{sight-at, taken-again, taken, of-series, sighting, of-sighting, place-answer}
+use Rattle.place.specs.Place.{sight-at, taken-again, taken, of-series, sighting-by, sighting, of-sighting, place-answer-by, place-answer}
 use Rattle.place.specs.Mount.{mount-place, mount, mount-answer, Small}
 use Rattle.place.specs.machine.Reach.{reach, equator-reach, Clear}
-use Rattle.place.proofs.Sights.{sight-clear}
+use Rattle.place.proofs.Sights.{at-clear}
+use Rattle.place.proofs.Sightings.{earth-refused}
 use Rattle.place.proofs.Directions.{direction-le, latitude-le}
 use Rattle.place.proofs.Rebuilt.{at-equator}
 
@@ -52,28 +52,26 @@ again-clear d (Usable v) g f l e =
     subst (λ (h : Geocentric). Clear (h .vector) (h .distance)) (same-seen _ g e) (record { vector-in = f v refl .vector-in; distance-in = l })
 again-clear d Unusable g f l e = absurd (not-seen _ g e)
 
--- Where every usable sight is clear, what is taken twice is.
-module _ (at : Instant → Sight) (f : (u : Instant) (v : View) → at u ≡ Usable v → Clear (v .vector) (v .distance)) where
-  taken-clear : (t : Instant) (s : Sight) (g : Geocentric) → ((v : View) → s ≡ Usable v → Clear (v .vector) (v .distance)) → taken at t s ≡ Seen g
-      → Clear (g .vector) (g .distance)
-  unfolding taken
-  taken-clear t (Usable v) g k e = either (in-limit (earlier t (v .distance) .ms)) e
-    where
-      either : (b : Bool) → cond b (taken-again (v .distance) (at (earlier t (v .distance)))) (NoSight (PastLimit (earlier t (v .distance)))) ≡ Seen g
-          → Clear (g .vector) (g .distance)
-      either true e = again-clear (v .distance) (at (earlier t (v .distance))) g (f (earlier t (v .distance))) (k v refl .distance-in) e
-      either false e = absurd (not-seen _ g e)
-  taken-clear t Unusable g k e = absurd (not-seen _ g e)
+-- What is seen after a test has passed it.
+after-test : (b : Bool) (s : Sighting) (r : Refusal) (g : Geocentric) → cond b s (NoSight r) ≡ Seen g → (b ≡ true) × (s ≡ Seen g)
+after-test true s r g e = (refl, e)
+after-test false s r g e = absurd (not-seen r g e)
 
-at-clear : (P E : List (List Term)) (t : Instant) (v : View) → sight-at P E t ≡ Usable v → Clear (v .vector) (v .distance)
-unfolding sight-at
-at-clear P E t v e = sight-clear (coordinates (t .ms) P) (coordinates (t .ms) E) v e
+taken-clear : (P E : List (List Term)) (t : Instant) (s : Sight) (g : Geocentric) → ((v : View) → s ≡ Usable v → Clear (v .vector) (v .distance))
+    → taken four-millennia P E t s ≡ Seen g → Clear (g .vector) (g .distance)
+unfolding taken
+taken-clear P E t (Usable v) g k e =
+    let u = earlier t (v .distance) in
+    let i = after-test (in-limit (u .ms)) _ _ g e .1 in
+    again-clear (v .distance) (sight-at P E u) g (at-clear P E u) (k v refl .distance-in) (after-test (both-asked four-millennia P E (u .ms)) _ _ g i .1)
+taken-clear P E t Unusable g k e = absurd (not-seen _ g e)
 
-series-clear : (p q : Parsed) (t : Instant) (g : Geocentric) → of-series p q t ≡ Seen g → Clear (g .vector) (g .distance)
+series-clear : (p q : Parsed) (t : Instant) (g : Geocentric) → of-series four-millennia p q t ≡ Seen g → Clear (g .vector) (g .distance)
 unfolding of-series
 series-clear (refused r) q t g e = absurd (not-seen r g e)
-series-clear (accepted P) (refused r) t g e = absurd (not-seen r g e)
-series-clear (accepted P) (accepted E) t g e = taken-clear (sight-at P E) (at-clear P E) t (sight-at P E t) g (at-clear P E t) e
+series-clear (accepted P) (refused r) t g e = absurd (not-seen r g (earth-refused P (refused r) t r refl ∙ e))
+series-clear (accepted P) (accepted E) t g e =
+    taken-clear P E t (sight-at P E t) g (at-clear P E t) (after-test (both-asked four-millennia P E (t .ms)) _ _ g e .1)
 
 -- A sighting was asked for within the limit of time, and is clear.
 pub record Good (t : Instant) (g : Geocentric) : Type 0 where
@@ -81,12 +79,10 @@ pub record Good (t : Instant) (g : Geocentric) : Type 0 where
   pub clear : Clear (g .vector) (g .distance)
 
 seen-good : (planet earth : List ℕ) (t : Instant) (g : Geocentric) → sighting planet earth t ≡ Seen g → Good t g
-unfolding sighting
-seen-good planet earth t g e = either (in-limit (t .ms)) refl e
-  where
-    either : (b : Bool) → in-limit (t .ms) ≡ b → cond b (of-series (parse planet) (parse earth) t) (NoSight (PastLimit t)) ≡ Seen g → Good t g
-    either true h e = record { in-time = size-within _ h; clear = series-clear (parse planet) (parse earth) t g e }
-    either false h e = absurd (not-seen _ g e)
+unfolding sighting-by
+seen-good planet earth t g e =
+    let h = after-test (in-limit (t .ms)) _ _ g e in
+    record { in-time = size-within t-limit _ (h .0); clear = series-clear (parse planet) (parse earth) t g (h .1) }
 
 pub apparent-in : (t : Instant) (v : Vector) (a : Apparent) → Components reach v → a ≡ apparent t v → Components equator-reach (a .vector)
 unfolding apparent
@@ -97,12 +93,12 @@ apparent-in t v a c e =
 
 module _ (planet earth : List ℕ) (t : Instant) (s : Sighting) (e : s ≡ sighting planet earth t) where
   pub no-place : (r : Refusal) → s ≡ NoSight r → NoPlace r ≡ place-answer planet earth t
-  unfolding place-answer of-sighting
+  unfolding place-answer-by of-sighting
   no-place r f = let h : sighting planet earth t ≡ NoSight r = sym e ∙ f in rw h
 
   pub place-is : (g : Geocentric) (a : Apparent) (p : Equatorial) → s ≡ Seen g → a ≡ apparent t (g .vector) → p ≡ equatorial (a .vector) (g .distance)
       → Place p ≡ place-answer planet earth t
-  unfolding place-answer of-sighting
+  unfolding place-answer-by of-sighting
   place-is g a p f k l = let h : sighting planet earth t ≡ Seen g = sym e ∙ f in rw (l, k, h)
 
   pub good : (g : Geocentric) → s ≡ Seen g → Good t g
@@ -126,7 +122,7 @@ sighting-small t (Seen g) p f e =
 sighting-small t (NoSight r) p f e = absurd (let z : _≡_ {A = ℕ} 0 1 = cc in omega arith)
 
 pub place-small : (planet earth : List ℕ) (t : Instant) (p : Equatorial) → place-answer planet earth t ≡ Place p → Small p
-unfolding place-answer
+unfolding place-answer-by
 place-small planet earth t p e = sighting-small t (sighting planet earth t) p (seen-good planet earth t) e
 
 -- ---- the mount's answer

@@ -1,17 +1,19 @@
 -- What is seen at t and again at the earlier instant, from the answers of the calls, in the order of the refusals. Assumes nothing.
 use mathlib.Core.Path.{_≡_, refl, sym, ap, ap₂, _∙_}
-use mathlib.Core.Bool.{Bool, true, false, not}
+use mathlib.Core.Bool.{Bool, true, false, not, _&&_, _||_}
 use mathlib.Core.List.{List}
 use Prim.Native.Nat.{ℕ, _≤_}
 use borrow.Author.Tests.{not-true, not-false}
 use lib.IntN.{natAbs}
-use Rattle.units.specs.Units.{t-limit, in-limit}
+use Rattle.units.specs.Units.{t-limit, in-limit, near}
 use Rattle.units.proofs.Limit.{told-past, told-within, told-size}
 use Rattle.units.specs.declared.Instant.{Instant}
 use Rattle.units.specs.declared.Coordinates.{Coordinates}
 use Rattle.units.specs.declared.Refusal.{Refusal}
-use Rattle.units.specs.declared.Refusal.the-variants.{PastLimit, NotUsable}
+use Rattle.units.specs.declared.Refusal.the-variants.{PastLimit, NotUsable, TooFar}
 use Rattle.limits.specs.declared.Term.{Term}
+use Rattle.limits.specs.Wide.{good-for-wide, four-millennia, both-asked}
+use Rattle.limits.proofs.Reach.{both-is as asked-is}
 use Rattle.packed.specs.Series.{Parsed, accepted, refused, parse}
 use Rattle.series.specs.Sums.{coordinates}
 use Rattle.rectangular.specs.declared.Sight.{Sight}
@@ -21,9 +23,7 @@ use Rattle.place.specs.declared.Sighting.the-variants.{Seen, NoSight}
 use Rattle.rectangular.specs.declared.View.{View}
 use Rattle.rectangular.specs.Sight.{sight}
 use Rattle.place.specs.Apparent.{earlier}
-use Rattle.place.specs.Place.{sight-at, taken-again, taken, of-series, sighting}
-use Rattle.place.specs.machine.Reach.{Clear}
-use Rattle.place.proofs.Sights.{sight-clear}
+use Rattle.place.specs.Place.{sight-at, taken-again, at-earlier, taken, of-series, sighting-by, sighting}
 
 -- Both bodies at one instant.
 pub both-is : (t : Instant) (P E : List (List Term)) (p e : Coordinates) (r : Sight) → p ≡ coordinates (t .ms) P → e ≡ coordinates (t .ms) E → r ≡ sight p e
@@ -40,60 +40,73 @@ pub again-unusable : (d : ℕ) (s : Sight) → s ≡ Unusable → NoSight (NotUs
 unfolding taken-again
 again-unusable d s e = rw e
 
--- The first sight, and its instant.
-module _ (P E : List (List Term)) (t : Instant) (s : Sight) (ps : s ≡ sight-at P E t) where
-  pub first-unusable : s ≡ Unusable → NoSight (NotUsable 0) ≡ taken (sight-at P E) t (sight-at P E t)
-  unfolding taken
-  first-unusable e = let f : sight-at P E t ≡ Unusable = sym ps ∙ e in rw f
+-- With both series; `wide` says whether they are good for the wide range.
+module _ (P E : List (List Term)) (wide : Bool) (pw : wide ≡ (good-for-wide P && good-for-wide E)) where
+  -- b is what the test answered of an instant u, and the caller branched on its negation
+  module _ (u : Instant) (b : Bool) (pb : b ≡ (near (u .ms) || wide)) where
+    told : both-asked four-millennia P E (u .ms) ≡ b
+    told = sym (asked-is P E (u .ms) (good-for-wide P) (good-for-wide E) refl refl) ∙ ap (λ (w : Bool). near (u .ms) || w) (sym pw) ∙ sym pb
 
-  module _ (g : View) (e : s ≡ Usable g) where
-    usable : sight-at P E t ≡ Usable g
-    usable = sym ps ∙ e
+    told-far : not b ≡ true → both-asked four-millennia P E (u .ms) ≡ false
+    told-far h = told ∙ not-true b h
 
-    pub first-clear : Clear (g .vector) (g .distance)
-    unfolding sight-at
-    first-clear = sight-clear (coordinates (t .ms) P) (coordinates (t .ms) E) g usable
+    pub told-asked : not b ≡ false → both-asked four-millennia P E (u .ms) ≡ true
+    told-asked h = told ∙ not-false b h
 
-    module _ (u : Instant) (pu : u ≡ earlier t (g .distance)) (b : Bool) (pb : b ≡ in-limit (u .ms)) where
-      limit-is : in-limit (earlier t (g .distance) .ms) ≡ b
-      limit-is = ap (λ (v : Instant). in-limit (v .ms)) (sym pu) ∙ sym pb
+  -- At the earlier instant u, with D as it was at t: what the two tests answered of it, and the sight.
+  module _ (d : ℕ) (u : Instant) (l : Bool) (pl : l ≡ in-limit (u .ms)) where
+    pub earlier-past : not l ≡ true → NoSight (PastLimit u) ≡ at-earlier four-millennia P E d u
+    earlier-past h = rw (told-past t-limit _ l pl h)
 
-      pub earlier-past : not b ≡ true → NoSight (PastLimit u) ≡ taken (sight-at P E) t (sight-at P E t)
+    module _ (hl : not l ≡ false) (b : Bool) (pb : b ≡ (near (u .ms) || wide)) where
+      pub earlier-far : not b ≡ true → NoSight (TooFar u) ≡ at-earlier four-millennia P E d u
+      earlier-far h = rw (told-within t-limit _ l pl hl, told-far u b pb h)
+
+      pub second-is : not b ≡ false → (r : Sight) (z : Sighting) → r ≡ sight-at P E u → z ≡ taken-again d r → z ≡ at-earlier four-millennia P E d u
+      second-is h r z pr pz = rw (told-within t-limit _ l pl hl, told-asked u b pb h) (pz ∙ ap (taken-again d) pr)
+
+  -- At t: what the test answered of it, and the sight.
+  module _ (t : Instant) (b : Bool) (pb : b ≡ (near (t .ms) || wide)) where
+    pub first-far : not b ≡ true → NoSight (TooFar t) ≡ of-series four-millennia (accepted P) (accepted E) t
+    unfolding of-series
+    first-far h = rw (told-far t b pb h)
+
+    module _ (hb : not b ≡ false) (s : Sight) (ps : s ≡ sight-at P E t) where
+      asked : (z : Sighting) → z ≡ taken four-millennia P E t s → z ≡ of-series four-millennia (accepted P) (accepted E) t
+      unfolding of-series
+      asked z e = rw (told-asked t b pb hb, ← ps) e
+
+      pub first-unusable : s ≡ Unusable → NoSight (NotUsable 0) ≡ of-series four-millennia (accepted P) (accepted E) t
       unfolding taken
-      earlier-past h = let f : in-limit (earlier t (g .distance) .ms) ≡ false = limit-is ∙ not-true b h in rw (usable, f, pu)
+      first-unusable e = asked _ (rw e)
 
-      pub earlier-in : not b ≡ false → natAbs (u .ms) ≤ t-limit
-      earlier-in h = told-size _ b pb h
-
-      pub second-is : not b ≡ false → (r : Sight) (z : Sighting) → r ≡ sight-at P E u → z ≡ taken-again (g .distance) r
-          → z ≡ taken (sight-at P E) t (sight-at P E t)
+      pub first-usable : (g : View) → s ≡ Usable g → (u : Instant) → u ≡ earlier t (g .distance) → (z : Sighting)
+          → z ≡ at-earlier four-millennia P E (g .distance) u → z ≡ of-series four-millennia (accepted P) (accepted E) t
       unfolding taken
-      second-is h r z pr pz =
-          let f : in-limit (earlier t (g .distance) .ms) ≡ true = limit-is ∙ not-false b h in
-          pz ∙ ap (taken-again (g .distance)) (pr ∙ ap (sight-at P E) pu) ∙ rw (usable, f)
+      first-usable g e u pu z pz = asked z (rw (e, ← pu) pz)
 
 -- The series.
-pub earth-refused : (P : List (List Term)) (q : Parsed) (t : Instant) (r : Refusal) → q ≡ refused r → NoSight r ≡ of-series (accepted P) q t
+pub earth-refused : (P : List (List Term)) (q : Parsed) (t : Instant) (r : Refusal) → q ≡ refused r → NoSight r ≡ of-series four-millennia (accepted P) q t
 unfolding of-series
 earth-refused P q t r e = rw e
 
-pub both-accepted : (P E : List (List Term)) (q : Parsed) (t : Instant) (z : Sighting) → q ≡ accepted E → z ≡ taken (sight-at P E) t (sight-at P E t)
-    → z ≡ of-series (accepted P) q t
-unfolding of-series
+pub both-accepted : (P E : List (List Term)) (q : Parsed) (t : Instant) (z : Sighting) → q ≡ accepted E
+    → z ≡ of-series four-millennia (accepted P) (accepted E) t → z ≡ of-series four-millennia (accepted P) q t
 both-accepted P E q t z e h = rw e h
 
 -- The whole.
 module _ (planet earth : List ℕ) (t : Instant) (b : Bool) (pb : b ≡ in-limit (t .ms)) where
   pub time-past : not b ≡ true → NoSight (PastLimit t) ≡ sighting planet earth t
-  unfolding sighting
-  time-past h = let f : in-limit (t .ms) ≡ false = told-past _ b pb h in rw f
+  unfolding sighting-by
+  time-past h = rw (told-past t-limit _ b pb h)
 
   pub time-in : not b ≡ false → natAbs (t .ms) ≤ t-limit
-  time-in h = told-size _ b pb h
+  time-in h = told-size t-limit _ b pb h
 
-  pub parsed-is : not b ≡ false → (p : Parsed) (z : Sighting) → parse planet ≡ p → z ≡ of-series p (parse earth) t → z ≡ sighting planet earth t
-  unfolding sighting
-  parsed-is h p z e k = let f : in-limit (t .ms) ≡ true = told-within _ b pb h in rw (f, e) k
+  pub parsed-is : not b ≡ false → (p : Parsed) (z : Sighting) → parse planet ≡ p → z ≡ of-series four-millennia p (parse earth) t
+      → z ≡ sighting planet earth t
+  unfolding sighting-by
+  parsed-is h p z e k = rw (told-within t-limit _ b pb h, e) k
 
   pub planet-refused : not b ≡ false → (r : Refusal) → parse planet ≡ refused r → NoSight r ≡ sighting planet earth t
   unfolding of-series

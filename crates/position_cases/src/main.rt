@@ -1,4 +1,4 @@
-// Fifteen runs of the program `position` in one, for its stored cases: each 8 arguments are a run.
+// Nineteen runs of the program `position` in one, for its stored cases: each 8 arguments are a run.
 use position_lines::place_of_arguments;
 
 fn main() {
@@ -17,4 +17,8 @@ fn main() {
     place_of_arguments(97);
     place_of_arguments(105);
     place_of_arguments(113);
+    place_of_arguments(121);
+    place_of_arguments(129);
+    place_of_arguments(137);
+    place_of_arguments(145);
 }

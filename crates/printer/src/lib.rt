@@ -60,6 +60,6 @@ pub fn print(packed: &[u8], out: &mut [u8]) -> Printed
     let read = unpack(packed, &mut table);
     match read {
         Checked::NoSeries(r) => Printed::NoText(r),
-        Checked::Terms(_) => print_table(&table, out),
+        Checked::Series(_) => print_table(&table, out),
     }
 }

@@ -10,25 +10,23 @@ use Rattle.integers.proofs.Order.{natAbs-low, natAbs-high, ≺-nat}
 use Rattle.units.specs.Units.{U, parts, quarter, angle-step, angle-per-part, two-pi}
 use Rattle.cosine.specs.Cosine.{q-of, cosine, sine}
 use Rattle.reference_cosine.specs.Reference.{reference-cosine, reference-sine, Within}
+use Rattle.reference_cosine.specs.machine.Angles.{angle-limit}
 use Rattle.reference_cosine.proofs.WorkingSeries.{rounded-most, rounded-least}
 use Rattle.reference_cosine.proofs.Reductions.{Y, B}
 use Rattle.reference_cosine.proofs.AnyAngle.{Close-angles, all-errors}
 use Rattle.reference_cosine.proofs.WithinReference.{within-any, within-any-sine, the-turn, G}
 
--- the greatest |L| in parts that callers have, how far a fraction may lie from it, and no quarter of such a longitude is greater
-abbrev pub longitude-limit : ℕ
-longitude-limit = 630000000000000000
-
+-- how far in parts a fraction may lie from L; and no quarter of a longitude is greater: the greatest |L|, in quarters, rounded up
 abbrev pub away : ℕ
 away = 200000
 
 abbrev quarter-limit : ℕ
-quarter-limit = (angle-per-part * longitude-limit + quarter / 2) / quarter
+quarter-limit = angle-per-part * angle-limit / quarter + 1
 
 -- L parts and the fraction n/N (in radians) differ by at most so many parts
 pub record Near-longitude (L n : ℤ) (N : ℕ) : Type 0 where
   pub N-pos : 0 < N
-  pub limit : natAbs L ≤ longitude-limit
+  pub limit : natAbs L ≤ angle-limit
   pub most : L *ℤ pos N -ℤ pos parts *ℤ n ≼ pos away *ℤ pos N
   pub least : negℤ (pos away *ℤ pos N) ≼ L *ℤ pos N -ℤ pos parts *ℤ n
 
@@ -46,8 +44,8 @@ angles : {L n : ℤ} {N : ℕ} → Near-longitude L n N → Close-angles quarter
 unfolding q-of
 angles {L} {n} {N} h =
     let ρ = L ∷ n ∷ pos N ∷ [] in
-    let hi = natAbs-high L longitude-limit (h .limit) in
-    let lo = natAbs-low L longitude-limit (h .limit) in
+    let hi = natAbs-high L angle-limit (h .limit) in
+    let lo = natAbs-low L angle-limit (h .limit) in
     record {
       N-pos = h .N-pos;
       m-pos = record { le = tt };

@@ -32,9 +32,9 @@ product {b} {c} {t} h =
 abbrev drift-limit : ℕ
 drift-limit = angle-per-part * c-limit * tau-limit
 
--- no quarter of a term is greater: half a quarter more than the drift and b-limit, in quarters
+-- no quarter of a term is greater: the drift and b-limit, in quarters, rounded up
 abbrev quarter-limit : ℕ
-quarter-limit = (angle-per-part * b-limit + drift-limit + quarter / 2) / quarter
+quarter-limit = (angle-per-part * b-limit + drift-limit) / quarter + 1
 
 drift-most : {b : ℕ} {c t : ℤ} → Allowed b c t → rounded (pos angle-per-part *ℤ c *ℤ t) T ≼ pos drift-limit
 drift-most {b} {c} {t} h =

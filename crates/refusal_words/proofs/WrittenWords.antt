@@ -12,7 +12,7 @@ use Rattle.units.specs.declared.Figure.the-variants.{Count, Time}
 use Rattle.units.specs.declared.Instant.{Instant}
 use Rattle.units.specs.declared.Refusal.{Refusal}
 use Rattle.units.specs.declared.Refusal.the-variants.{NoSuchDate, PastLimit, BadByte, OverLimit, TotalOverLimit, TooCoarse}
-use Rattle.units.specs.declared.Refusal.the-variants.{NoRoom, EndedEarly, ByteAfterEnd, NotShortest, NotUsable, BadWindow, BadHeading, BadNumber}
+use Rattle.units.specs.declared.Refusal.the-variants.{NoRoom, EndedEarly, ByteAfterEnd, NotShortest, NotUsable, BadWindow, BadHeading, BadNumber, TooFar}
 use Rattle.decimals.specs.Texts.{text, line-feed}
 use Rattle.decimals.specs.Decimals.{most-digits, decimal, signed-decimal}
 use Rattle.decimals.specs.Writing.{Put}
@@ -35,6 +35,7 @@ words-length (NotUsable minute) = lit≤ tt
 words-length BadWindow = lit≤ tt
 words-length (BadHeading at) = lit≤ tt
 words-length (BadNumber at) = lit≤ tt
+words-length (TooFar t) = lit≤ tt
 
 pub words-put : (r q : Refusal) (at z : ℕ) (out result : List ℕ) → r ≡ q → Put out at (words q) z result → Put out at (words r) z result
 words-put r q at z out result e h = rw e h

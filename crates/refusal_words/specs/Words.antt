@@ -1,10 +1,10 @@
--- RULES, "Programs": a refusal as all programs print it, one line: `refused 2, the instant passes its limit, 63115200000001`.
+-- RULES, "Programs": a refusal as all programs print it, one line: `refused 2, the instant passes its limit, 126230400000001`.
 use mathlib.Core.List.{List, [], _∷_, _++_}
 use Prim.Native.Nat.{ℕ}
 use Rattle.units.specs.Refusals.{number, figure}
 use Rattle.units.specs.declared.Refusal.{Refusal}
 use Rattle.units.specs.declared.Refusal.the-variants.{NoSuchDate, PastLimit, BadByte, OverLimit, TotalOverLimit, TooCoarse}
-use Rattle.units.specs.declared.Refusal.the-variants.{NoRoom, EndedEarly, ByteAfterEnd, NotShortest, NotUsable, BadWindow, BadHeading, BadNumber}
+use Rattle.units.specs.declared.Refusal.the-variants.{NoRoom, EndedEarly, ByteAfterEnd, NotShortest, NotUsable, BadWindow, BadHeading, BadNumber, TooFar}
 use Rattle.decimals.specs.Texts.{text, line-feed}
 use Rattle.decimals.specs.Decimals.{most-digits, decimal, signed-decimal}
 
@@ -24,6 +24,7 @@ words (NotUsable minute) = text "a place is not usable, minute "
 words BadWindow = text "keep-out or minutes out of range, "
 words (BadHeading at) = text "a heading is wrong or out of order, at "
 words (BadNumber at) = text "a running number is wrong, at "
+words (TooFar t) = text "a series is not good that far from 2000, instant "
 
 -- The whole line: the number, the words and the figure, with its sign.
 unfoldable pub refusal-text : Refusal → List ℕ

@@ -44,6 +44,11 @@ fn put_words(refusal: Refusal, out: &mut [u8], at: usize) -> usize
         Refusal::BadWindow => put_bytes(b"keep-out or minutes out of range, ", out, at),
         Refusal::BadHeading(_) => put_bytes(b"a heading is wrong or out of order, at ", out, at),
         Refusal::BadNumber(_) => put_bytes(b"a running number is wrong, at ", out, at),
+        Refusal::TooFar(_) => put_bytes(
+            b"a series is not good that far from 2000, instant ",
+            out,
+            at,
+        ),
     }
 }
 
@@ -57,7 +62,7 @@ fn put_figure(figure: Figure, out: &mut [u8], at: usize) -> usize
     }
 }
 
-// One line: "refused 2, the instant passes its limit, 63115200000001".
+// One line: "refused 2, the instant passes its limit, 126230400000001".
 pub fn put_refusal(refusal: Refusal, out: &mut [u8], at: usize) -> usize
     requires { ⌜ at + refusal-most ≤ length (now out) ⌝ }
     ensures { λ r. ⌜ Put (now (out .entry)) at (refusal-text refusal) r (now (out .exit)) ⌝ }

@@ -1,21 +1,20 @@
 -- Where a block of a term table starts, and the running sum over the six blocks of a coordinate. Assumes nothing.
 use mathlib.Core.Path.{_≡_, refl, sym, ap, ap₂, _∙_, subst}
 use mathlib.Core.List.{List, [], _∷_}
-use Prim.Native.Nat.{ℕ, zero, suc, _+_, _-_, _*_, _^_, _≤_, _<_}
+use Prim.Native.Nat.{ℕ, zero, suc, _+_, _-_, _*_, _≤_, _<_}
 use native.Mathlib.Omega.{arith}
-use native.Mathlib.Nat.{pow-le-pow-right}
 use lib.IntN.{ℤ, pos, natAbs, _+ℤ_, _*ℤ_, +ℤ-idr}
 use lib.ListN.{length, getD, take, drop, length-take, length-drop}
 use lib.Seq.{drop-cons, getD-take, getD-drop}
 use Rattle.integers.specs.Division.{rounded}
-use Rattle.units.specs.Units.{millennium, t-limit, total-limit}
+use Rattle.units.specs.Units.{millennium, wide-total}
 use Rattle.limits.specs.declared.Term.{Term}
 use Rattle.pieces.specs.Sums.{block-sum}
 use Rattle.pieces.proofs.Sizes.{no-share}
 use Rattle.series.specs.Sums.{running-sum}
 use Rattle.series.proofs.Accuracy.{running-step, running-one}
-use Rattle.series.proofs.Accepted.{Blocks-in, in-take, in-drop}
-use Rattle.series.proofs.Sizes.{running-size}
+use Rattle.series.proofs.Reach.{In-reach}
+use Rattle.series.proofs.Sizes.{five-size}
 
 -- past block 0, a block starts where the one before ends
 pub start-later : (ends : List ℕ) (j : ℕ) → (j ≡ 0 → ⊥) → getD ends (j - 1) 0 ≡ getD (0 ∷ ends) j 0
@@ -79,16 +78,11 @@ module _ (t : ℤ) (bs : List (List Term)) (first : ℕ) (enough : first + 6 ≤
       zero-is : (k : ℕ) → k ≤ 0 → k ≡ 0
       zero-is k h = omega arith
 
-  -- before power 0 it is at most 31 totals
-  pub running-small : natAbs t ≤ t-limit → Blocks-in bs → (v : ℤ) (k : ℕ) → Running t bs first v (suc k) → natAbs v ≤ 31 * total-limit
-  running-small ht b v k r =
-      let l = running-size t ht (drop (suc k) (six bs first)) (in-drop (suc k) (six bs first) (in-take 6 (drop first bs) (in-drop first bs b))) in
-      let n : length (drop (suc k) (six bs first)) ≤ 5 = simp length-drop (let s = six-long in omega arith) in
-      subst (λ (z : ℤ). natAbs z ≤ 31 * total-limit) (sym (r .is))
-      (few-blocks (natAbs (running-sum t (drop (suc k) (six bs first)))) (length (drop (suc k) (six bs first))) n l)
-    where
-      few-blocks : (m n : ℕ) → n ≤ 5 → m + total-limit ≤ total-limit * 2 ^ n → m ≤ 31 * total-limit
-      few-blocks m n h l = let p : 2 ^ n ≤ 2 ^ 5 = pow-le-pow-right (omega arith) h in omega arith
+  -- before power 0 it is at most 341 totals
+  pub running-small : In-reach t bs → (v : ℤ) (k : ℕ) → Running t bs first v (suc k) → natAbs v ≤ 341 * wide-total
+  running-small h v k r =
+      subst (λ (z : ℤ). natAbs z ≤ 341 * wide-total) (sym (r .is))
+      (five-size t bs h first (suc k) (omega arith))
 
   -- the same with the number of the power that the loop holds
   powered : (k : ℕ) → 0 < k → k ≡ suc (k - 1)
@@ -98,5 +92,5 @@ module _ (t : ℤ) (bs : List (List Term)) (first : ℕ) (enough : first + 6 ≤
       (v *ℤ t) millennium → Running t bs first w (k - 1)
   running-next v w k h r e = running-more v w (k - 1) (subst (λ (n : ℕ). Running t bs first v n) (powered k h) r) e
 
-  pub running-within : natAbs t ≤ t-limit → Blocks-in bs → (v : ℤ) (k : ℕ) → 0 < k → Running t bs first v k → natAbs v ≤ 31 * total-limit
-  running-within ht b v k h r = running-small ht b v (k - 1) (subst (λ (n : ℕ). Running t bs first v n) (powered k h) r)
+  pub running-within : In-reach t bs → (v : ℤ) (k : ℕ) → 0 < k → Running t bs first v k → natAbs v ≤ 341 * wide-total
+  running-within i v k h r = running-small i v (k - 1) (subst (λ (n : ℕ). Running t bs first v n) (powered k h) r)

@@ -11,7 +11,7 @@ use mir.Syntax.{w64}
 use mir.Val.{SFits}
 use Rattle.integers.specs.Division.{rounded}
 use Rattle.arith.proofs.Cells.{Cell, cell, held-le}
-use Rattle.units.specs.Units.{millennium, t-limit, total-limit, series-limit, block-count}
+use Rattle.units.specs.Units.{millennium, tau-limit, t-limit, total-limit, wide-total, series-limit, block-count}
 use Rattle.limits.specs.declared.Term.{Term}
 use Rattle.limits.specs.Allowed.{Block-fits}
 use Rattle.packed.specs.machine.Table.{terms-at, table-blocks}
@@ -42,7 +42,7 @@ module _ (rows : List (List ℕ)) (h : Table rows) (j : ℕ) (hj : j < block-cou
     pub sum-is : (t s : ℤ) → s ≡ block-sum t (terms-at rows from (to - from)) → s ≡ block-sum t block
     sum-is t s g = g ∙ ap₂ (λ (x y : ℕ). block-sum t (terms-at rows x (y - x))) e f ∙ ap (block-sum t) (sym block-is)
 
-module _ (t v : ℤ) (ht : natAbs t ≤ t-limit) (hv : natAbs v ≤ 31 * total-limit) where
+module _ (t v : ℤ) (ht : natAbs t ≤ t-limit) (hv : natAbs v ≤ 341 * wide-total) where
   t-cell : Cell t ≡ t
   t-cell = cell t (omega arith)
 
@@ -66,8 +66,8 @@ module _ (t v : ℤ) (ht : natAbs t ≤ t-limit) (hv : natAbs v ≤ 31 * total-l
     r-is : r ≡ rounded (v *ℤ t) millennium
     r-is = er ∙ ap₂ (λ (x y : ℤ). rounded (x *ℤ y) millennium) v-cell t-cell
 
-    r-size : natAbs r ≤ 62 * total-limit
-    r-size = subst (λ (z : ℤ). natAbs z ≤ 62 * total-limit) (sym r-is) (let m = carried-size v t ht in omega arith)
+    r-size : natAbs r ≤ 1364 * wide-total
+    r-size = subst (λ (z : ℤ). natAbs z ≤ 1364 * wide-total) (sym r-is) (let m = carried-size tau-limit v t ht in omega arith)
 
     small : natAbs s + natAbs r < 2 ^ 63
     small = let m = s-size in let n = r-size in omega arith

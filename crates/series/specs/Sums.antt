@@ -5,11 +5,12 @@ use Prim.Native.Nat.{ℕ, _*_}
 use lib.IntN.{ℤ, pos, _+ℤ_, _*ℤ_}
 use lib.ListN.{take, drop}
 use Rattle.integers.specs.Division.{rounded}
-use Rattle.units.specs.Units.{millennium, in-limit, powers}
+use Rattle.units.specs.Units.{millennium, powers}
 use Rattle.units.specs.declared.Instant.{Instant}
 use Rattle.units.specs.declared.Coordinates.{Coordinates}
-use Rattle.units.specs.declared.Refusal.the-variants.{PastLimit}
+use Rattle.units.specs.declared.Refusal.the-variants.{PastLimit, TooFar}
 use Rattle.limits.specs.declared.Term.{Term}
+use Rattle.limits.specs.Wide.{Range, four-millennia}
 use Rattle.packed.specs.Series.{Parsed, accepted, refused, parse}
 use Rattle.pieces.specs.Sums.{block-sum}
 use Rattle.series.specs.declared.CoordinatesAnswer.{CoordinatesAnswer}
@@ -38,10 +39,15 @@ coordinates t blocks = record {
   radius = running-sum t (radius-blocks blocks);
 }
 
--- An instant past the limit is refused before the series (RULES, "Refusals and what they leave").
-unfoldable pub of-parsed : Instant → Parsed → CoordinatesAnswer
-of-parsed t (accepted blocks) = At (coordinates (t .ms) blocks)
-of-parsed t (refused r) = NoCoordinates r
+-- What the call answers over a range of time. An instant that the range does not take is refused before the series, and one at which this series
+-- may not be asked after it: 2, what the series is refused for, 17 (RULES, "Refusals and what they leave").
+unfoldable pub of-parsed : Range → Instant → Parsed → CoordinatesAnswer
+of-parsed range t (accepted blocks) = cond (range .asked blocks (t .ms)) (At (coordinates (t .ms) blocks)) (NoCoordinates (TooFar t))
+of-parsed range t (refused r) = NoCoordinates r
 
-unfoldable pub coordinates-answer : List ℕ → Instant → CoordinatesAnswer
-coordinates-answer bytes t = cond (in-limit (t .ms)) (of-parsed t (parse bytes)) (NoCoordinates (PastLimit t))
+unfoldable pub coordinates-by : Range → List ℕ → Instant → CoordinatesAnswer
+coordinates-by range bytes t = cond (range .taken (t .ms)) (of-parsed range t (parse bytes)) (NoCoordinates (PastLimit t))
+
+-- What it answers: up to four millennia.
+abbrev pub coordinates-answer : List ℕ → Instant → CoordinatesAnswer
+coordinates-answer bytes t = coordinates-by four-millennia bytes t

@@ -9,6 +9,7 @@ use crate::table::TABLE_ROWS;
 use crate::table::Table;
 use crate::table::coordinates;
 use crate::table::fill;
+use limits::wide::may_ask;
 use units::Coordinates;
 use units::Instant;
 use units::Refusal;
@@ -30,6 +31,11 @@ pub fn coordinates_at(packed: &[u8], t: Instant) -> CoordinatesAnswer
     let mut table: Table = [[0; 3]; TABLE_ROWS];
     match fill(packed, &mut table) {
         Checked::NoSeries(r) => CoordinatesAnswer::NoCoordinates(r),
-        Checked::Terms(_) => CoordinatesAnswer::At(coordinates(&table, t)),
+        Checked::Series(content) => {
+            if !may_ask(content.wide, t) {
+                return CoordinatesAnswer::NoCoordinates(Refusal::TooFar(t));
+            }
+            CoordinatesAnswer::At(coordinates(&table, t))
+        }
     }
 }

@@ -1,11 +1,13 @@
 // The sums over a term table at a prepared instant: of a block, of the powers of a coordinate. For this crate alone.
 ghost use mathlib.Core.Path.{_≡_};
-ghost use Prim.Native.Nat.{_+_, _-_, _*_, _≤_, _<_};
+ghost use mathlib.Core.Bool.{true};
 ghost use mathlib.Core.List.{[], _∷_};
+ghost use Prim.Native.Nat.{_+_, _-_, _*_, _≤_, _<_};
 ghost use lib.IntN.{natAbs, _+ℤ_, _*ℤ_};
 ghost use lib.ListN.{getD, take, drop};
 ghost use Rattle.integers.specs.Division.{rounded};
-ghost use Rattle.units.specs.Units.{millennium, t-limit, total-limit, powers, block-count};
+ghost use Rattle.units.specs.Units.{millennium, t-limit, wide-total, powers, block-count};
+ghost use Rattle.limits.specs.Wide.{reaches};
 ghost use Rattle.cosine.specs.machine.Prepared.{Ready};
 ghost use Rattle.packed.specs.machine.Table.{Sized, ends, table-blocks};
 ghost use Rattle.pieces.specs.Sums.{block-sum};
@@ -34,9 +36,10 @@ fn block_start(table: &Table, j: usize) -> u64
     block_end(table, j - 1)
 }
 
-// One power of the running sum: V becomes S + V t/T rounded, S the sum of block j.
+// One power of the running sum: V becomes S + V t/T rounded, S the sum of block j. Before power 0, |V| is at most 1 + 4 + 16 + 64 + 256 totals of
+// a series that is good for the wide range; the 1 + 2 + 4 + 8 + 16 of any other series, within two millennia, are less.
 fn with_block(p: Prepared, table: &Table, j: usize, v: i64) -> i64
-    requires { ⌜ Ready p × (natAbs (p .t) ≤ t-limit) × Table (now table) × (j < block-count) × (natAbs v ≤ 31 * total-limit) ⌝ }
+    requires { ⌜ Ready p × (natAbs (p .t) ≤ t-limit) × Table (now table) × (j < block-count) × (natAbs v ≤ 341 * wide-total) ⌝ }
     ensures { λ r. ⌜ r ≡ block-sum (p .t) (getD (table-blocks (now (table .entry))) j []) +ℤ rounded (v *ℤ p .t) millennium ⌝ }
 {
     let from = block_start(table, j);
@@ -46,9 +49,9 @@ fn with_block(p: Prepared, table: &Table, j: usize, v: i64) -> i64
     add(sum, carried)
 }
 
-// V of the coordinate whose blocks begin with block first.
+// V of the coordinate whose blocks begin with block first, at an instant at which the series may be asked.
 pub fn coordinate(p: Prepared, table: &Table, first: usize) -> i64
-    requires { ⌜ Ready p × (natAbs (p .t) ≤ t-limit) × Table (now table) × (first ≤ 2 * powers) ⌝ }
+    requires { ⌜ Ready p × (natAbs (p .t) ≤ t-limit) × Table (now table) × (reaches (table-blocks (now table)) (p .t) ≡ true) × (first ≤ 2 * powers) ⌝ }
     ensures { λ r. ⌜ r ≡ running-sum (p .t) (take powers (drop first (table-blocks (now (table .entry))))) ⌝ }
 {
     let mut v: i64 = 0;

@@ -3,7 +3,7 @@ use mathlib.Core.Path.{_≡_, refl, sym, ap, _∙_}
 use mathlib.Core.List.{List, [], _∷_}
 use Prim.Native.Nat.{ℕ, zero, suc}
 use lib.IntN.{ℤ, pos}
-use Rattle.units.specs.Units.{in-limit}
+use Rattle.units.specs.Units.{within}
 use Rattle.calendar.proofs.Theorems.{figures as calendar-figures}
 use Rattle.cosine.proofs.Figures.{figures as cosine-figures}
 use Rattle.packed_numbers.specs.Numbers.{number, groups-from, closed, next, unfolded}
@@ -11,6 +11,7 @@ use Rattle.limits.specs.Limits.{count-fits, opened, added, summed, after-block,
 use Rattle.limits.specs.Limits.{coarse-fits}
 use Rattle.packed.specs.Series.{accepted, parse, judged, read-a, read-b, read-c, read-term, read-terms, read-block, read-blocks, read-series, ended}
 use Rattle.packed_promises.proofs.Theorems.{padded}
+use Rattle.limits.specs.Wide.{reaches}
 use Rattle.series.specs.Sums.{of-parsed, coordinates-answer}
 use Rattle.series.specs.declared.CoordinatesAnswer.the-variants.{At as AtCoordinates}
 use Rattle.series.proofs.Answering.{answers-parsed}
@@ -30,7 +31,7 @@ unfolding constant-rate parse read-series read-blocks read-block number groups-f
 rate-parsed = refl
 
 rate-answer : coordinates-answer rate-bytes rate-instant ≡ rate-coordinates
-unfolding of-parsed in-limit
+unfolding of-parsed within reaches
 rate-answer = sym (answers-parsed rate-bytes rate-instant (accepted constant-rate) refl rate-parsed) ∙ ap AtCoordinates rate-figures
 
 -- A case and the cases after it.

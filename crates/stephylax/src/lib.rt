@@ -14,6 +14,7 @@ ghost use Rattle.answers.specs.Answers.{day-shown, date-shown, instant-shown, m
 ghost use Rattle.answers.specs.Answers.{standing-shown, mending-shown, printed-shown, place-shown, mount-shown};
 ghost use Rattle.stephylax.specs.Promises.{C-coordinates-promised, C-sun-list-promised};
 use answers::Doubles;
+use answers::Examined;
 use answers::Mended;
 use answers::Moment;
 use answers::One;
@@ -155,7 +156,7 @@ pub extern "C" fn stephylax_published_answer(state: Published) -> Standing
 }
 
 #[no_mangle]
-pub extern "C" fn stephylax_check(packed: &[u8]) -> One
+pub extern "C" fn stephylax_check(packed: &[u8]) -> Examined
     ensures { λ r. ⌜ r ≡ checked-shown (checked (parse (now (packed .entry)))) ⌝ }
 {
     of_checked(packed::check(packed))

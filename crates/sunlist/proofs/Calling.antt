@@ -6,18 +6,21 @@ use Prim.Native.Nat.{ℕ, _-_, _≤_}
 use lib.IntN.{ℤ, pos, negsuc, natAbs}
 use lib.ListN.{length}
 use Rattle.arith.specs.Naturals.{natural-or}
-use Rattle.units.specs.Units.{in-limit}
+use Rattle.units.specs.Units.{t-limit, in-limit}
 use Rattle.units.proofs.Limit.{size-within}
 use Rattle.units.specs.declared.Instant.{Instant}
 use Rattle.units.specs.declared.Refusal.{Refusal}
 use Rattle.units.specs.declared.Refusal.the-variants.{PastLimit, BadWindow}
+use Rattle.limits.specs.Wide.{four-millennia}
 use Rattle.packed.specs.Series.{parse}
 use Rattle.arith.proofs.Cells.{Cell}
 use Rattle.separation.specs.Arcminutes.{greatest-keep-out}
 use Rattle.sunlist.specs.declared.ListAnswer.{ListAnswer}
 use Rattle.sunlist.specs.declared.ListAnswer.the-variants.{NoList}
 use Rattle.runs.specs.Runs.{most-minutes}
-use Rattle.sunlist.specs.SunList.{minute, window-fits, Outcome, no-numbers, of-series, outcome, answered, written, sun-list, sun-list-out}
+use Rattle.sunlist.specs.SunList.{minute, window-fits, Outcome, no-numbers, of-series, outcome-by, outcome, answered, written}
+use Rattle.sunlist.specs.SunList.{sun-list-by, sun-list-out-by}
+use Rattle.sunlist.specs.machine.Answers.{Answers}
 use Rattle.sunlist.specs.machine.Window.{Window}
 use Rattle.sunlist.specs.Call.{Sun-list-promised}
 use Rattle.sunlist.proofs.Limits.{fits-is, minute-in}
@@ -50,7 +53,7 @@ module _ (planet earth : List ℕ) (t0 : Instant) (minutes keep-out : ℤ) (out 
 
   told : (o : Outcome) (r : ListAnswer) (now : List ℕ) → outcome planet earth t0 minutes keep-out ≡ o → r ≡ answered (length out) o → now ≡ written out o
       → Told r now
-  unfolding sun-list sun-list-out
+  unfolding sun-list-by sun-list-out-by
   told o r now e p q =
       sun-list-promised planet earth t0 minutes keep-out out r now (p ∙ ap (answered (length out)) (sym e)) (q ∙ ap (written out) (sym e))
 
@@ -68,7 +71,7 @@ module _ (planet earth : List ℕ) (t0 : Instant) (minutes keep-out : ℤ) (out 
   fits-told = fits-natural minutes keep-out ∙ sym (ap₂ (λ (x y : ℕ). window-fits (pos x) (pos y)) n-natural k-natural) ∙ sym (w .fit-is)
 
   pub bad-window : b ≡ false → Told (NoList BadWindow) out
-  unfolding outcome
+  unfolding outcome-by
   bad-window e = no-list BadWindow (rw (fits-told ∙ e))
 
   module _ (e : b ≡ true) where
@@ -85,7 +88,7 @@ module _ (planet earth : List ℕ) (t0 : Instant) (minutes keep-out : ℤ) (out 
     in-range = let f = fits-is minutes keep-out good in rw (n-natAbs, k-natAbs) (f .minutes-in .least, f .minutes-in .most, f .keep-out-in .most)
 
     pub first-refused : in-limit (t0 .ms) ≡ false → Told (NoList (PastLimit t0)) out
-    unfolding outcome
+    unfolding outcome-by
     first-refused h = no-list (PastLimit t0) (rw (good, h))
 
     module _ (h : in-limit (t0 .ms) ≡ true) (last : Instant) (hl : last ≡ minute t0 (n - 1)) where
@@ -93,7 +96,7 @@ module _ (planet earth : List ℕ) (t0 : Instant) (minutes keep-out : ℤ) (out 
       last-is = hl ∙ ap (λ (m : ℕ). minute t0 (m - 1)) n-natAbs
 
       pub last-refused : in-limit (last .ms) ≡ false → Told (NoList (PastLimit last)) out
-      unfolding outcome
+      unfolding outcome-by
       last-refused g =
           let f : in-limit (minute t0 (natAbs minutes - 1) .ms) ≡ false = ap (λ (t : Instant). in-limit (t .ms)) (sym last-is) ∙ g in
           no-list (PastLimit last) (rw (good, h, f) (ap (λ (t : Instant). no-numbers (PastLimit t)) (sym last-is)))
@@ -103,13 +106,11 @@ module _ (planet earth : List ℕ) (t0 : Instant) (minutes keep-out : ℤ) (out 
         window =
             let r = in-range in
             let f : in-limit (minute t0 (n - 1) .ms) ≡ true = ap (λ (t : Instant). in-limit (t .ms)) (sym hl) ∙ g in
-            record { few = r .1; angle = r .2; start = size-within _ h; within = λ j l. minute-in t0 n j h f l }
+            record { few = r .1; angle = r .2; start = size-within t-limit _ h; within = λ j l. minute-in t-limit t0 n j h f l }
 
-        pub series-told : (r : ListAnswer) (now : List ℕ) → r ≡ answered (length out) (of-series (parse planet) (parse earth) t0 n k)
-            → now ≡ written out (of-series (parse planet) (parse earth) t0 n k)
-            → Told r now
-        unfolding outcome
-        series-told r now p q =
+        pub series-told : (r : ListAnswer) (now : List ℕ) → Answers (of-series four-millennia (parse planet) (parse earth) t0 n k) out r now → Told r now
+        unfolding outcome-by
+        series-told r now p =
             let f : in-limit (minute t0 (natAbs minutes - 1) .ms) ≡ true = ap (λ (t : Instant). in-limit (t .ms)) (sym last-is) ∙ g in
-            told (of-series (parse planet) (parse earth) t0 n k) r now
-            (rw (good, h, f) (ap₂ (of-series (parse planet) (parse earth) t0) (sym n-natAbs) (sym k-natAbs))) p q
+            told (of-series four-millennia (parse planet) (parse earth) t0 n k) r now
+            (rw (good, h, f) (ap₂ (of-series four-millennia (parse planet) (parse earth) t0) (sym n-natAbs) (sym k-natAbs))) (p .0) (p .1)

@@ -11,18 +11,22 @@ use lib.Seq.{sets, sets-eq, length-sets}
 use Rattle.units.specs.Units.{t-limit}
 use Rattle.units.specs.declared.Instant.{Instant}
 use Rattle.units.specs.declared.Coordinates.{Coordinates}
+use Rattle.limits.specs.Wide.{reaches}
+use Rattle.limits.proofs.Reach.{each-asked}
 use Rattle.series.specs.Sums.{coordinates}
 use Rattle.separation.specs.Listed.{listed}
+use Rattle.separation.specs.machine.Near.{Near-coordinates}
 use Rattle.separation.proofs.Core.{within-is-listed, listed-is-within}
 use Rattle.runs.specs.Runs.{run-numbers, flag, flags}
 use Rattle.runs.proofs.Runs.{Flags-of, runs-are}
 use Rattle.runs.proofs.Maximal.{Runs-of, runs-of}
 use Rattle.sunlist.specs.declared.ListAnswer.the-variants.{Runs}
 use Rattle.sunlist.specs.SunList.{minute, good, flag-of, decision-at, window-flags, sun-list, sun-list-out}
-use Rattle.sunlist.specs.Demand.{first-minute, last-minute, In-run, Demand-3}
+use Rattle.sunlist.specs.Demand.{exact-coordinates, first-minute, last-minute, In-run, Demand-3}
+use Rattle.sunlist.proofs.Failing.{all-pass}
 use Rattle.sunlist.proofs.Limits.{Fits, fits-is, minute-in}
 use Rattle.sunlist.proofs.Answered.{list-of, Answered, answered-is}
-use Rattle.sunlist.proofs.Minutes.{all-good, good-usable, good-flag, flags-are}
+use Rattle.sunlist.proofs.Minutes.{good-usable, good-flag, flags-are}
 use Rattle.sunlist.proofs.Near.{near}
 
 -- A number that was written is read back.
@@ -50,9 +54,7 @@ module _ (planet-bytes earth-bytes : List ℕ) (t0 : Instant) (minutes keep-out 
   listed-at j = listed k (planet-at j) (earth-at j)
 
   good-at : (j : ℕ) → j < n → good (decision-at (a .planet) (a .earth) t0 k j) ≡ true
-  good-at j l =
-      subst (λ (i : ℕ). good (decision-at (a .planet) (a .earth) t0 k i) ≡ true) (zero-plus j)
-      (all-good (decision-at (a .planet) (a .earth) t0 k) 0 n (let u = a .usable in omega arith) j l)
+  good-at j l = all-pass _ n (a .usable) j l
 
   abbrev xs : List ℕ
   xs = list-of (a .planet) (a .earth) t0 n k
@@ -88,8 +90,18 @@ module _ (planet-bytes earth-bytes : List ℕ) (t0 : Instant) (minutes keep-out 
   fits : Fits minutes keep-out
   fits = fits-is minutes keep-out (a .window)
 
+  -- Every minute is within the limit of time and within reach of both series.
   in-time : (j : ℕ) → j < n → natAbs (minute t0 j .ms) ≤ t-limit
-  in-time j l = minute-in t0 n j (a .first) (a .last) l
+  in-time j l = minute-in t-limit t0 n j (a .first) (a .last) l
+
+  in-reach : (j : ℕ) → j < n → (reaches (a .planet) (minute t0 j .ms) ≡ true) × (reaches (a .earth) (minute t0 j .ms) ≡ true)
+  in-reach j l = each-asked (a .planet) (a .earth) (minute t0 j .ms) (all-pass _ n (a .asked) j l)
+
+  planet-near : (j : ℕ) → j < n → Near-coordinates (planet-at j) (exact-coordinates (minute t0 j) (a .planet))
+  planet-near j l = near planet-bytes (a .planet) (minute t0 j) (a .planet-series) (in-time j l) (in-reach j l .0)
+
+  earth-near : (j : ℕ) → j < n → Near-coordinates (earth-at j) (exact-coordinates (minute t0 j) (a .earth))
+  earth-near j l = near earth-bytes (a .earth) (minute t0 j) (a .earth-series) (in-time j l) (in-reach j l .1)
 
   demand : Demand-3 planet-bytes earth-bytes t0 minutes keep-out count (sets out 0 xs)
   unfolding decision-at
@@ -105,14 +117,10 @@ module _ (planet-bytes earth-bytes : List ℕ) (t0 : Instant) (minutes keep-out 
     runs = list .0;
     count-is = a .count-is ∙ list .1 .count;
     room = rw (length-sets out 0 xs) (let f = a .fits in let c = a .count-is in omega arith);
-    none-missing = λ j l w. found j l (within-is-listed (planet-at j) (earth-at j) _ _
-        (near planet-bytes (a .planet) (minute t0 j) (a .planet-series) (in-time j l))
-        (near earth-bytes (a .earth) (minute t0 j) (a .earth-series) (in-time j l))
+    none-missing = λ j l w. found j l (within-is-listed (planet-at j) (earth-at j) _ _ (planet-near j l) (earth-near j l)
         (good-usable k (planet-at j) (earth-at j) (good-at j l)) k (fits .keep-out-in .least) (fits .keep-out-in .most) w);
     once = λ j i m l q h g. list .1 .once i m j l q (read i j l h) (read m j q g);
-    not-farther = λ j i l h. listed-is-within (planet-at j) (earth-at j) _ _
-        (near planet-bytes (a .planet) (minute t0 j) (a .planet-series) (in-time j (below j i l h)))
-        (near earth-bytes (a .earth) (minute t0 j) (a .earth-series) (in-time j (below j i l h)))
+    not-farther = λ j i l h. listed-is-within (planet-at j) (earth-at j) _ _ (planet-near j (below j i l h)) (earth-near j (below j i l h))
         (good-usable k (planet-at j) (earth-at j) (good-at j (below j i l h))) k (fits .keep-out-in .least) (fits .keep-out-in .most) (held j i l h);
     only-listed = held;
     all-listed = found;

@@ -1,6 +1,6 @@
 -- The flags of a window, minute by minute: those filled and those left are all, up to the first bad minute. Assumes nothing.
 use mathlib.Core.Path.{_≡_, refl, sym, ap, _∙_, subst}
-use mathlib.Core.Bool.{Bool, true, false, cond}
+use mathlib.Core.Bool.{true, false}
 use mathlib.Core.List.{List, [], _∷_, _++_, append-assoc, append-nil}
 use Prim.Native.Nat.{ℕ, suc, _+_, _-_, _≤_, _<_}
 use native.Mathlib.Omega.{arith}
@@ -9,32 +9,27 @@ use lib.ListN.{length, take, set, length-set}
 use lib.Seq.{take-suc-set, take-all}
 use Rattle.sunlist.specs.declared.Decision.{Decision}
 use Rattle.sunlist.specs.declared.Decision.the-variants.{Listed, Clear, Unusable}
-use Rattle.sunlist.specs.SunList.{good, flag-of, first-bad, window-flags}
+use Rattle.sunlist.specs.SunList.{good, flag-of, window-flags}
 use Rattle.sunlist.specs.machine.Window.{Flagged}
+use Rattle.sunlist.proofs.Failing.{Searched, searched-none, searched-more, searched-found, searched-all}
 
 -- Before minute j of n.
 pub record Filling (at : ℕ → Decision) (n j : ℕ) (flags : List ℕ) : Type 0 where
   pub size : length flags ≡ n
-  pub so-far : j ≤ n
-  pub bad-left : first-bad at j (n - j) ≡ first-bad at 0 n
+  pub search : Searched (λ (i : ℕ). good (at i)) n j
   pub flags-left : take j flags ++ window-flags at j (n - j) ≡ window-flags at 0 n
 
 pub filling-none : (at : ℕ → Decision) (flags : List ℕ) → Filling at (length flags) 0 flags
 filling-none at flags = record {
   size = refl;
-  so-far = omega arith;
-  bad-left = ap (first-bad at 0) (all-left (length flags));
+  search = searched-none _ (length flags);
   flags-left = ap (window-flags at 0) (all-left (length flags));
 }
   where
     all-left : (n : ℕ) → n - 0 ≡ n
     all-left n = omega arith
 
--- One minute's step of the definitions.
-bad-step : (at : ℕ → Decision) (j m k : ℕ) → m ≡ suc k → first-bad at j m ≡ cond (good (at j)) (first-bad at (suc j) k) j
-unfolding first-bad
-bad-step at j m k e = rw e
-
+-- One minute's step of the definition.
 flags-step : (at : ℕ → Decision) (j m k : ℕ) → m ≡ suc k → window-flags at j m ≡ flag-of (at j) ∷ window-flags at (suc j) k
 unfolding window-flags
 flags-step at j m k e = rw e
@@ -55,10 +50,7 @@ pub filling-more : (at : ℕ → Decision) (n j f : ℕ) (flags : List ℕ) → 
     → Filling at n (j + 1) (set flags j f)
 filling-more at n j f flags i l e h = subst (λ (m : ℕ). Filling at n m (set flags j f)) (sym (add-one j)) (record {
   size = length-set flags j f ∙ i .size;
-  so-far = omega arith;
-  bad-left =
-      sym (bad-step at j (n - j) (n - suc j) (omega arith)
-      ∙ ap (λ (b : Bool). cond b (first-bad at (suc j) (n - suc j)) j) (flag-good (at j) (λ p. h (e ∙ p)))) ∙ i .bad-left;
+  search = searched-more _ n j (i .search) l (flag-good (at j) (λ p. h (e ∙ p)));
   flags-left =
       ap (λ (s : List ℕ). s ++ window-flags at (suc j) (n - suc j))
       (take-suc-set flags j f (let s = i .size in omega arith) ∙ ap (λ (x : ℕ). take j flags ++ (x ∷ [])) e)
@@ -68,16 +60,14 @@ filling-more at n j f flags i l e h = subst (λ (m : ℕ). Filling at n m (set f
 
 pub filling-bad : (at : ℕ → Decision) (n j f : ℕ) (flags : List ℕ) → Filling at n j flags → j < n → f ≡ flag-of (at j) → f ≡ 2 → Flagged at n j flags
 filling-bad at n j f flags i l e h = record {
-  bad-is =
-      sym (sym (i .bad-left) ∙ bad-step at j (n - j) (n - suc j) (omega arith)
-      ∙ ap (λ (b : Bool). cond b (first-bad at (suc j) (n - suc j)) j) (flag-bad (at j) (sym e ∙ h)));
+  bad-is = searched-found _ n j (i .search) l (flag-bad (at j) (sym e ∙ h));
   flags-are = λ (m : n ≤ j). absurd (omega arith);
 }
 
 pub filling-all : (at : ℕ → Decision) (n j : ℕ) (flags : List ℕ) → Filling at n j flags → n ≤ j → Flagged at n j flags
-unfolding first-bad window-flags
+unfolding window-flags
 filling-all at n j flags i h = record {
-  bad-is = subst (λ (m : ℕ). first-bad at j m ≡ first-bad at 0 n) (none n j h) (i .bad-left);
+  bad-is = searched-all _ n j (i .search) h;
   flags-are =
       λ m. sym (append-nil flags) ∙ ap (λ (s : List ℕ). s ++ []) (sym (take-all j flags (let s = i .size in omega arith)))
       ∙ subst (λ (m : ℕ). take j flags ++ window-flags at j m ≡ window-flags at 0 n) (none n j h) (i .flags-left);

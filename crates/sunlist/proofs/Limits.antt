@@ -1,4 +1,4 @@
--- The figures of a window that fits, and that its minutes are within the limit of time where the first and the last are. Assumes nothing.
+-- The figures of a window that fits, and that its minutes are within a limit of time where the first and the last are. Assumes nothing.
 use mathlib.Core.Path.{_≡_, refl}
 use mathlib.Core.Bool.{true, _&&_}
 use mathlib.Core.List.{[], _∷_}
@@ -13,7 +13,7 @@ use Rattle.integers.proofs.Pairs.{nonneg}
 use Rattle.integers.proofs.Tests.{both, false-true}
 use Rattle.integers.proofs.Auto.{polys, cert!, gap, _⊞_}
 use Rattle.integers.proofs.Order.{natAbs-low, natAbs-high, natAbs-le}
-use Rattle.units.specs.Units.{minute-ms, t-limit, in-limit}
+use Rattle.units.specs.Units.{minute-ms, within}
 use Rattle.units.proofs.Limit.{size-within}
 use Rattle.units.specs.declared.Instant.{Instant}
 use Rattle.separation.specs.Arcminutes.{least-keep-out, greatest-keep-out}
@@ -52,5 +52,8 @@ between t a b l h k m =
     (cert! (t ∷ pos a ∷ pos l ∷ []) 0 (gap low ⊞ nonneg a) (search polys depth 30) tt)
     (cert! (t ∷ pos a ∷ pos b ∷ pos l ∷ []) 0 (gap high ⊞ gap o) (search polys depth 30) tt)
 
-pub minute-in : (t0 : Instant) (n j : ℕ) → in-limit (t0 .ms) ≡ true → in-limit (minute t0 (n - 1) .ms) ≡ true → j < n → natAbs (minute t0 j .ms) ≤ t-limit
-minute-in t0 n j h k l = between (t0 .ms) (minute-ms * j) (minute-ms * (n - 1)) t-limit (size-within _ h) (size-within _ k) (omega arith)
+-- The limit of t, or two millennia.
+pub minute-in : (limit : ℕ) (t0 : Instant) (n j : ℕ) → within limit (t0 .ms) ≡ true → within limit (minute t0 (n - 1) .ms) ≡ true → j < n
+    → natAbs (minute t0 j .ms) ≤ limit
+minute-in limit t0 n j h k l =
+    between (t0 .ms) (minute-ms * j) (minute-ms * (n - 1)) limit (size-within limit _ h) (size-within limit _ k) (omega arith)

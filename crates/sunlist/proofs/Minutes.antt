@@ -1,7 +1,7 @@
--- Where no minute is bad every place is usable, and a minute's flag says whether it is listed. Assumes nothing.
+-- At a minute that is not bad both places are usable, and its flag says whether it is listed. Assumes nothing.
 use mathlib.Core.Path.{_≡_, refl, sym, subst}
 use mathlib.Core.Bool.{Bool, true, false, cond}
-use Prim.Native.Nat.{ℕ, zero, suc, _+_, _≤_, _<_}
+use Prim.Native.Nat.{ℕ, zero, suc, _+_, _<_}
 use native.Mathlib.Omega.{arith}
 use Rattle.units.specs.declared.Coordinates.{Coordinates}
 use Rattle.rectangular.specs.Sight.{places-usable}
@@ -12,25 +12,7 @@ use Rattle.sunlist.specs.declared.Figures.{Figures}
 use Rattle.sunlist.specs.declared.Decision.{Decision}
 use Rattle.sunlist.specs.declared.Decision.the-variants.{Listed, Clear, Unusable}
 use Rattle.sunlist.specs.Minute.{figures, decide}
-use Rattle.sunlist.specs.SunList.{good, flag-of, first-bad, window-flags}
-
-one-more : (g : Bool) (x j m : ℕ) → j + suc m ≤ cond g x j → (g ≡ true) × (suc j + m ≤ x)
-one-more true x j m h = (refl, omega arith)
-one-more false x j m h = absurd (omega arith)
-
--- Where the first bad minute of n is past them, all n are good.
-pub all-good : (at : ℕ → Decision) (j n : ℕ) → j + n ≤ first-bad at j n → (i : ℕ) → i < n → good (at (j + i)) ≡ true
-unfolding first-bad
-all-good at j zero h i l = absurd (omega arith)
-all-good at j (suc n) h zero l = rw (zero-more j) (one-more (good (at j)) (first-bad at (suc j) n) j n h .0)
-  where
-    zero-more : (j : ℕ) → j + 0 ≡ j
-    zero-more j = omega arith
-all-good at j (suc n) h (suc i) l =
-    rw (shift j i) (all-good at (suc j) n (one-more (good (at j)) (first-bad at (suc j) n) j n h .1) i (omega arith))
-  where
-    shift : (j i : ℕ) → j + suc i ≡ suc j + i
-    shift j i = omega arith
+use Rattle.sunlist.specs.SunList.{good, flag-of, window-flags}
 
 -- A decision that is good is of usable places, and its flag is whether the minute is listed.
 good-then : (u l : Bool) (f : Figures) → good (cond u (cond l (Listed f) (Clear f)) Unusable) ≡ true → (u ≡ true)

@@ -1,6 +1,6 @@
 -- What the functions of window.rt ask and answer. Assumes nothing.
-use mathlib.Core.Path.{_≡_, refl, sym, ap₂, _∙_, subst}
-use mathlib.Core.Bool.{false}
+use mathlib.Core.Path.{_≡_, refl, sym, ap, ap₂, _∙_, subst}
+use mathlib.Core.Bool.{Bool, true, false, not, _||_}
 use mathlib.Core.List.{List}
 use Prim.Native.Nat.{ℕ, _+_, _*_, _^_, _≤_, _<_}
 use native.Mathlib.Omega.{arith}
@@ -12,13 +12,17 @@ use lib.Seq.{sets}
 use mir.Syntax.{w64}
 use mir.Val.{SFits}
 use Rattle.integers.proofs.Order.{natAbs-+, fits}
-use Rattle.units.specs.Units.{minute-ms, t-limit}
+use Rattle.units.specs.Units.{minute-ms, t-limit, near-limit, near}
+use Rattle.units.proofs.Limit.{told-past, told-within}
+use Rattle.units.specs.declared.Instant.{Instant}
 use Rattle.units.specs.declared.Refusal.the-variants.{NoRoom}
 use Rattle.arith.proofs.Cells.{Cell, cell}
 use Rattle.separation.specs.Arcminutes.{least-keep-out, greatest-keep-out}
 use Rattle.sunlist.specs.declared.ListAnswer.the-variants.{Runs, NoList}
 use Rattle.runs.specs.Runs.{most-minutes}
-use Rattle.sunlist.specs.SunList.{window-fits, numbers, answered, written}
+use Rattle.sunlist.specs.SunList.{minute, window-fits, first-failing, numbers, answered, written}
+use Rattle.sunlist.specs.machine.Window.{asked-at}
+use Rattle.sunlist.proofs.Failing.{none-fails}
 
 -- ---- fits
 
@@ -52,6 +56,29 @@ module _ (t : ℤ) (j : ℕ) (w : ℤ) (ht : natAbs t ≤ t-limit) (hj : j < mos
 
   pub minute-is : (r : ℤ) → r ≡ Cell t +ℤ Cell w → Cell r ≡ t +ℤ pos (minute-ms * j)
   minute-is r f = let p = f ∙ later in cell r (subst (λ (z : ℤ). natAbs z < 2 ^ 63) (sym p) small) ∙ p
+
+-- ---- first_far
+
+pub good-asked : (t0 : Instant) (n : ℕ) (wide : Bool) → wide ≡ true → n ≡ first-failing (asked-at t0 wide) 0 n
+good-asked t0 n wide e = sym (none-fails (asked-at t0 wide) 0 n (λ i l. rw e (or-true (near (minute t0 i .ms)))) ∙ zero-plus n)
+  where
+    or-true : (b : Bool) → (b || true) ≡ true
+    or-true true = refl
+    or-true false = refl
+
+    zero-plus : (n : ℕ) → 0 + n ≡ n
+    zero-plus n = omega arith
+
+-- b is what the test answered at minute j, of series that are not both good, and the caller branched on its negation.
+module _ (t0 : Instant) (wide : Bool) (w : wide ≡ false) (j : ℕ) (t : Instant) (e : t ≡ minute t0 j) (b : Bool) (h : b ≡ near (t .ms)) where
+  near-is : near (minute t0 j .ms) ≡ near (t .ms)
+  near-is = ap (λ (s : Instant). near (s .ms)) (sym e)
+
+  pub far-unasked : not b ≡ true → asked-at t0 wide j ≡ false
+  far-unasked f = ap₂ _||_ (near-is ∙ told-past near-limit (t .ms) b h f) w
+
+  pub near-asked : not b ≡ false → asked-at t0 wide j ≡ true
+  near-asked f = ap₂ _||_ (near-is ∙ told-within near-limit (t .ms) b h f) w
 
 -- ---- write_runs
 pub no-room : (xs out : List ℕ) (n : ℕ) → n ≡ length xs → length out < n → (NoList (NoRoom n) ≡ answered (length out) (numbers xs))

@@ -5,7 +5,8 @@ ghost use lib.IntN.{pos, natAbs};
 ghost use lib.ListN.{length};
 ghost use Rattle.units.specs.Units.{t-limit};
 ghost use Rattle.runs.specs.Runs.{run-numbers, most-minutes};
-ghost use Rattle.sunlist.specs.SunList.{window-fits, minute as minute-of, flag-of, numbers, answered, written};
+ghost use Rattle.sunlist.specs.SunList.{window-fits, minute as minute-of, first-failing, flag-of, numbers, answered, written};
+ghost use Rattle.sunlist.specs.machine.Window.{asked-at};
 use crate::Decision;
 use crate::ListAnswer;
 use arith::signed::add;
@@ -15,6 +16,7 @@ use runs::MOST_MINUTES;
 use units::Instant;
 use units::MINUTE_MS;
 use units::Refusal;
+use units::near;
 
 // separation/specs/Arcminutes.antt and specs/SunList.antt have the same constants under the same names.
 
@@ -54,6 +56,25 @@ pub fn minute(t0: Instant, j: u64) -> Instant
 {
     let ms = add(t0.ms, wide(MINUTE_MS * j));
     Instant { ms }
+}
+
+// The first of n minutes at which two series may not both be asked, or n. `wide` tells whether both are good for the wide range: then no minute is
+// looked for, and otherwise the first far one.
+pub fn first_far(t0: Instant, n: usize, wide: bool) -> usize
+    requires { ⌜ (natAbs (t0 .ms) ≤ t-limit) × (n ≤ most-minutes) ⌝ }
+    ensures { λ r. ⌜ r ≡ first-failing (asked-at t0 wide) 0 n ⌝ }
+{
+    if wide {
+        return n;
+    }
+    let mut j = 0;
+    while j < n {
+        if !near(minute(t0, j as u64)) {
+            return j;
+        }
+        j = j + 1;
+    }
+    j
 }
 
 // The flag of a decision.

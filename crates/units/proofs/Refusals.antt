@@ -9,7 +9,7 @@ use Rattle.units.specs.Refusals.{number, figure, reader-numbers, of-numb
 use Rattle.units.specs.Refusals.{over-limit, total-over-limit, too-coarse, no-room, ended-early, byte-after-end, bad-heading, bad-number}
 use Rattle.units.specs.declared.Refusal.{Refusal}
 use Rattle.units.specs.declared.Refusal.the-variants.{NoSuchDate, PastLimit, BadByte, OverLimit, TotalOverLimit, TooCoarse}
-use Rattle.units.specs.declared.Refusal.the-variants.{NoRoom, EndedEarly, ByteAfterEnd, NotShortest, NotUsable, BadWindow, BadHeading, BadNumber}
+use Rattle.units.specs.declared.Refusal.the-variants.{NoRoom, EndedEarly, ByteAfterEnd, NotShortest, NotUsable, BadWindow, BadHeading, BadNumber, TooFar}
 
 pub number-positive : (r : Refusal) → 1 ≤ number r
 number-positive (NoSuchDate field) = lit≤ tt
@@ -26,6 +26,7 @@ number-positive (NotUsable minute) = lit≤ tt
 number-positive BadWindow = lit≤ tt
 number-positive (BadHeading at) = lit≤ tt
 number-positive (BadNumber at) = lit≤ tt
+number-positive (TooFar t) = lit≤ tt
 
 pub number-back : (at : ℕ) → map (λ (n : ℕ). number (of-number n at)) reader-numbers ≡ reader-numbers
 unfolding of-number

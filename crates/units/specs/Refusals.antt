@@ -8,7 +8,7 @@ use Rattle.units.specs.declared.Figure.{Figure}
 use Rattle.units.specs.declared.Figure.the-variants.{Count, Time}
 use Rattle.units.specs.declared.Refusal.{Refusal}
 use Rattle.units.specs.declared.Refusal.the-variants.{NoSuchDate, PastLimit, BadByte, OverLimit, TotalOverLimit, TooCoarse}
-use Rattle.units.specs.declared.Refusal.the-variants.{NoRoom, EndedEarly, ByteAfterEnd, NotShortest, NotUsable, BadWindow, BadHeading, BadNumber}
+use Rattle.units.specs.declared.Refusal.the-variants.{NoRoom, EndedEarly, ByteAfterEnd, NotShortest, NotUsable, BadWindow, BadHeading, BadNumber, TooFar}
 
 -- The numbers. src/lib.rt has the same names.
 abbrev pub no-such-date : ℕ
@@ -53,6 +53,9 @@ bad-heading = 13
 abbrev pub bad-number : ℕ
 bad-number = 14
 
+abbrev pub too-far : ℕ
+too-far = 17
+
 -- The number of a refusal.
 abbrev pub number : Refusal → ℕ
 number (NoSuchDate field) = no-such-date
@@ -69,6 +72,7 @@ number (NotUsable minute) = not-usable
 number BadWindow = bad-window
 number (BadHeading at) = bad-heading
 number (BadNumber at) = bad-number
+number (TooFar t) = too-far
 
 -- What comes with it.
 abbrev pub figure : Refusal → ℤ
@@ -86,6 +90,7 @@ figure (NotUsable minute) = pos minute
 figure BadWindow = pos 0
 figure (BadHeading at) = pos at
 figure (BadNumber at) = pos at
+figure (TooFar t) = t .ms
 
 -- The numbers that the readers of texts and of published files give, and the refusal of such a number, at an offset. Of any other number, which
 -- no reader's state holds that a call gave, it is that of a bad byte.
@@ -105,7 +110,7 @@ of-number n at =
     (cond (eqb n bad-number) (BadNumber at)
     (BadByte at))))))))
 
--- A figure of the code as a whole number; the instant of refusal 2 may be negative.
+-- A figure of the code as a whole number; the instant of refusals 2 and 17 may be negative.
 abbrev pub whole : Figure → ℤ
 whole (Count n) = pos n
 whole (Time t) = t .ms

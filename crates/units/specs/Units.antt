@@ -20,16 +20,29 @@ minute-ms = 60000
 abbrev pub millennium : ℕ
 millennium = 31557600000000
 
--- The greatest |tau|, and the greatest |t|: two millennia.
+-- The greatest |tau|, and the greatest |t|: four millennia.
 abbrev pub tau-limit : ℕ
-tau-limit = 2
+tau-limit = 4
 
 abbrev pub t-limit : ℕ
 t-limit = tau-limit * millennium
 
--- t does not pass its limit.
-unfoldable pub in-limit : ℤ → Bool
-in-limit t = leb (natAbs t) t-limit
+-- Two millennia, up to which every series may be asked: the near range. What lies beyond is far.
+abbrev pub near-tau : ℕ
+near-tau = 2
+
+abbrev pub near-limit : ℕ
+near-limit = near-tau * millennium
+
+-- |t| is at most so many milliseconds; t does not pass its limit; t is not far.
+unfoldable pub within : ℕ → ℤ → Bool
+within limit t = leb (natAbs t) limit
+
+abbrev pub in-limit : ℤ → Bool
+in-limit t = within t-limit t
+
+abbrev pub near : ℤ → Bool
+near t = within near-limit t
 
 -- The turn P and its quarter, in 10^-16 radian; how many of these a part has, and the step to the working angle w.
 abbrev pub quarter : ℕ
@@ -101,3 +114,14 @@ coarse-base = 32 * U
 
 abbrev pub coarse-limit : ℕ
 coarse-limit = 200000000000000
+
+-- What makes a series good for the wide range, beyond two millennia too: the total |a| of each block is at most `wide-total`, and the coarseness
+-- rule holds with another |tau| and another base.
+abbrev pub wide-total : ℕ
+wide-total = 50000 * parts
+
+abbrev pub wide-tau : ℕ
+wide-tau = 4
+
+abbrev pub wide-base : ℕ
+wide-base = 342 * U

@@ -1,6 +1,6 @@
 // What every crate above shares: the constants of the rules, the instant, the coordinates of a body, and the refusals.
 ghost use mathlib.Core.Path.{_≡_};
-ghost use Rattle.units.specs.Units.{in-limit};
+ghost use Rattle.units.specs.Units.{in-limit, near as near-of};
 ghost use Rattle.units.specs.Refusals.{number, figure, of-number, whole};
 
 // specs/Units.antt has these constants under the same names.
@@ -18,10 +18,15 @@ pub const MINUTE_MS: u64 = 60000;
 pub const MILLENNIUM: u64 = 31557600000000;
 
 // The greatest |tau|.
-pub const TAU_LIMIT: u64 = 2;
+pub const TAU_LIMIT: u64 = 4;
 
 // The greatest |t|, in milliseconds.
 pub const T_LIMIT: u64 = TAU_LIMIT * MILLENNIUM;
+
+// The near range, up to which every series may be asked: |tau|, and |t| in milliseconds.
+pub const NEAR_TAU: u64 = 2;
+
+pub const NEAR_LIMIT: u64 = NEAR_TAU * MILLENNIUM;
 
 // A quarter turn, in 10^-16 radian.
 pub const QUARTER: u64 = 15707963267948966;
@@ -69,16 +74,27 @@ pub const COARSE_BASE: u64 = 32 * U;
 
 pub const COARSE_LIMIT: u64 = 200000000000000;
 
+// What makes a series good for the wide range: the greatest total |a| of a block, and what the coarseness rule has there for the factor of a power
+// and for what a coordinate begins with.
+pub const WIDE_TOTAL: u64 = 50000 * PARTS;
+
+pub const WIDE_TAU: u64 = 4;
+
+pub const WIDE_BASE: u64 = 342 * U;
+
 // An instant of TD: whole milliseconds from 2000-01-01 12h, negative before.
 pub struct Instant {
     pub ms: i64,
 }
 
-// The last instant, in milliseconds.
+// The last instant and the first one, in milliseconds; and of the near range.
 const LATEST: i64 = T_LIMIT as i64;
 
-// The first one.
 const EARLIEST: i64 = -LATEST;
+
+const NEAR_LATEST: i64 = NEAR_LIMIT as i64;
+
+const NEAR_EARLIEST: i64 = -NEAR_LATEST;
 
 // Whether an instant is within its limit.
 pub fn in_limit(t: Instant) -> bool
@@ -88,6 +104,16 @@ pub fn in_limit(t: Instant) -> bool
         return false;
     }
     t.ms <= LATEST
+}
+
+// Whether it is within two millennia, where every series may be asked.
+pub fn near(t: Instant) -> bool
+    ensures { λ r. ⌜ r ≡ near-of (t .ms) ⌝ }
+{
+    if t.ms < NEAR_EARLIEST {
+        return false;
+    }
+    t.ms <= NEAR_LATEST
 }
 
 // L, B and R of a body at an instant, in parts (10^-11 radian or AU). A longitude keeps its whole turns.
@@ -132,6 +158,8 @@ pub enum Refusal {
     BadHeading(usize),
     // 14: the offset of the line feed of a record whose running number is wrong.
     BadNumber(usize),
+    // 17: an instant beyond two millennia, with a series that is not good for the wide range.
+    TooFar(Instant),
 }
 
 // The number of each refusal, which users see and a reader that has stopped holds; specs/Refusals.antt has the same names.
@@ -163,6 +191,8 @@ pub const BAD_HEADING: u64 = 13;
 
 pub const BAD_NUMBER: u64 = 14;
 
+pub const TOO_FAR: u64 = 17;
+
 // What comes with a refusal: a count (of bytes, of fields, of minutes), or an instant.
 pub enum Figure {
     Count(u64),
@@ -188,6 +218,7 @@ impl Refusal {
             Refusal::BadWindow => BAD_WINDOW,
             Refusal::BadHeading(_) => BAD_HEADING,
             Refusal::BadNumber(_) => BAD_NUMBER,
+            Refusal::TooFar(_) => TOO_FAR,
         }
     }
 
@@ -209,6 +240,7 @@ impl Refusal {
             Refusal::BadWindow => Figure::Count(0),
             Refusal::BadHeading(at) => Figure::Count(at as u64),
             Refusal::BadNumber(at) => Figure::Count(at as u64),
+            Refusal::TooFar(t) => Figure::Time(t),
         }
     }
 

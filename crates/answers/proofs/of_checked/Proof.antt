@@ -8,24 +8,24 @@ use Rattle.answers.proofs.of_checked.Tie as tie
 enum-known-a : tie.Need-enum-known-a
 enum-known-a c = search needs
 
-counted-requires : tie.Need-counted-requires
-counted-requires c κs = search needs
+of-content-requires : tie.Need-of-content-requires
+of-content-requires c κs = search needs
 
 enum-known-a-2 : tie.Need-enum-known-a-2
 enum-known-a-2 c = search needs
 
-refused-one-requires : tie.Need-refused-one-requires
-refused-one-requires c κs = search needs
+refused-examined-requires : tie.Need-refused-examined-requires
+refused-examined-requires c κs = search needs
 
 returns : tie.Need-returns
 unfolding checked-shown
-returns c = c .counted .ensures ∙ ap checked-shown (sym (c .before .before .a .given .1))
+returns c = c .of-content .ensures ∙ ap checked-shown (sym (c .before .before .a .given .1))
 
 returns-2 : tie.Need-returns-2
 unfolding checked-shown
-returns-2 c = c .refused-one .ensures ∙ ap checked-shown (sym (c .before .before .a2 .given .1))
+returns-2 c = c .refused-examined .ensures ∙ ap checked-shown (sym (c .before .before .a2 .given .1))
 
 pub of-checked-spec : {M : Type 1} → statement M
 of-checked-spec =
     tie.close
-    (tie.spec enum-known-a counted-requires enum-known-a-2 refused-one-requires returns returns-2)
+    (tie.spec enum-known-a of-content-requires enum-known-a-2 refused-examined-requires returns returns-2)

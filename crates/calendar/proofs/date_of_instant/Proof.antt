@@ -16,10 +16,10 @@ in-limit-requires : tie.Need-in-limit-requires
 in-limit-requires c κs = search needs
 
 returns : tie.Need-returns
-returns c = moment-past _ (told-past _ _ (c .before .in-limit .ensures) (c .if1 .taken))
+returns c = moment-past _ (told-past _ _ _ (c .before .in-limit .ensures) (c .if1 .taken))
 
 since-start-requires : tie.Need-since-start-requires
-since-start-requires c κs = let e = c .before in rw (ms-back c) (told-size _ _ (e .before .in-limit .ensures) (e .if1 .left))
+since-start-requires c κs = let e = c .before in rw (ms-back c) (told-size _ _ _ (e .before .in-limit .ensures) (e .if1 .left))
 
 plain-date-requires : tie.Need-plain-date-requires
 plain-date-requires c κs = search needs
@@ -32,7 +32,7 @@ returns-2 c =
     let u = c .before .before in
     let k = u .before in
     let e = k .before in
-    moment-given _ _ _ _ (told-within _ _ (e .before .in-limit .ensures) (e .if1 .left)) (rw (ms-back k) at (u .since-start .ensures .0))
+    moment-given _ _ _ _ (told-within _ _ _ (e .before .in-limit .ensures) (e .if1 .left)) (rw (ms-back k) at (u .since-start .ensures .0))
     (u .since-start .ensures .1) (c .before .plain-date .ensures) (c .wide .ensures)
 
 pub date-of-instant-spec : {M : Type 1} → statement M

@@ -1,6 +1,6 @@
 -- `instant_of_date` meets its contract. Assumes nothing.
-use mathlib.Core.Path.{_≡_, sym, _∙_}
-use lib.IntN.{pos}
+use mathlib.Core.Path.{_≡_, sym, ap, _∙_}
+use lib.IntN.{ℤ, pos}
 use mir.Syntax.{w64}
 use mir.Val.{toZ, ofZ}
 use native.Mathlib.Omega.{arith}
@@ -24,7 +24,7 @@ noon-is : (c : tie.After-noon-of-date) → let s = c .before .before .before .ar
 noon-is c = let s = c .before .before .before in rw (back _ (s .fits .year), back _ (s .fits .month), back _ (s .fits .day)) at (c .noon-of-date .ensures .0)
 
 ms-is : (c : tie.After-natural-or) → c .natural-or .result ≡ natural-or (c .before .before .before .before .args .ms) 0
-ms-is c = rw (back _ (c .before .before .before .before .fits .ms)) at (c .natural-or .ensures)
+ms-is c = c .natural-or .ensures ∙ ap (λ (ms : ℤ). natural-or ms 0) (back _ (c .before .before .before .before .fits .ms))
 
 t-back : (c : tie.After-instant-at) → toZ w64 (ofZ w64 (c .instant-at .result)) ≡ c .instant-at .result
 t-back c = back _ (ok (c .instant-at .ok))
@@ -59,7 +59,7 @@ returns-2 c =
     let e = n .before in
     rw (t-back i)
     (instant-past _ _ _ _ _ (bad-is (e .before)) (e .if1 .left) _ _ (noon-is n) (ms-is (i .before)) _ (i .instant-at .ensures)
-    (told-past _ _ (rw (t-back i) at (l .in-limit .ensures)) (c .if2 .taken)))
+    (told-past _ _ _ (rw (t-back i) at (l .in-limit .ensures)) (c .if2 .taken)))
 
 returns-3 : tie.Need-returns-3
 returns-3 c =
@@ -69,7 +69,7 @@ returns-3 c =
     let e = n .before in
     rw (t-back i)
     (instant-given _ _ _ _ _ (bad-is (e .before)) (e .if1 .left) _ _ (noon-is n) (ms-is (i .before)) _ (i .instant-at .ensures)
-    (told-within _ _ (rw (t-back i) at (l .in-limit .ensures)) (c .if2 .left)))
+    (told-within _ _ _ (rw (t-back i) at (l .in-limit .ensures)) (c .if2 .left)))
 
 pub instant-of-date-spec : {M : Type 1} → statement M
 instant-of-date-spec =

@@ -1,12 +1,12 @@
 -- `nutation::mean_obliquity_at` meets its contract. Assumes nothing.
 use mathlib.Core.Path.{_≡_, sym, subst}
-use Prim.Native.Nat.{ℕ, _^_, _≤_, _<_}
+use Prim.Native.Nat.{ℕ, _^_, _≤_}
 use native.Mathlib.Omega.{arith}
 use lib.Dec.{lit<, lit≤}
 use lib.IntN.{ℤ, natAbs}
 use borrow.Author.Needs.{needs}
 use Rattle.arith.proofs.Signs.{back, ok}
-use Rattle.units.specs.Units.{millennium, t-limit}
+use Rattle.units.specs.Units.{millennium, tau-limit, t-limit}
 use Rattle.nutation.specs.Nutation.{obliquity-coefficients, mean-obliquity}
 use Rattle.nutation.specs.machine.Reduced.{By, reach}
 use Rattle.nutation.proofs.Polynomials.{polynomial-bound}
@@ -31,9 +31,9 @@ at-polynomial c = let s = c .before .before in rw (back (s .args .t) (s .fits .t
 
 size : (t : ℤ) → natAbs t ≤ t-limit → natAbs (mean-obliquity t) ≤ 2 ^ 34
 unfolding mean-obliquity
-size t h = more (polynomial-bound t millennium (by-tau t h) obliquity-coefficients)
+size t h = more (polynomial-bound tau-limit t millennium (lit< tt) (omega arith) obliquity-coefficients)
   where
-    more : {n : ℕ} → n ≤ reach obliquity-coefficients → n ≤ 2 ^ 34
+    more : {n : ℕ} → n ≤ reach tau-limit obliquity-coefficients → n ≤ 2 ^ 34
     more k = unfold reach in omega arith
 
 returns : tie.Need-returns

@@ -21,10 +21,10 @@ century = millennium / 10
 abbrev pub centuries : ℕ
 centuries = 10 * tau-limit
 
--- No value of a polynomial by n/d with these coefficients is greater, where |n| is at most so many times d.
-unfoldable pub reach : List ℤ → ℕ
-reach [] = 0
-reach (c ∷ cs) = natAbs c + centuries * reach cs
+-- No value of a polynomial by n/d with these coefficients is greater, where |n| is at most k times d.
+unfoldable pub reach : ℕ → List ℤ → ℕ
+reach k [] = 0
+reach k (c ∷ cs) = natAbs c + k * reach k cs
 
 -- What a step by n/d takes: `mul_div_round` asks for 2^47.
 pub record By (n : ℤ) (d : ℕ) : Type 0 where

@@ -132,6 +132,15 @@ slice-aggregate-put-bytes-14 c = search needs
 put-bytes-requires-14 : tie.Need-put-bytes-requires-14
 put-bytes-requires-14 c κs = search needs
 
+enum-told-15 : tie.Need-enum-told-15
+enum-told-15 c = search needs
+
+slice-aggregate-put-bytes-15 : tie.Need-slice-aggregate-put-bytes-15
+slice-aggregate-put-bytes-15 c = search needs
+
+put-bytes-requires-15 : tie.Need-put-bytes-requires-15
+put-bytes-requires-15 c κs = search needs
+
 same-length : tie.Need-same-length
 same-length c = search needs
 
@@ -230,6 +239,13 @@ returns-14 : tie.Need-returns-14
 unfolding words text
 returns-14 c = let p = c .before .before in words-put _ _ _ _ _ _ (p .before .before .before .enum-told14 .given .1) (p .put-bytes14 .ensures)
 
+same-length-15 : tie.Need-same-length-15
+same-length-15 c = search needs
+
+returns-15 : tie.Need-returns-15
+unfolding words text
+returns-15 c = let p = c .before .before in words-put _ _ _ _ _ _ (p .before .before .before .enum-told15 .given .1) (p .put-bytes15 .ensures)
+
 pub put-words-spec : {M : Type 1} → statement M
 put-words-spec =
     tie.close
@@ -276,6 +292,9 @@ put-words-spec =
     enum-told-14
     slice-aggregate-put-bytes-14
     put-bytes-requires-14
+    enum-told-15
+    slice-aggregate-put-bytes-15
+    put-bytes-requires-15
     same-length
     returns
     same-length-2
@@ -303,4 +322,6 @@ put-words-spec =
     same-length-13
     returns-13
     same-length-14
-    returns-14)
+    returns-14
+    same-length-15
+    returns-15)

@@ -3,15 +3,12 @@ use Prim.Native.Nat.{ℕ, _*_, _^_, _≤_}
 use lib.IntN.{pos, natAbs}
 use Rattle.integers.specs.Fractions.{wholeᶠ, Apart}
 use Rattle.units.specs.declared.Coordinates.{Coordinates}
+pub use Rattle.reference_cosine.specs.machine.Angles.{angle-limit}
 use Rattle.separation.specs.Exact.{Exact-coordinates}
 
 -- In parts: twice the 10^-6 within which L, B and R are promised to lie from their exact sums.
 abbrev pub tolerance : ℕ
 tolerance = 2 * 10 ^ 5
-
--- The largest |L| and |B|, in parts: more than an accepted series can give.
-abbrev pub angle-limit : ℕ
-angle-limit = 63 * 10 ^ 16
 
 pub record Near-coordinates (c : Coordinates) (e : Exact-coordinates) : Type 0 where
   pub longitude-limit : natAbs (c .longitude) ≤ angle-limit

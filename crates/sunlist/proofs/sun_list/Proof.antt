@@ -2,6 +2,7 @@
 use Prim.Native.Nat.{ℕ, _-_, _≤_, _<_}
 use native.Mathlib.Omega.{arith}
 use borrow.Author.Tests.{not-true, not-false}
+use Rattle.units.specs.Units.{t-limit}
 use Rattle.units.proofs.Limit.{told-past, told-within, told-size}
 use Rattle.runs.specs.Runs.{most-minutes}
 use Rattle.sunlist.proofs.Calling.{Figures-read, bad-window, in-range, first-refused, last-refused, window, series-told}
@@ -52,7 +53,7 @@ returns-2 c =
     let f = x .before in
     let s = f .before .before .before .before .before .before in
     first-refused (s .args .planet .now) (s .args .earth .now) (s .args .t0) _ _ (s .args .out .now) _ _ _ (read f) (not-false _ (x .if1 .left))
-    (told-past _ _ (i .in-limit .ensures) (c .if2 .taken))
+    (told-past t-limit _ _ (i .in-limit .ensures) (c .if2 .taken))
 
 sub-minute : tie.Need-sub-minute
 sub-minute c =
@@ -70,7 +71,7 @@ minute-requires c κs =
     let n = f .before .before in
     let s = n .before .before .before .before in
     let r = in-range (s .args .planet .now) (s .args .earth .now) (s .args .t0) _ _ (s .args .out .now) _ _ _ (read f) (not-false _ (x .if1 .left)) in
-    (told-size _ (i .in-limit .result) (i .in-limit .ensures) (c .if2 .left), last-few (n .natural-or .result) (r .0) (r .1))
+    (told-size t-limit _ (i .in-limit .result) (i .in-limit .ensures) (c .if2 .left), last-few (n .natural-or .result) (r .0) (r .1))
 
 in-limit-requires-2 : tie.Need-in-limit-requires-2
 in-limit-requires-2 c κs = search needs
@@ -85,8 +86,8 @@ returns-3 c =
     let f = x .before in
     let s = f .before .before .before .before .before .before in
     last-refused (s .args .planet .now) (s .args .earth .now) (s .args .t0) _ _ (s .args .out .now) _ _ _ (read f)
-    (not-false _ (x .if1 .left)) (told-within _ (i .in-limit .result) (i .in-limit .ensures) (y .if2 .left)) (t .minute .result) (t .minute .ensures)
-    (told-past _ _ (j .in-limit2 .ensures) (c .if3 .taken))
+    (not-false _ (x .if1 .left)) (told-within t-limit _ (i .in-limit .result) (i .in-limit .ensures) (y .if2 .left)) (t .minute .result) (t .minute .ensures)
+    (told-past t-limit _ _ (j .in-limit2 .ensures) (c .if3 .taken))
 
 of-series-requires : tie.Need-of-series-requires
 of-series-requires c κs =
@@ -99,8 +100,8 @@ of-series-requires c κs =
     let f = x .before in
     let s = f .before .before .before .before .before .before in
     window (s .args .planet .now) (s .args .earth .now) (s .args .t0) _ _ (s .args .out .now) _ _ _ (read f)
-    (not-false _ (x .if1 .left)) (told-within _ (i .in-limit .result) (i .in-limit .ensures) (y .if2 .left)) (t .minute .result) (t .minute .ensures)
-    (told-within _ (j .in-limit2 .result) (j .in-limit2 .ensures) (z .if3 .left))
+    (not-false _ (x .if1 .left)) (told-within t-limit _ (i .in-limit .result) (i .in-limit .ensures) (y .if2 .left)) (t .minute .result) (t .minute .ensures)
+    (told-within t-limit _ (j .in-limit2 .result) (j .in-limit2 .ensures) (z .if3 .left))
 
 same-length : tie.Need-same-length
 same-length c = search needs
@@ -117,9 +118,8 @@ returns-4 c =
     let f = x .before in
     let s = f .before .before .before .before .before .before in
     series-told (s .args .planet .now) (s .args .earth .now) (s .args .t0) _ _ (s .args .out .now) _ _ _ (read f)
-    (not-false _ (x .if1 .left)) (told-within _ (i .in-limit .result) (i .in-limit .ensures) (y .if2 .left)) (t .minute .result) (t .minute .ensures)
-    (told-within _ (j .in-limit2 .result) (j .in-limit2 .ensures) (z .if3 .left)) (o .of-series .result) _ (o .of-series .ensures .0)
-    (o .of-series .ensures .1)
+    (not-false _ (x .if1 .left)) (told-within t-limit _ (i .in-limit .result) (i .in-limit .ensures) (y .if2 .left)) (t .minute .result) (t .minute .ensures)
+    (told-within t-limit _ (j .in-limit2 .result) (j .in-limit2 .ensures) (z .if3 .left)) (o .of-series .result) _ (o .of-series .ensures)
 
 pub sun-list-spec : {M : Type 1} → statement M
 sun-list-spec =

@@ -7,11 +7,11 @@ use Rattle.place.proofs.bodies.sighting.Statement.{statement}
 use Rattle.place.proofs.bodies.sighting.Tie as tie
 
 -- the table holds the series
-table : (k : tie.After-enum-told) → let f = k .before .before in
-    Series-in (f .before .before .before .before .before .before .args .planet .now) (f .fill .last .1 .0)
+table : (k : tie.After-content) → let f = k .before .before in
+    Series-in (f .before .before .before .before .before .before .args .planet .now) (f .fill .last .1 .0) (k .content .given .0 .0)
 table k =
     let f = k .before .before in
-    series-in _ _ (f .fill .result) _ (k .enum-told .given .1) (f .fill .ensures .0) (f .fill .ensures .1)
+    series-in _ _ (f .fill .result) _ (k .content .given .1) (f .fill .ensures .0) (f .fill .ensures .1)
 
 in-limit-requires : tie.Need-in-limit-requires
 in-limit-requires c κs = search needs
@@ -28,16 +28,17 @@ fill-requires c κs = search needs
 enum-known-r : tie.Need-enum-known-r
 enum-known-r c = search needs
 
-enum-told : tie.Need-enum-told
-enum-told c = search needs
+enum-known-content : tie.Need-enum-known-content
+enum-known-content c = search needs
 
 with-earth-requires : tie.Need-with-earth-requires
 with-earth-requires c κs =
-    let k = c .before in
+    let k = c .before .before in
     let e = k .before .before .before .before in
     let l = e .before in
     let s = l .before .before .before in
-    (time-in (s .args .planet .now) (s .args .earth .now) (s .args .t) (l .in-limit .result) (l .in-limit .ensures) (e .if1 .left), table k .table)
+    let inside = time-in (s .args .planet .now) (s .args .earth .now) (s .args .t) (l .in-limit .result) (l .in-limit .ensures) (e .if1 .left) in
+    (inside, table k .table, table k .wide)
 
 returns-2 : tie.Need-returns-2
 returns-2 c =
@@ -50,7 +51,7 @@ returns-2 c =
 
 returns-3 : tie.Need-returns-3
 returns-3 c =
-    let k = c .before .before in
+    let k = c .before .before .before in
     let e = k .before .before .before .before in
     let l = e .before in
     let s = l .before .before .before in
@@ -65,7 +66,7 @@ sighting-spec =
     returns
     fill-requires
     enum-known-r
-    enum-told
+    enum-known-content
     with-earth-requires
     returns-2
     returns-3)

@@ -1,5 +1,5 @@
 -- `sunlist::list::decide_at` meets its contract. Assumes nothing.
-use Rattle.sunlist.proofs.Listing.{minute-asks, decided}
+use Rattle.sunlist.proofs.Listing.{minute-asks, minute-reached, decided}
 use borrow.Author.Needs.{needs}
 use Rattle.sunlist.proofs.list.decide_at.Statement.{statement}
 use Rattle.sunlist.proofs.list.decide_at.Tie as tie
@@ -10,13 +10,15 @@ minute-requires c κs = search needs
 coordinates-requires : tie.Need-coordinates-requires
 coordinates-requires c κs =
     let s = c .before in
-    (minute-asks (s .args .t0) (s .args .k) (s .args .j) (c .minute .result) (s .pre .0) (c .minute .ensures), s .pre .1)
+    let r = minute-reached _ _ (s .args .t0) (s .args .j) (c .minute .result) (s .pre .1) (c .minute .ensures) in
+    (minute-asks (s .args .t0) (s .args .k) (s .args .j) (c .minute .result) (s .pre .0) (c .minute .ensures), s .pre .1 .planet-table, r .0)
 
 coordinates-requires-2 : tie.Need-coordinates-requires-2
 coordinates-requires-2 c κs =
     let m = c .before in
     let s = m .before in
-    (minute-asks (s .args .t0) (s .args .k) (s .args .j) (m .minute .result) (s .pre .0) (m .minute .ensures), s .pre .2)
+    let r = minute-reached _ _ (s .args .t0) (s .args .j) (m .minute .result) (s .pre .1) (m .minute .ensures) in
+    (minute-asks (s .args .t0) (s .args .k) (s .args .j) (m .minute .result) (s .pre .0) (m .minute .ensures), s .pre .1 .earth-table, r .1)
 
 decide-requires : tie.Need-decide-requires
 decide-requires c κs = search needs

@@ -7,7 +7,7 @@ use borrow.Author.Needs.{needs}
 use Rattle.sunlist.specs.SunList.{flag-of}
 use Rattle.sunlist.specs.machine.Answers.{decided-at}
 use Rattle.sunlist.proofs.Filling.{Filling, filling-none, filling-more, filling-bad, filling-all}
-use Rattle.sunlist.proofs.Listing.{window-less}
+use Rattle.sunlist.proofs.Listing.{window-less, tables-less}
 use Rattle.sunlist.proofs.list.flag_minutes.Statement.{statement}
 use Rattle.sunlist.proofs.list.flag_minutes.Tie as tie
 
@@ -31,8 +31,10 @@ loop-holds c = filling-none _ (c .before .args .window .now)
 decide-at-requires : tie.Need-decide-at-requires Inv-loop μ-loop
 decide-at-requires c κs =
     let l = c .before in
-    let s = l .before .before in
-    (window-less (s .args .t0) (length (s .args .window .now)) (s .args .k) (l .loop .j) (s .pre .0) (below c), s .pre .1, s .pre .2)
+    let s = l .before .before in (
+      window-less (s .args .t0) (length (s .args .window .now)) (s .args .k) (l .loop .j) (s .pre .0) (below c),
+      tables-less (s .args .planet .now) (s .args .earth .now) (s .args .t0) _ (l .loop .j) (s .pre .1) (below c),
+    )
 
 flag-requires : tie.Need-flag-requires Inv-loop μ-loop
 flag-requires c κs = search needs

@@ -1,12 +1,11 @@
 -- `sunlist::list::list_in` meets its contract. Assumes nothing.
-use mathlib.Core.Path.{_≡_, ap, _∙_, subst}
+use mathlib.Core.Path.{_≡_, subst}
 use Prim.Native.Nat.{ℕ, _≤_}
 use lib.ListN.{length, take}
 use Rattle.sunlist.specs.declared.Decision.{Decision}
-use Rattle.sunlist.specs.SunList.{answered, written}
-use Rattle.sunlist.specs.machine.Answers.{decided-at}
+use Rattle.sunlist.specs.machine.Answers.{Tables, decided-at}
 use Rattle.sunlist.specs.machine.Window.{Window}
-use Rattle.sunlist.proofs.Listing.{part-length, part-bad, part-size, part-numbers}
+use Rattle.sunlist.proofs.Listing.{answers-as, part-length, part-bad, part-size, part-numbers}
 use borrow.Author.Needs.{needs}
 use Rattle.sunlist.proofs.list.list_in.Statement.{statement}
 use Rattle.sunlist.proofs.list.list_in.Tie as tie
@@ -26,8 +25,10 @@ slice-aggregate-flag-minutes c = part (c .before .before .before)
 
 flag-minutes-requires : tie.Need-flag-minutes-requires
 flag-minutes-requires c κs =
-    let s = c .before .before .before in
-    (subst (λ (m : ℕ). Window (s .args .t0) m (s .args .k)) (part s) (s .pre .1), s .pre .2, s .pre .3)
+    let s = c .before .before .before in (
+      subst (λ (m : ℕ). Window (s .args .t0) m (s .args .k)) (part s) (s .pre .1),
+      subst (λ (m : ℕ). Tables (s .args .planet .now) (s .args .earth .now) (s .args .t0) m) (part s) (s .pre .2),
+    )
 
 same-length : tie.Need-same-length
 same-length c = search needs
@@ -69,10 +70,10 @@ returns-2 c =
     let w = c .before .before in
     let f = c .before .before .before .before .before .before .before .before in
     let s = f .before .before .before .before in
-    let o =
-    part-numbers (minutes s) (s .args .n) _ (f .flag-minutes .result) (f .flag-minutes .last .0) (s .args .room .now) (s .args .out .now)
-    (f .flag-minutes .ensures) (part s) (w .before .before .before .if1 .left) in
-    (w .write-runs .ensures .0 ∙ ap (answered (length (s .args .out .now))) o, w .write-runs .ensures .1 ∙ ap (written (s .args .out .now)) o)
+    answers-as _ _ _ _ _
+    (part-numbers (minutes s) (s .args .n) _ (f .flag-minutes .result) (f .flag-minutes .last .0) (s .args .room .now) (s .args .out .now)
+    (f .flag-minutes .ensures) (part s) (w .before .before .before .if1 .left))
+    (w .write-runs .ensures)
 
 pub list-in-spec : {M : Type 1} → statement M
 list-in-spec =

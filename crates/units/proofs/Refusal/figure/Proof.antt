@@ -42,6 +42,9 @@ enum-known-self-12 c = search needs
 enum-known-self-13 : tie.Need-enum-known-self-13
 enum-known-self-13 c = search needs
 
+enum-known-self-14 : tie.Need-enum-known-self-14
+enum-known-self-14 c = search needs
+
 enum-told : tie.Need-enum-told
 enum-told c = search needs
 
@@ -87,6 +90,9 @@ returns-13 c = cc
 returns-14 : tie.Need-returns-14
 returns-14 c = cc
 
+returns-15 : tie.Need-returns-15
+returns-15 c = search needs
+
 pub figure-spec : {M : Type 1} → statement M
 figure-spec =
     tie.close
@@ -105,6 +111,7 @@ figure-spec =
     enum-told
     enum-known-self-12
     enum-known-self-13
+    enum-known-self-14
     returns
     returns-2
     returns-3
@@ -118,4 +125,5 @@ figure-spec =
     returns-11
     returns-12
     returns-13
-    returns-14)
+    returns-14
+    returns-15)
