@@ -16,7 +16,7 @@ VERSION := $(shell sed -n 's/^version = "\(.*\)"/\1/p' host/Cargo.toml | head -n
 ARCHIVE = target/staticlib/libstephylax.a
 INNER = target/staticlib/libinner_rules.a
 COMMAND = host/target/release/stephylax
-SONAME = libstephylax.so.0
+SONAME = libstephylax.so.1
 SHARED = target/shared/libstephylax.so.$(VERSION)
 MADE = target/install/stephylax.pc target/install/stephylax.1
 SERIES = $(wildcard data/vsop87d/*.txt)

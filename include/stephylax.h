@@ -17,7 +17,7 @@
  *    1   year, month, day (the skipped days of 1582 too), ms or a day         first bad field, 1 to 4 in that order;
  *        number does not exist                                                5 for a day number
  *    2   the instant asked for, or the one that the light left at, is more    that instant
- *        than two millennia from 0
+ *        than four millennia from 0
  *    3   no line goes on with this byte of a text or a published file         its offset
  *    4   a number is too large, a count is too large, or a packed number      offset *
  *        has more than nine groups
@@ -36,13 +36,21 @@
  *   13   a heading of a published file is out of order, or its version is     offset *
  *        not 4, or there is no such block
  *   14   a running number of a published file does not come next              offset *
+ *   17   the instant asked for, or the one that the light left at, is more    that instant; of a list the first
+ *        than two millennia from 0, and a series of the call is not good      such one in the window
+ *        for the wide range
  *
  * Offsets count bytes from 0 at the beginning of the whole input. The offset * of a text or a published file is that of the line
  * feed which ends the line, or its length where the end is refused; that of a packed series is that of the number's last byte (of the
  * ninth, if the number goes past nine groups).
  *
- * Units: t is in whole milliseconds of TD from 2000-01-01 12h, negative before, and at most 63,115,200,000,000 (two
+ * Units: t is in whole milliseconds of TD from 2000-01-01 12h, negative before, and at most 126,230,400,000,000 (four
  * millennia) from 0. Parts are 10^-11 radian or AU. "Rules" names the section of docs/RULES.md.
+ *
+ * Range: every good series may be asked up to 63,115,200,000,000 (two millennia) from 0, that instant included, and beyond only if it is
+ * good for the wide range: the amplitudes of none of its blocks total more than 50,000, half of what a block may have, and its terms are
+ * so few and so small that over four millennia, too, they can be summed within 10^-6. stephylax_check tells which it is. A series that
+ * is not good for the wide range is a good series all the same, and no function refuses it for that alone.
  */
 #ifndef STEPHYLAX_H
 #define STEPHYLAX_H
@@ -81,7 +89,8 @@ enum stephylax_refusal {
     STEPHYLAX_NOT_USABLE = 11,
     STEPHYLAX_BAD_WINDOW = 12,
     STEPHYLAX_BAD_HEADING = 13,
-    STEPHYLAX_BAD_NUMBER = 14
+    STEPHYLAX_BAD_NUMBER = 14,
+    STEPHYLAX_TOO_FAR = 17
 };
 
 /* What was done to a byte of a mended text: the second of the two numbers that a change has. */
@@ -104,7 +113,7 @@ typedef struct { uint64_t refusal; int64_t figure; int64_t year, month, day, ms;
 typedef struct { uint64_t refusal; int64_t figure; int64_t t; } stephylax_instant;
 typedef struct { uint64_t refusal; int64_t figure; int64_t length; } stephylax_written;
 typedef struct { uint64_t refusal; int64_t figure; int64_t length; int64_t accepted; } stephylax_answer;
-typedef struct { uint64_t refusal; int64_t figure; int64_t terms; } stephylax_checked;
+typedef struct { uint64_t refusal; int64_t figure; int64_t terms; int64_t wide; } stephylax_checked;
 typedef struct { uint64_t refusal; int64_t figure; int64_t longitude, latitude, radius; } stephylax_coordinates;
 typedef struct { uint64_t refusal; int64_t figure; int64_t right_ascension, declination, distance; } stephylax_place;
 typedef struct { uint64_t refusal; double right_ascension, declination, distance; } stephylax_mount;
@@ -141,7 +150,7 @@ stephylax_date stephylax_date_of_day(int64_t day_number);
  *   Given     year, month, day, ms  a date, and milliseconds since its midnight, 0 to 86,399,999
  *   Returned  t
  *   Refused   1, then 2
- *   Range     -1-12-19 12h to 4000-01-16 12h
+ *   Range     -2001-12-19 12h to 6000-01-31 12h
  *   Rules     Calendar
  */
 STEPHYLAX_MUST_USE
@@ -152,7 +161,7 @@ stephylax_instant stephylax_instant_of_date(int64_t year, int64_t month, int64_t
  *   Given     t
  *   Returned  year, month, day, ms
  *   Refused   2
- *   Range     |t| at most 63,115,200,000,000
+ *   Range     |t| at most 126,230,400,000,000
  *   Rules     Calendar
  */
 STEPHYLAX_MUST_USE
@@ -248,6 +257,7 @@ stephylax_answer stephylax_published_answer(stephylax_published state);
  * stephylax_check: whether packed bytes are a good series.
  *   Given     packed, n
  *   Returned  terms                 how many terms the series has
+ *             wide                  1 if it is good for the wide range, else 0
  *   Refused   the first of 4, 5, 6, 8, 9, 10
  *   Store     series stored end to end, with nothing between them: give the bytes from where one begins to the end of the store.
  *             Refusal 9: the figure is the length of this series, and the next one begins so many bytes further on. Refusal 0: this is
@@ -275,7 +285,7 @@ stephylax_written stephylax_print(const uint8_t *packed, size_t n, uint8_t *text
  *   Given     packed, n, t
  *   Returned  longitude, latitude   parts of a radian; the longitude keeps its whole turns
  *             radius                parts of an AU
- *   Refused   2, then as stephylax_check
+ *   Refused   2, then as stephylax_check, then 17
  *   Range     within 10^-6 (radian or AU) of the exact sum of the series
  *   Rules     Working cosine and sums
  */
@@ -287,7 +297,7 @@ stephylax_coordinates stephylax_coordinates_at(const uint8_t *packed, size_t n, 
  *   Given     planet, np, earth, ne, t   both packed series
  *   Returned  right_ascension, declination   hundredths of an arcsecond
  *             distance                       parts of an AU, at t
- *   Refused   2, the planet's series, Earth's series, 11, then 2 and 11 at the earlier instant
+ *   Refused   2, the planet's series, Earth's series, 17, 11, then 2, 17 and 11 at the earlier instant
  *   Range     both radii 0.1 to 64 AU, distance at least 0.1 AU and a sixteenth of the sum of both radii
  *   Rules     Places
  */
@@ -312,8 +322,8 @@ stephylax_mount stephylax_mount_place(const uint8_t *planet, size_t np, const ui
  *             keep_out                   arcminutes
  *             runs, room                 output, in numbers; 1,440 always do
  *   Returned  length                     how many numbers: first and last minute of each run of listed minutes, ascending
- *   Refused   12, 2 (first, then last minute), the planet's series, Earth's series, 11 at the first bad minute, 7 with the
- *             count of numbers it would need
+ *   Refused   12, 2 (first, then last minute), the planet's series, Earth's series, 17 with the first instant beyond two millennia,
+ *             11 at the first bad minute, 7 with the count of numbers it would need
  *   Range     every minute within keep_out by the exact sums is in a run, and none farther out than keep_out + 2
  *   Rules     Sun list
  */

@@ -55,11 +55,11 @@ for kind in static shared; do
     same "the $kind program" "$(LD_LIBRARY_PATH=$prefix/lib ./$kind)" "shut from minute 296 to 1439"
 done
 same "what the static program needs" "$(needs static)" ""
-same "what the shared program needs" "$(needs shared)" libstephylax.so.0
+same "what the shared program needs" "$(needs shared)" libstephylax.so.1
 ./static >/dev/null || fail "the static program runs only with the library beside it"
 
 # The shared library exports the functions of the header and nothing else, and has no text to relocate.
-library=$prefix/lib/libstephylax.so.0
+library=$prefix/lib/libstephylax.so.1
 exported=$(nm -D --defined-only "$library" | awk '{ print $3 }' | sort)
 declared=$(sed -n 's/^stephylax_[a-z]* \(stephylax_[a-z_]*\)(.*/\1/p' "$prefix/include/stephylax.h" | sort)
 same "what is exported" "$exported" "$declared"

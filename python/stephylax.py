@@ -8,10 +8,11 @@ cannot be changed, a bytearray that another thread holds can.
 
 An instant is a whole number of milliseconds of TD from 2000-01-01 12h, or a date: (year, month, day) or (year, month, day, ms),
 Julian through 1582-10-04 and Gregorian from 1582-10-15, with a year 0; or a datetime.date or datetime.datetime from 1582-10-15
-on, without a time zone, which is read as TD. What the library cannot be asked is a ValueError, TypeError or OverflowError;
+on, without a time zone, which is read as TD. It may be four millennia away on either side; beyond two the series have to be good
+for the wide range, which `check` tells. What the library cannot be asked is a ValueError, TypeError or OverflowError;
 an output that is read only, or memory that is not contiguous, is a BufferError.
 
-The library is the file that the environment variable STEPHYLAX_LIBRARY names; else libstephylax.so.0 beside this module, in
+The library is the file that the environment variable STEPHYLAX_LIBRARY names; else libstephylax.so.1 beside this module, in
 `target/shared` of its repository, in `lib` of a folder above it (of the prefix that it is installed under), or where the system
 looks. The larger calls take up to 410 kB of stack: in a thread with too little of it they raise a RuntimeError.
 """
@@ -25,11 +26,11 @@ import pathlib
 import threading
 from typing import NamedTuple, Optional
 
-__version__ = "0.1.0"
+__version__ = "0.2.0"
 
 __all__ = [
-    "Answer", "Change", "Coordinates", "Date", "Fate", "Mended", "Moment", "Mount", "Place", "PublishedReader", "Refusal", "Refused",
-    "Run", "TextReader", "apparent_place", "check", "coordinates_at", "date_of_day", "date_of_instant", "day_of_date",
+    "Answer", "Change", "Checked", "Coordinates", "Date", "Fate", "Mended", "Moment", "Mount", "Place", "PublishedReader", "Refusal",
+    "Refused", "Run", "TextReader", "apparent_place", "check", "coordinates_at", "date_of_day", "date_of_instant", "day_of_date",
     "instant_of_date", "mend", "mount_place", "print_text", "read_published", "read_text", "sun_list",
 ]
 
@@ -51,11 +52,12 @@ class Refusal(enum.IntEnum):
     BAD_WINDOW = 12
     BAD_HEADING = 13
     BAD_NUMBER = 14
+    TOO_FAR = 17
 
 
 _WORDS = {
     Refusal.NO_SUCH_DATE: "the date, the time of day or the day number does not exist",
-    Refusal.PAST_LIMIT: "the instant is more than two millennia from 2000-01-01 12h TD; the figure is the instant",
+    Refusal.PAST_LIMIT: "the instant is more than four millennia from 2000-01-01 12h TD; the figure is the instant",
     Refusal.BAD_BYTE: "a byte cannot continue its line; the figure is its offset",
     Refusal.OVER_LIMIT: "a number or a count passes its limit; the figure is the offset",
     Refusal.TOTAL_OVER_LIMIT: "the amplitudes of a block total more than 100,000; the figure is the offset",
@@ -69,6 +71,8 @@ _WORDS = {
     Refusal.BAD_WINDOW: "the keep-out is outside 60 to 2,700 arcminutes, or the minutes are outside 1 to 1,440",
     Refusal.BAD_HEADING: "a heading is out of order, of no block, or not of version 4 (VSOP87D); the figure is the offset",
     Refusal.BAD_NUMBER: "a running number does not come next; the figure is the offset",
+    Refusal.TOO_FAR: "the instant is more than two millennia from 2000-01-01 12h TD, and a series is not good for that; the figure is the "
+    "instant, of a list the first such one",
 }
 
 _FIELDS = {
@@ -115,6 +119,13 @@ class Moment(NamedTuple):
         """The same moment as a datetime.datetime (of TD), which has none before 1582-10-15."""
         _modern(self)
         return datetime.datetime(*self[:3]) + datetime.timedelta(milliseconds=self.ms)
+
+
+class Checked(NamedTuple):
+    """A good series: how many terms it has, and whether it is good for the wide range, beyond two millennia."""
+
+    terms: int
+    wide: bool
 
 
 class Coordinates(NamedTuple):
@@ -188,12 +199,12 @@ def _paths():
         return [pathlib.Path(named).absolute()]
     here = pathlib.Path(__file__).resolve().parent
     folders = [here, here.parent / "target" / "shared"] + [above / "lib" for above in here.parents]
-    return [folder / "libstephylax.so.0" for folder in folders]
+    return [folder / "libstephylax.so.1" for folder in folders]
 
 
 def _load():
     paths = _paths()
-    path = next((path for path in paths if path.is_file()), paths[0] if len(paths) == 1 else "libstephylax.so.0")
+    path = next((path for path in paths if path.is_file()), paths[0] if len(paths) == 1 else "libstephylax.so.1")
     try:
         return ctypes.CDLL(str(path))
     except OSError as error:
@@ -214,7 +225,7 @@ def _answer(*names):
 _I64, _SIZE, _POINTER = ctypes.c_int64, ctypes.c_size_t, ctypes.c_void_p
 _SLICE = [_POINTER, _SIZE]
 _DAY, _DATE, _INSTANT = _answer("day_number"), _answer("year", "month", "day", "ms"), _answer("t")
-_WRITTEN, _CHECKED, _STANDING = _answer("length"), _answer("terms"), _answer("length", "accepted")
+_WRITTEN, _CHECKED, _STANDING = _answer("length"), _answer("terms", "wide"), _answer("length", "accepted")
 _COORDINATES, _PLACE = _answer("longitude", "latitude", "radius"), _answer("right_ascension", "declination", "distance")
 _DOUBLES = ((name, ctypes.c_double) for name in ("right_ascension", "declination", "distance"))
 _MENDED = _answer("length", "changes", "verdict", "place")
@@ -519,13 +530,14 @@ class PublishedReader(TextReader):
 
 
 def check(packed):
-    """How many terms a packed series has. Refused: 4, 5, 6, 8, 9, 10.
+    """A packed series judged: Checked. Refused: 4, 5, 6, 8, 9, 10.
 
     Of series stored end to end, with nothing between them, the figure of 9 is the length of the first,
     after which the next begins."""
     _need_stack()
     with _Lent(packed) as slices:
-        return _taken(_c["check"](*slices)).terms
+        c = _taken(_c["check"](*slices))
+    return Checked(c.terms, c.wide == 1)
 
 
 def _print(packed, text):
@@ -544,7 +556,7 @@ def print_text(packed, text=None):
 
 
 def coordinates_at(packed, when):
-    """The heliocentric Coordinates of a packed series at an instant. Refused: 2, then as `check`."""
+    """The heliocentric Coordinates of a packed series at an instant. Refused: 2, then as `check`, then 17."""
     _need_stack()
     t = _instant(when)
     with _Lent(packed) as slices:
@@ -561,7 +573,8 @@ def _place(name, planet, earth, when):
 
 
 def apparent_place(planet, earth, when):
-    """The apparent Place of a planet, seen from Earth; both packed series. Refused: 2, the planet's series, Earth's, 11, 2, 11."""
+    """The apparent Place of a planet, seen from Earth; both packed series. Refused: 2, the planet's series, Earth's, 17, 11; at
+    the instant that the light left at 2, 17, 11."""
     return Place(*_place("apparent_place", planet, earth, when))
 
 
@@ -573,7 +586,7 @@ def mount_place(planet, earth, when):
 def sun_list(planet, earth, start, minutes=1440, keep_out=600, runs=None):
     """The Runs of minutes, counted from `start`, at which a planet stands within `keep_out` arcminutes of the Sun: none is missing, and
     none is listed that is more than two arcminutes farther out. `runs` is an output of 64-bit numbers, else one that is long enough
-    is made. Refused: 12, 2, the planet's series, Earth's, 11, 7."""
+    is made. Refused: 12, 2, the planet's series, Earth's, 17, 11, 7."""
     _need_stack()
     t0, minutes, keep_out = _instant(start), _i64(minutes), _i64(keep_out)
     if runs is None:

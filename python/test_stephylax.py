@@ -208,8 +208,20 @@ class Vectors(unittest.TestCase):
     def test_packed(self):
         for line, fields in vectors("packed.txt"):
             packed = fields.repeated() if fields.word() == "rule" else fields.bytes()
-            self.assertEqual(outcome(stephylax.check, packed), self.expected(fields, Fields.number), line)
+            got = outcome(stephylax.check, packed)
+            self.assertEqual((0, got[1].terms) if got[0] == 0 else got, self.expected(fields, Fields.number), line)
             self.assertTrue(fields.done(), line)
+
+    def test_goodness(self):
+        cases = [0, 0]
+        for line, fields in vectors("goodness.txt"):
+            packed = fields.repeated() if fields.word() == "rule" else fields.bytes()
+            wanted = self.expected(fields, lambda f: stephylax.Checked(f.number(), f.number() == 1))
+            self.assertEqual(outcome(stephylax.check, packed), wanted, line)
+            self.assertTrue(fields.done(), line)
+            if wanted[0] == 0:
+                cases[wanted[1].wide] += 1
+        self.assertEqual(cases, [108, 135])
 
     def test_print(self):
         for line, fields in vectors("print.txt"):
@@ -308,7 +320,13 @@ class Refusals(unittest.TestCase):
         self.refused(Refusal.ENDED_EARLY, 34, read, b"0\n" * 17)
         self.refused(Refusal.BYTE_AFTER_END, 36, read, b"0\n" * 19)
         self.refused(Refusal.NOT_SHORTEST, 1, stephylax.check, b"\x80\x00")
+        wide, narrow = (bytes(read(self.text(b"1", a + term))) for a in (b"50000.00000000000 ", b"50000.00000000001 "))
+        self.assertEqual((stephylax.check(wide), stephylax.check(narrow)), ((1, True), (1, False)))
+        for t in (63115200000001, -126230400000000):
+            self.assertEqual(stephylax.coordinates_at(wide, t), (50000 * 10**11, 0, 0))
+            self.refused(Refusal.TOO_FAR, t, stephylax.coordinates_at, narrow, t)
         earth = SERIES["earth"]
+        self.refused(Refusal.TOO_FAR, 63115200060000, stephylax.sun_list, narrow, earth, 63115200000000, 5)
         self.refused(Refusal.NOT_USABLE, 0, stephylax.sun_list, earth, earth, 0)
         self.refused(Refusal.BAD_WINDOW, 0, stephylax.sun_list, earth, earth, 0, 1441)
         file = laid_out(self.text(b"1", b"1.00000000000 " + term))
@@ -412,7 +430,7 @@ class Memory(unittest.TestCase):
         with mmap.mmap(-1, len(earth)) as mapped:
             mapped[:] = earth
             for packed in (earth, bytearray(earth), memoryview(lent)[2:], mapped, array.array("B", earth), memoryview(earth).toreadonly()):
-                self.assertEqual(stephylax.check(packed), 2425)
+                self.assertEqual(stephylax.check(packed), (2425, True))
         lent.extend(b"!")
         with self.assertRaises(TypeError):
             stephylax.check("0")
@@ -548,9 +566,9 @@ class Finding(unittest.TestCase):
         self.assertEqual(stephylax.__version__, re.search(r'^version = "(.*)"$', package, re.MULTILINE).group(1))
 
     def test_missing(self):
-        run = self.python("import stephylax", STEPHYLAX_LIBRARY="/nowhere/libstephylax.so.0")
+        run = self.python("import stephylax", STEPHYLAX_LIBRARY="/nowhere/libstephylax.so.1")
         self.assertEqual(run.returncode, 1)
-        self.assertIn("ImportError: the library is not there (/nowhere/libstephylax.so.0", run.stderr)
+        self.assertIn("ImportError: the library is not there (/nowhere/libstephylax.so.1", run.stderr)
 
     def test_readme(self):
         """The README's program runs, and prints what those in C and Rust do."""

@@ -11,6 +11,15 @@ pub struct Date {
     pub ms: i64,
 }
 
+/// A good packed series.
+#[derive(Clone, Copy, Debug, PartialEq, Eq)]
+pub struct Checked {
+    /// How many terms it has.
+    pub terms: i64,
+    /// Whether it is good for the wide range: it may be asked for instants beyond two millennia too.
+    pub wide: bool,
+}
+
 /// Longitude and latitude in 10^-11 radian, radius in 10^-11 AU.
 #[derive(Clone, Copy, Debug, PartialEq, Eq)]
 pub struct Coordinates {

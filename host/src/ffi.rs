@@ -51,12 +51,14 @@ pub struct Answer {
     pub accepted: i64,
 }
 
+/// A good series: `wide` is 1 if it is good for the wide range, else 0.
 #[repr(C)]
 #[derive(Clone, Copy, Debug, PartialEq, Eq)]
 pub struct Checked {
     pub refusal: u64,
     pub figure: i64,
     pub terms: i64,
+    pub wide: i64,
 }
 
 #[repr(C)]

@@ -7,6 +7,6 @@ pub mod ffi;
 mod library;
 mod refusal;
 
-pub use answers::{Change, Clean, Coordinates, Date, Fate, Mended, Mount, Place};
+pub use answers::{Change, Checked, Clean, Coordinates, Date, Fate, Mended, Mount, Place};
 pub use library::*;
 pub use refusal::{Field, Refusal};

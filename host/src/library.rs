@@ -1,6 +1,6 @@
 //! Safe calls of the proved library. Each passes its input on as it is and turns the answer into a `Result`.
 
-use crate::answers::{Change, Clean, Coordinates, Date, Fate, Mended, Mount, Place};
+use crate::answers::{Change, Checked, Clean, Coordinates, Date, Fate, Mended, Mount, Place};
 use crate::ffi;
 use crate::refusal::Refusal;
 
@@ -166,12 +166,12 @@ impl<'a, S: State> Reader<'a, S> {
     }
 }
 
-/// Judges a packed series: its number of terms. Of series stored end to end, with nothing between them, the figure of refusal 9 is
-/// the length of the first, after which the next one begins.
-pub fn check(packed: &[u8]) -> Result<i64, Refusal> {
+/// Judges a packed series. Of series stored end to end, with nothing between them, the figure of refusal 9 is the length of the first,
+/// after which the next one begins.
+pub fn check(packed: &[u8]) -> Result<Checked, Refusal> {
     // SAFETY: the slice is lent for the call, with its length.
-    let checked = unsafe { ffi::stephylax_check(packed.as_ptr(), packed.len()) };
-    answer(checked.refusal, checked.figure, checked.terms)
+    let c = unsafe { ffi::stephylax_check(packed.as_ptr(), packed.len()) };
+    answer(c.refusal, c.figure, Checked { terms: c.terms, wide: c.wide == 1 })
 }
 
 /// Prints a packed series as plain text: how many bytes of `text` it took.

@@ -107,6 +107,8 @@ refusals! {
     13 BadHeading(at: i64),
     /// The offset of the line feed.
     14 BadNumber(at: i64),
+    /// The instant.
+    17 TooFar(t: i64),
 }
 
 impl Refusal {
@@ -131,7 +133,7 @@ impl Refusal {
             }
             Refusal::NoSuchDate(Field::DayNumber) => "there is no such day number: they go from 0 to 5,373,484".to_string(),
             Refusal::PastLimit(t) => {
-                format!("the instant {t} ms is more than two millennia from 2000-01-01 12h TD")
+                format!("the instant {t} ms is more than four millennia from 2000-01-01 12h TD")
             }
             Refusal::BadByte(at) => format!("the byte at offset {at} cannot continue its line"),
             Refusal::OverLimit(at) => format!("the number that ends at offset {at} passes its limit"),
@@ -164,6 +166,9 @@ impl Refusal {
             }
             Refusal::BadNumber(at) => {
                 format!("the running number of the line that ends at offset {at} does not come next")
+            }
+            Refusal::TooFar(t) => {
+                format!("the instant {t} ms is more than two millennia from 2000-01-01 12h TD, and a series is not good for that")
             }
         }
     }

@@ -4,13 +4,14 @@
 mod common;
 
 use common::calls::LIBRARY;
+use common::coarse::{at_wide_limit, Edge};
 use common::edges::Window;
-use common::generate::{bodies, instant, orbit};
-use common::{hex, published, Random};
+use common::generate::{bodies, instant, orbit, window_start};
+use common::{hex, published, Met, Random};
 use reference::plain::exact::{exact_sum, Sight};
 use reference::plain::packed::{pack, parse};
 use reference::plain::wide::Wide;
-use reference::plain::PARTS;
+use reference::plain::{is_far, PARTS, T_LIMIT};
 
 fn rounds(n: u64) -> u64 {
     if std::env::var_os("STEPHYLAX_SHORT").is_some() {
@@ -26,10 +27,10 @@ fn packed(planet: &str) -> Vec<u8> {
     packed
 }
 
-/// Each coordinate is within 100,000 parts of the exact sum of its six blocks.
-fn coordinates_are_close(bytes: &[u8], t: i64) {
+/// Each coordinate is within 100,000 parts of the exact sum of its six blocks, where there is an answer; whether there is one.
+fn coordinates_are_close(bytes: &[u8], t: i64) -> bool {
     let Ok(coordinates) = (LIBRARY.coordinates_at)(bytes, t) else {
-        return;
+        return false;
     };
     let series = parse(bytes).expect("the library took it");
     for (coordinate, blocks) in coordinates.iter().zip(series.blocks.chunks(6)) {
@@ -39,6 +40,7 @@ fn coordinates_are_close(bytes: &[u8], t: i64) {
         let high = sum.lower.times_small(*coordinate as i128 + 100_000);
         assert!(low.at_most(&exact) && exact.at_most(&high), "t {t}, {coordinate}, packed {}", hex(bytes));
     }
+    true
 }
 
 #[test]
@@ -55,8 +57,25 @@ fn coordinates_of_published_series() {
 #[test]
 fn coordinates_of_random_series() {
     let mut random = Random(22);
+    let mut met = Met::default();
     for _ in 0..rounds(2000) {
-        coordinates_are_close(&pack(&orbit(&mut random, PARTS)), instant(&mut random));
+        let t = instant(&mut random);
+        let answered = coordinates_are_close(&pack(&orbit(&mut random, PARTS)), t);
+        met.note("near", answered && !is_far(t));
+        met.note("far", answered && is_far(t));
+    }
+    met.all();
+}
+
+/// Series that are as coarse as the wide range allows, at the ends of it.
+#[test]
+fn coordinates_at_the_wide_limit() {
+    let mut random = Random(26);
+    for _ in 0..rounds(100) {
+        let series = pack(&at_wide_limit(&mut random, Edge::Coarseness, true));
+        for t in [-T_LIMIT, T_LIMIT] {
+            assert!(coordinates_are_close(&series, t), "t {t} packed {}", hex(&series));
+        }
     }
 }
 
@@ -88,9 +107,10 @@ fn inner_ends(runs: &[u64], minutes: i64) -> Vec<[i64; 2]> {
 }
 
 /// Tries the library's lists of such windows against the exact test, on both sides of the run's end that is nearest to the
-/// threshold. At least nine of ten windows have such an end within an arcminute of it; of the others one minute is tried.
+/// threshold. At least nine of ten windows have such an end within an arcminute of it; of the others one minute is tried. One
+/// window of five at least begins beyond two millennia.
 fn lists_are_right(windows: u64, random: &mut Random, draw: fn(&mut Random) -> Window) {
-    let (mut tried, mut near) = (0, 0);
+    let (mut tried, mut near, mut far) = (0, 0, 0);
     while tried < windows {
         let window = draw(random);
         let Some(runs) = list(&window) else {
@@ -98,13 +118,15 @@ fn lists_are_right(windows: u64, random: &mut Random, draw: fn(&mut Random) -> W
         };
         tried += 1;
         near += window.shape(&runs).near as u64;
+        far += is_far(window.t0) as u64;
         let off = |[listed, beside]: &[i64; 2]| window.off_threshold(*listed).min(window.off_threshold(*beside));
         match inner_ends(&runs, window.minutes).into_iter().min_by_key(off) {
             Some(end) => end.into_iter().for_each(|minute| minute_is_right(&window, &runs, minute)),
             None => minute_is_right(&window, &runs, random.between(0, window.minutes - 1)),
         }
     }
-    println!("of {windows} windows {near} have a run's end within an arcminute of the threshold");
+    println!("of {windows} windows {near} have a run's end within an arcminute of the threshold, {far} begin far");
+    assert!(windows < 40 || windows <= 5 * far, "beyond two millennia: {far} of {windows}");
     assert!(9 * windows <= 10 * near, "a run's end near the threshold: {near} of {windows}");
 }
 
@@ -128,7 +150,7 @@ fn lists_of_random_series() {
         let (Ok(planet), Ok(earth)) = (parse(&planet), parse(&earth)) else {
             continue;
         };
-        let t0 = random.between(-1 << 45, 1 << 45);
+        let t0 = window_start(&mut random);
         let (minutes, keep_out) = (random.between(1, 400), random.between(60, 2700));
         let window = Window { planet, earth, t0, minutes, keep_out };
         let Some(runs) = list(&window) else {

@@ -168,7 +168,7 @@ impl<A> Form<A> {
 }
 
 fn check(bytes: &[u8]) -> Outcome<i64> {
-    same(|calls| (calls.check)(bytes), || hex(bytes))
+    same(|calls| (calls.check)(bytes), || hex(bytes)).map(|(terms, _)| terms)
 }
 
 /// A packed form is shorter than its text, so there is room.

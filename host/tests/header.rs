@@ -116,7 +116,7 @@ impl Printed {
         let mut text = [0; 200];
         unsafe {
             let c = ffi::stephylax_check(packed.as_ptr(), packed.len());
-            self.line("check", c.refusal, c.figure, [c.terms]);
+            self.line("check", c.refusal, c.figure, [c.terms, c.wide]);
             let w = ffi::stephylax_print(packed.as_ptr(), packed.len(), text.as_mut_ptr(), text.len());
             self.line("print", w.refusal, w.figure, [w.length]);
             let c = ffi::stephylax_coordinates_at(packed.as_ptr(), packed.len(), t);
@@ -157,6 +157,10 @@ fn expected() -> String {
     let earth = printed.body("1.00000000000");
     printed.series(&planet, 1);
     printed.series(&planet[..3], 1);
+    let far = printed.body("50000.00000000000");
+    printed.series(&far, 126_230_400_000_000);
+    let far = printed.body("99999.00000000000");
+    printed.series(&far, -63_115_200_000_001);
     printed.places(&planet, &earth, 0);
     printed.places(&earth, &earth, 0);
     printed.0 + "\n"
@@ -185,7 +189,13 @@ fn every_function() {
     ];
     let of_mended =
         ["mend 0 0 36 2 0 18 1 0 3 0 9", "mend 0 0 6 3 3 3 1 0 2 0 5 1 9 9 46", "mend 7 3 0 0 0 0 9 9 9 9 9 9 9 9 46"];
-    for wanted in [&of_texts[..], &of_mended, &of_files, &["sun_list 0 0 2 0 9"]].concat() {
+    let of_range = [
+        "check 0 0 1 1",
+        "coordinates_at 0 0 0 0 5000000000000000",
+        "check 0 0 1 0",
+        "coordinates_at 17 -63115200000001 0 0 0",
+    ];
+    for wanted in [&of_texts[..], &of_mended, &of_files, &of_range, &["sun_list 0 0 2 0 9"]].concat() {
         assert!(expected.contains(wanted), "{wanted} is not in{expected}");
     }
     let archive = repository("target/staticlib/libstephylax.a");
@@ -231,7 +241,7 @@ fn names_of_refusals() {
         })
         .collect();
     let mut wanted = vec![("STEPHYLAX_ANSWERED".to_string(), 0)];
-    for number in 1..=14 {
+    for number in (1..=14).chain([17]) {
         let figure = i64::from(number == 1);
         let case = format!("{:?}", Refusal::of(number, figure));
         let mut name = "STEPHYLAX".to_string();

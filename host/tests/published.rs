@@ -40,6 +40,16 @@ fn coordinates_of_mercury() {
     assert_eq!(longitude, 5_218_049_938_527_069);
 }
 
+/// Mercury four millennia on either side.
+#[test]
+fn mercury_at_the_limits() {
+    let mercury = packed("mercury");
+    let latest = (LIBRARY.coordinates_at)(&mercury, 126_230_400_000_000);
+    assert_eq!(latest, Ok([10_435_690_770_408_170, -10_015_037_648, 46_500_464_271]));
+    let earliest = (LIBRARY.coordinates_at)(&mercury, -126_230_400_000_000);
+    assert_eq!(earliest, Ok([-10_434_803_276_112_400, 636_178_322, 46_084_112_010]));
+}
+
 /// The transit of 11 November 2019: listed from minute 296 to the day's end.
 #[test]
 fn mercury_near_the_sun_in_2019() {

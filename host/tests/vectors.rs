@@ -145,10 +145,25 @@ fn packed(calls: &Calls) {
     for (number, line) in vectors("packed.txt") {
         let fields = &mut Fields::of(&line);
         let bytes = if fields.word() == "rule" { fields.repeated() } else { fields.bytes() };
-        let answer = (calls.check)(&bytes);
+        let answer = (calls.check)(&bytes).map(|(terms, _)| terms);
         assert_eq!(answer, expected(fields, |fields| fields.number()), "line {number}: {line}");
         assert!(fields.done(), "line {number}: {line}");
     }
+}
+
+fn goodness(calls: &Calls) {
+    let mut cases = [0; 2];
+    for (number, line) in vectors("goodness.txt") {
+        let fields = &mut Fields::of(&line);
+        let bytes = if fields.word() == "rule" { fields.repeated() } else { fields.bytes() };
+        let wanted = expected(fields, |fields| (fields.number(), fields.number() == 1));
+        assert_eq!((calls.check)(&bytes), wanted, "line {number}: {line}");
+        assert!(fields.done(), "line {number}: {line}");
+        if let Ok((_, wide)) = wanted {
+            cases[wide as usize] += 1;
+        }
+    }
+    assert_eq!(cases, [108, 135]);
 }
 
 fn print(calls: &Calls) {
@@ -254,6 +269,10 @@ macro_rules! vectors_of {
             #[test]
             fn packed() {
                 super::packed(&$calls);
+            }
+            #[test]
+            fn goodness() {
+                super::goodness(&$calls);
             }
             #[test]
             fn print() {

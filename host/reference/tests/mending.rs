@@ -2,14 +2,14 @@
 
 mod common;
 
-use common::{request, unhex};
+use common::{unhex, vectors};
 use reference::plain::mending::mend;
 
 /// With just the room that each takes.
 #[test]
-fn vectors() {
+fn every_line() {
     let mut cases = 0;
-    for (at, line) in request("c17_mend.txt").lines().enumerate().filter(|(_, line)| !line.starts_with('#')) {
+    for (at, line) in vectors("requests/c17_mend.txt").lines().enumerate().filter(|(_, line)| !line.starts_with('#')) {
         let words: Vec<&str> = line.split(' ').collect();
         let [input, output, count, ref changes @ .., number, figure] = words[..] else { panic!("line {}", at + 1) };
         let (input, output, count): (_, _, usize) = (unhex(input), unhex(output), count.parse().unwrap());

@@ -2,7 +2,7 @@
 
 mod common;
 
-use common::{request, unhex};
+use common::{unhex, vectors};
 use reference::layout::{joined, records};
 use reference::plain::packed::parse;
 use reference::plain::published::read_published;
@@ -10,9 +10,11 @@ use reference::plain::text::read_text;
 use std::path::Path;
 
 #[test]
-fn vectors() {
+fn every_line() {
     let mut cases = 0;
-    for (at, line) in request("c11_published.txt").lines().enumerate().filter(|(_, line)| !line.starts_with('#')) {
+    for (at, line) in
+        vectors("requests/c11_published.txt").lines().enumerate().filter(|(_, line)| !line.starts_with('#'))
+    {
         let words: Vec<&str> = line.split(' ').collect();
         let [room, input, number, figure, output] = words[..] else { panic!("line {}: {line}", at + 1) };
         let (number, figure): (u64, i64) = (number.parse().unwrap(), figure.parse().unwrap());

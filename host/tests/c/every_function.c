@@ -85,7 +85,7 @@ static void published(int coordinate) {
 static void series(const uint8_t *packed, size_t n, int64_t t) {
     uint8_t text[200];
     stephylax_checked c = stephylax_check(packed, n);
-    line("check", c.refusal, c.figure), number(c.terms);
+    line("check", c.refusal, c.figure), number(c.terms), number(c.wide);
     stephylax_written w = stephylax_print(packed, n, text, sizeof text);
     line("print", w.refusal, w.figure), number(w.length);
     stephylax_coordinates l = stephylax_coordinates_at(packed, n, t);
@@ -103,7 +103,7 @@ static void places(const uint8_t *planet, size_t np, const uint8_t *earth, size_
 }
 
 int main(void) {
-    uint8_t planet[100], earth[100];
+    uint8_t planet[100], earth[100], far[100];
     calendar(2019, 11, 11, 5);
     calendar(1582, 10, 10, 5);
     calendar(9999, 12, 31, 5);
@@ -117,6 +117,10 @@ int main(void) {
     size_t ne = body("1.00000000000", earth, sizeof earth);
     series(planet, np, 1);
     series(planet, 3, 1);
+    size_t nf = body("50000.00000000000", far, sizeof far);
+    series(far, nf, 126230400000000);
+    nf = body("99999.00000000000", far, sizeof far);
+    series(far, nf, -63115200000001);
     places(planet, np, earth, ne, 0);
     places(earth, ne, earth, ne, 0);
     return printf("\n") < 0;

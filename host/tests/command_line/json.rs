@@ -95,7 +95,7 @@ fn packing() {
     assert_eq!(picked(&["pack", &published_file("venus"), path], 0, "d['answer']"), answer);
     assert_eq!(
         picked(&["check", path], 0, "[d['answer'], d['sources'][0]['kind']]"),
-        r#"[{"terms": 1682, "packed_bytes": 26247}, "packed"]"#
+        r#"[{"terms": 1682, "packed_bytes": 26247, "wide": true}, "packed"]"#
     );
     let to = scratch("json.txt");
     assert_eq!(picked(&["unpack", path, to.to_str().unwrap()], 0, "d['sources'][0]['role']"), "\"input\"");

@@ -79,11 +79,11 @@ fn refusals() {
     }
     fails(&["sun-list", "earth", "2019-11-11"], 1, "refused 11 (0)");
     // The last minute is asked for first; its instant is the figure, and the angle is judged before it.
-    let (first, days) = (63_082_584_000_000_i64, 500);
+    let (first, days) = (126_196_488_000_000_i64, 500);
     let last = first + (days * 1440 - 1) * 60_000;
-    let long = ["sun-list", "mercury", "3999-01-04", "--days", "500"];
-    prints(&["day", "3999-01-04", "00:00"], &format!("3181668\nt = {first} ms from 2000-01-01 12:00 TD\n"));
-    let past = format!("the instant {last} ms is more than two millennia from 2000-01-01 12h TD");
+    let long = ["sun-list", "mercury", "5999-01-04", "--days", "500"];
+    prints(&["day", "5999-01-04", "00:00"], &format!("3912153\nt = {first} ms from 2000-01-01 12:00 TD\n"));
+    let past = format!("the instant {last} ms is more than four millennia from 2000-01-01 12h TD");
     assert_eq!(says(&long, 1), format!("stephylax: refused 2 ({last}): {past}\n"));
     fails(&[&long[..], &["--keep-out", "2701"]].concat(), 1, "refused 12 (0)");
     for endless in ["9999999999999", "9223372036854775807"] {

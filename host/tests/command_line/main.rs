@@ -12,4 +12,5 @@ mod places;
 mod published;
 mod run;
 mod sources;
+mod wide_range;
 mod wrong_use;

@@ -2,7 +2,7 @@
 
 use crate::common::published;
 use crate::run::{
-    command, fails, fails_with, file, folder, printed, prints, radial, run, run_with, says, scratch, text,
+    command, fails, fails_with, file, folder, printed, prints, radial, run, run_with, says, scratch, text, WIDE,
 };
 use reference::layout;
 use reference::plain::packed::parse;
@@ -58,11 +58,14 @@ fn kinds_are_told() {
     let path = file("venus.pub", &venus);
     let of_text = printed(&["check", "venus"]);
     let sum = &of_text.split("fnv1a64 ").nth(1).unwrap()[..16];
-    prints(&["check", &path], &format!("venus: {told}{sum}, from {path} (published)\n"));
-    prints(&["check", &format!("published:{path}")], &format!("venus: {told}{sum}, from {path} (published)\n"));
+    prints(&["check", &path], &format!("venus: {told}{sum}, from {path} (published)\n{WIDE}"));
+    prints(&["check", &format!("published:{path}")], &format!("venus: {told}{sum}, from {path} (published)\n{WIDE}"));
     for word in ["-", "published:-"] {
         let output = run_with(&venus, command(&["check", word]));
-        assert_eq!(text(&output.stdout), format!("standard input: {told}{sum}, from standard input (published)\n"));
+        assert_eq!(
+            text(&output.stdout),
+            format!("standard input: {told}{sum}, from standard input (published)\n{WIDE}")
+        );
     }
     fails(&["check", &format!("text:{path}")], 1, "refused 3 (0)");
     fails(&["check", &format!("packed:{path}")], 1, "refused ");
@@ -106,7 +109,7 @@ fn a_folder_of_published_files() {
     }
     for (planet, ending) in EIGHT {
         let said = printed(&["check", planet, "--data", path]);
-        assert!(said.ends_with(&format!(", from {path}/VSOP87D.{ending} (published)\n")), "{said}");
+        assert!(said.ends_with(&format!(", from {path}/VSOP87D.{ending} (published)\n{WIDE}")), "{said}");
     }
     let words = [&["sun-list", "mercury", "mars"], &TRANSIT[..]].concat();
     let list = printed(&[&words[..], &["--data", path]].concat());
@@ -118,7 +121,7 @@ fn a_folder_of_published_files() {
     // A text goes before the published file.
     std::fs::write(folder.join("mercury.txt"), radial("0.40000000000", "0.00000000000")).unwrap();
     let said = printed(&["check", "mercury", "--data", path]);
-    assert!(said.ends_with(&format!(", from {path}/mercury.txt (text)\n")), "{said}");
+    assert!(said.ends_with(&format!(", from {path}/mercury.txt (text)\n{WIDE}")), "{said}");
     let mixed = printed(&["place", "mercury", "2005-01-01", "--data", path]);
     assert!(mixed.contains("/mercury.txt (text)\n") && mixed.contains("/VSOP87D.ear (published)\n"), "{mixed}");
     std::fs::remove_file(folder.join("VSOP87D.sat")).unwrap();

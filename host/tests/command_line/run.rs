@@ -116,8 +116,17 @@ pub fn names(folder: &Path) -> Vec<String> {
     names
 }
 
+/// What `check` says last of a series that is good for the wide range.
+pub const WIDE: &str = "It is good for four millennia on either side of 2000-01-01 12h TD.\n";
+
 /// A series whose longitude and latitude are 0, and whose radius grows by `growth` AU in a millennium.
 pub fn radial(radius: &str, growth: &str) -> String {
     let term = |a: &str| format!("1\n{a} 0.00000000000 0.00000000000\n");
     format!("{}{}{}{}", "0\n".repeat(12), term(radius), term(growth), "0\n".repeat(4))
+}
+
+/// A series of a body that rests, whose first block totals one part more than it may in the wide range.
+pub fn narrow() -> String {
+    let series = radial("0.40000000000", "0.00000000000");
+    series.replacen("0\n", "1\n50000.00000000001 0.00000000000 0.00000000000\n", 1)
 }

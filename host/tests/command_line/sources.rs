@@ -2,7 +2,7 @@
 
 use crate::common::{hash, published, repository};
 use crate::run::{
-    command, elsewhere, fails, fails_with, file, printed, published_file, run, run_with, says, scratch, text,
+    command, elsewhere, fails, fails_with, file, printed, published_file, run, run_with, says, scratch, text, WIDE,
 };
 use std::process::Command;
 
@@ -21,7 +21,7 @@ fn parted(n: i64) -> String {
 fn told(planet: &str, name: &str, from: &str) -> String {
     let mut packed = vec![0; 200_000];
     let length = stephylax::read_text(&published(planet), &mut packed).unwrap();
-    let terms = stephylax::check(&packed[..length]).unwrap();
+    let terms = stephylax::check(&packed[..length]).unwrap().terms;
     let (terms, bytes) = (parted(terms), parted(length as i64));
     format!("{name}: {terms} terms, {bytes} bytes packed, fnv1a64 {:016x}, from {from} (text)", hash(&packed[..length]))
 }
@@ -47,12 +47,12 @@ fn kinds_are_told() {
     let path = scratch("kinds.packed");
     let path = path.to_str().unwrap();
     assert_eq!(printed(&["pack", &published_file("venus"), path]), "");
-    assert!(printed(&["check", path]).ends_with(&format!(", from {path} (packed)\n")));
-    assert!(printed(&["check", &format!("packed:{path}")]).ends_with("(packed)\n"));
+    assert!(printed(&["check", path]).ends_with(&format!(", from {path} (packed)\n{WIDE}")));
+    assert!(printed(&["check", &format!("packed:{path}")]).ends_with(&format!("(packed)\n{WIDE}")));
     fails(&["check", &format!("text:{path}")], 1, "refused 3 (");
     let piped = run_with(&published("venus"), command(&["check", "-"]));
     assert!(text(&piped.stdout).starts_with("standard input: a good series of 1,682 terms"));
-    assert!(text(&piped.stdout).ends_with(", from standard input (text)\n"));
+    assert!(text(&piped.stdout).ends_with(&format!(", from standard input (text)\n{WIDE}")));
 }
 
 /// Files named as planets in the current folder, or a folder data/vsop87d there, change nothing.

@@ -25,7 +25,8 @@ pub struct Calls {
     /// Whole and in pieces for published files.
     pub read_published: fn(&[u8], &mut [u8]) -> Outcome<usize>,
     pub published_pieces: fn(&[&[u8]], &mut [u8]) -> Outcome<usize>,
-    pub check: fn(&[u8]) -> Outcome<i64>,
+    /// The number of terms, and whether the series is good for the wide range.
+    pub check: fn(&[u8]) -> Outcome<(i64, bool)>,
     pub print: fn(&[u8], &mut [u8]) -> Outcome<usize>,
     pub coordinates_at: fn(&[u8], i64) -> Outcome<[i64; 3]>,
     pub apparent_place: fn(&[u8], &[u8], i64) -> Outcome<[i64; 3]>,
@@ -68,7 +69,7 @@ pub const PLAIN: Calls = Calls {
     read_published: |file, packed| outcome(plain::published::read_published(file, packed)),
     // This one takes a file whole: where it is cut must not matter.
     published_pieces: |pieces, packed| outcome(plain::published::read_published(&pieces.concat(), packed)),
-    check: |packed| outcome(plain::packed::check(packed)),
+    check: |packed| outcome(plain::packed::check(packed)).map(|c| (c.terms, c.wide)),
     print: |packed, text| outcome(plain::packed::print(packed, text)),
     coordinates_at: |packed, t| {
         let answer = plain::series::coordinates_at(packed, t);
@@ -130,7 +131,7 @@ pub const LIBRARY: Calls = Calls {
     },
     read_published: |file, packed| refusal(stephylax::read_published(file, packed)),
     published_pieces: |pieces, packed| library_pieces(PublishedReader::new(packed), pieces),
-    check: |packed| refusal(stephylax::check(packed)),
+    check: |packed| refusal(stephylax::check(packed)).map(|c| (c.terms, c.wide)),
     print: |packed, text| refusal(stephylax::print(packed, text)),
     coordinates_at: |packed, t| {
         refusal(stephylax::coordinates_at(packed, t)).map(|c| [c.longitude, c.latitude, c.radius])

@@ -1,5 +1,7 @@
 //! Windows of the Sun list that reach its edges: their lists begin or end inside, have several runs, or are decided by rounding.
 
+use super::coarse::{constant, WIDE};
+use super::generate::window_start;
 use super::Random;
 use reference::plain::cosine::sine;
 use reference::plain::packed::{Series, Term};
@@ -30,10 +32,6 @@ pub struct Shape {
     pub near: bool,
 }
 
-fn constant(a: i64) -> Term {
-    Term { a, b: 0, c: 0 }
-}
-
 /// A wave of up to `size` parts, nearly as fast as a term can be.
 fn wave(random: &mut Random, size: i64) -> Term {
     let c = random.between(500_000 * PARTS, 1_000_000 * PARTS - 1);
@@ -61,7 +59,7 @@ impl Window {
             let mut window = Window {
                 planet: swinging(random, radius, swing),
                 earth: swinging(random, PARTS, PARTS / 10),
-                t0: random.between(-1 << 45, 1 << 45),
+                t0: window_start(random),
                 minutes: if swift { random.between(60, 200) } else { random.between(3, 80) },
                 keep_out: 0,
             };
@@ -96,7 +94,8 @@ impl Window {
     pub fn of_rounding(random: &mut Random) -> Window {
         let turning = random.between(-99_000 * PARTS, 99_000 * PARTS);
         let mut window = Window::at_the_threshold(random.between(60, 2700), random.between(6, 30), turning, 0);
-        window.t0 = random.between(-1 << 45, 1 << 45);
+        // Series that turn faster are not good for the wide range.
+        window.t0 = if turning.abs() <= WIDE.total { window_start(random) } else { random.between(-1 << 45, 1 << 45) };
         window.minutes = if random.one_in(100) { 1440 } else { random.between(3, 60) };
         window
     }

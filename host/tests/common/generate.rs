@@ -1,8 +1,9 @@
 //! Random input: instants and dates near every edge, series that are good or nearly so, damaged bytes, texts in odd layouts.
 
+use super::coarse::{at_wide_limit, constant, fill, Edge, WIDE};
 use super::Random;
 use reference::plain::packed::{pack, put_number, Series, Term};
-use reference::plain::{MILLENNIUM, PARTS, T_LIMIT};
+use reference::plain::{MILLENNIUM, NEAR_LIMIT, PARTS, T_LIMIT};
 
 /// Any number of 64 bits, small ones and the ends as often as others.
 pub fn any_number(random: &mut Random) -> i64 {
@@ -14,16 +15,26 @@ pub fn any_number(random: &mut Random) -> i64 {
     }
 }
 
+/// Any instant, those near the limit of t and near that of the near range as often as others. Up to so many milliseconds after a limit
+/// light from a usable place may have left before it.
 pub fn instant(random: &mut Random) -> i64 {
-    match random.below(12) {
+    let limit = random.pick(&[NEAR_LIMIT, T_LIMIT]);
+    match random.below(14) {
         0 => any_number(random),
-        1 => random.pick(&[-T_LIMIT, T_LIMIT]) + random.between(-3, 3),
-        2 => -T_LIMIT + random.between(0, 70_000_000),
-        3 => T_LIMIT - random.between(0, 90_000_000),
-        4 => random.between(-5, 5),
-        5 => random.pick(&[-1, 1]) * MILLENNIUM / random.between(1, 9),
+        1 => random.pick(&[-limit, limit]) + random.between(-3, 3),
+        2 => -limit + random.between(0, 70_000_000),
+        3 => limit - random.between(0, 90_000_000),
+        4 => NEAR_LIMIT + random.between(0, 70_000_000),
+        5 => random.between(-5, 5),
+        6 => random.pick(&[-1, 1]) * MILLENNIUM / random.between(1, 9),
+        7..=9 => random.between(-NEAR_LIMIT, NEAR_LIMIT),
         _ => random.between(-T_LIMIT, T_LIMIT),
     }
+}
+
+/// The first instant of a window of at most a day, anywhere within the limit of t.
+pub fn window_start(random: &mut Random) -> i64 {
+    random.between(-T_LIMIT, T_LIMIT - 86_400_000)
 }
 
 /// Year, month, day and milliseconds, most of them near what exists.
@@ -31,9 +42,9 @@ pub fn date(random: &mut Random) -> [i64; 4] {
     let year = match random.below(6) {
         0 => random.between(-4716, -4708),
         1 => random.between(9995, 10_002),
-        2 => random.pick(&[1582, 1500, 1600, 1700, 1900, 2000, 0, -1, -4, -100, 4000]),
+        2 => random.pick(&[1582, 1500, 1600, 1700, 1900, 2000, 0, -1, -4, -100, 4000, -2001, 6000]),
         3 => random.between(-4800, 10_100),
-        4 => random.between(-3, 4003),
+        4 => random.between(-2003, 6003),
         _ => random.between(1550, 1620),
     };
     let month = random.between(1, 12);
@@ -97,7 +108,6 @@ pub fn series(random: &mut Random) -> Series {
 /// A body that moves fast enough for a window of minutes to show something. Now and then its radius is at an edge.
 pub fn orbit(random: &mut Random, radius: i64) -> Series {
     let mut series = Series::default();
-    let constant = |a: i64| Term { a, b: 0, c: 0 };
     let wave = |random: &mut Random, a: i64| {
         let (b, c) = (random.between(0, 10 * PARTS - 1), of_any_size(random, 1_000_000 * PARTS - 1));
         Term { a: random.between(-a, a), b, c: signed(random, c) }
@@ -123,7 +133,17 @@ pub fn orbit(random: &mut Random, radius: i64) -> Series {
         let size = random.pick(&[1000, PARTS / 100]);
         series.blocks[power].push(wave(random, size));
     }
+    if random.one_in(4) {
+        fill_to_wide_limit(random, &mut series);
+    }
     series
+}
+
+/// Fills a block of the longitude or the latitude up to the total of the wide range, or to one part more; one that has more stays.
+pub fn fill_to_wide_limit(random: &mut Random, series: &mut Series) {
+    let block = random.below(12) as usize;
+    let past = random.between(0, 1);
+    fill(random, &mut series.blocks[block], WIDE.total + past);
 }
 
 /// Packed bytes of a series, damaged in one of many ways.
@@ -152,9 +172,9 @@ pub fn damaged(random: &mut Random, series: &Series) -> Vec<u8> {
     bytes
 }
 
-/// Packed bytes: a good series, a nearly good one, a damaged one, or any bytes.
+/// Packed bytes: a good series, one at a limit of the wide range, a nearly good one, a damaged one, or any bytes.
 pub fn packed(random: &mut Random) -> Vec<u8> {
-    match random.below(10) {
+    match random.below(11) {
         0 => (0..random.below(40)).map(|_| random.next() as u8).collect(),
         1 => (0..random.below(60)).map(|_| random.pick(&[0, 0, 0, 1, 2, 0x80, 0xFF])).collect(),
         2..=4 => {
@@ -162,6 +182,11 @@ pub fn packed(random: &mut Random) -> Vec<u8> {
             damaged(random, &series)
         }
         5 | 6 => pack(&orbit(random, PARTS)),
+        7 => {
+            let edge = random.pick(&[Edge::Total, Edge::Coarseness]);
+            let wide = random.one_in(2);
+            pack(&at_wide_limit(random, edge, wide))
+        }
         _ => pack(&series(random)),
     }
 }

@@ -2,6 +2,7 @@
 #![allow(dead_code)]
 
 pub mod calls;
+pub mod coarse;
 pub mod damage;
 pub mod edges;
 pub mod generate;
@@ -10,7 +11,7 @@ pub mod raw;
 
 use calls::{Calls, Outcome, LIBRARY, PLAIN};
 use raw::RAW;
-use std::collections::HashMap;
+use std::collections::{BTreeMap, HashMap};
 use std::fmt::Debug;
 use std::path::PathBuf;
 
@@ -173,6 +174,22 @@ pub fn rounds(n: u64) -> u64 {
         return n.div_ceil(100);
     }
     n
+}
+
+/// How often each kind of case came: a test whose input never meets a kind shows nothing of it.
+#[derive(Debug, Default)]
+pub struct Met(BTreeMap<&'static str, u64>);
+
+impl Met {
+    pub fn note(&mut self, kind: &'static str, met: bool) {
+        *self.0.entry(kind).or_default() += met as u64;
+    }
+
+    /// Each kind that was looked for came, and often enough in a full run.
+    pub fn all(&self) {
+        println!("{:?}", self.0);
+        assert!(rounds(100) == 1 || self.0.values().all(|&count| 40 <= count), "{:?}", self.0);
+    }
 }
 
 /// Runs a call of the library, through the wrapper and through the C interface, and of the independent implementation: the answer

@@ -133,7 +133,10 @@ pub const RAW: Calls = Calls {
     published_pieces: |cut, packed| pieces(PUBLISHED, cut, packed),
     check: |packed| unsafe {
         let c = ffi::stephylax_check(packed.as_ptr(), packed.len());
-        flat(c.refusal, c.figure, [c.terms]).map(|[terms]| terms)
+        flat(c.refusal, c.figure, [c.terms, c.wide]).map(|[terms, wide]| {
+            assert!(wide == 0 || wide == 1, "wide is {wide}");
+            (terms, wide == 1)
+        })
     },
     print: |packed, text| unsafe {
         written(ffi::stephylax_print(packed.as_ptr(), packed.len(), text.as_mut_ptr(), text.len()))

@@ -6,7 +6,7 @@ use crate::proved;
 use crate::terms::edge;
 use reference::plain::place::{direction, latitude, seen, Vector};
 use reference::plain::series::Coordinates;
-use reference::plain::{cosine, nutation, PARTS, TURN, T_LIMIT};
+use reference::plain::{cosine, nutation, NEAR_LIMIT, PARTS, TURN, T_LIMIT};
 
 /// Angles of 64 bits: any, and those at and beside edges, with whole turns.
 #[test]
@@ -24,7 +24,7 @@ fn cosines_and_sines() {
 fn nutation_at_random() {
     let mut random = Random(46);
     for round in 0..rounds(20_000) {
-        let t = [-T_LIMIT, T_LIMIT, 0, -1, 1].get(round as usize).copied();
+        let t = [-T_LIMIT, T_LIMIT, -NEAR_LIMIT, NEAR_LIMIT, 0, -1, 1].get(round as usize).copied();
         let t = t.unwrap_or_else(|| random.between(-T_LIMIT, T_LIMIT));
         let (answer, wanted) = (proved::nutation(t), nutation::nutation(t));
         let sums = [answer.longitude, answer.obliquity, answer.mean];

@@ -167,13 +167,19 @@ fn at_most_thousandths(x: &Fraction, n: i128) -> bool {
     x.upper.times_small(1000).at_most(&x.lower.times_small(n))
 }
 
-/// A term that is as far from the reference as any that is known: more than 1/U, well within the promised 3/U.
+/// Terms that are as far from the reference as any that is known, within two millennia and within four: more than 1/U, well within the
+/// promised 3/U.
 #[test]
 fn farthest_known_from_the_reference() {
-    let worst = [U, 150_190_231_715, 99_999_999_999_999_999, 63_115_199_999_999];
-    assert_eq!(same_term(worst), [7_867_739_512_949_282, 706_133_282]);
-    let off = off_reference(worst);
-    assert!(!at_most_thousandths(&off, 1355) && at_most_thousandths(&off, 1357));
+    let near = [U, 150_190_231_715, 99_999_999_999_999_999, 63_115_199_999_999];
+    let wide = [U, 720_774_734_114, -99_999_999_999_999_999, T_LIMIT];
+    for (term, wanted, thousandths) in
+        [(near, [7_867_739_512_949_282, 706_133_282], 1356), (wide, [23_548_187_022_943_816, -706_133_282], 1373)]
+    {
+        assert_eq!(same_term(term), wanted);
+        let off = off_reference(term);
+        assert!(!at_most_thousandths(&off, thousandths - 1) && at_most_thousandths(&off, thousandths + 1), "{term:?}");
+    }
 }
 
 /// Promised is at most 3/U for each term, and no distance for a constant one.

@@ -24,7 +24,7 @@ fn working_cosine_and_sine() {
 
 #[test]
 fn terms() {
-    for (number, line) in counted("terms.txt", 969) {
+    for (number, line) in counted("terms.txt", 1714) {
         let fields = &mut Fields::of(&line);
         let term = proved::term(numbers(fields));
         assert_eq!(term, numbers(fields), "line {number}: {line}");
@@ -120,7 +120,7 @@ fn directions() {
 
 #[test]
 fn nutation_and_obliquity() {
-    for (number, line) in counted("nutation.txt", 175) {
+    for (number, line) in counted("nutation.txt", 330) {
         let fields = &mut Fields::of(&line);
         let t = fields.number();
         let n = proved::nutation(t);
@@ -132,11 +132,14 @@ fn nutation_and_obliquity() {
     }
 }
 
-/// Planet and Earth at an instant. Their coordinates are those of the public call.
+/// Planet and Earth at an instant. Their coordinates are those of the public call, which refuses 17 last: a place judges both series
+/// before that.
 fn seen(planet: &[u8], earth: &[u8], t: i64) -> Outcome<proved::SightFigures> {
-    let planet = (LIBRARY.coordinates_at)(planet, t)?;
-    let earth = (LIBRARY.coordinates_at)(earth, t)?;
-    proved::sight(planet, earth).ok_or((11, 0))
+    let (planet, earth) = ((LIBRARY.coordinates_at)(planet, t), (LIBRARY.coordinates_at)(earth, t));
+    if let (Err((17, _)), Err(refusal)) = (planet, earth) {
+        return Err(refusal);
+    }
+    proved::sight(planet?, earth?).ok_or((11, 0))
 }
 
 /// The figures on the way to a place: planet and Earth at t, D and its light time, the geocentric vector at the earlier
@@ -156,7 +159,7 @@ fn steps(planet: &[u8], earth: &[u8], t: i64) -> Outcome<[i64; 11]> {
 #[test]
 fn steps_to_a_place() {
     let series = packed_series();
-    for (number, line) in counted("place.txt", 407) {
+    for (number, line) in counted("place.txt", 662) {
         let fields = &mut Fields::of(&line);
         if line.starts_with("light") {
             fields.word();

@@ -31,8 +31,9 @@ pub fn refused<A>(number: u64, figure: i64) -> Result<A, Refused> {
 pub const U: i64 = 1_000_000_000;
 /// A millennium in milliseconds.
 pub const MILLENNIUM: i64 = 31_557_600_000_000;
-/// The greatest |t|.
-pub const T_LIMIT: i64 = 2 * MILLENNIUM;
+/// The greatest |t|, and the greatest of the near range, up to which every series may be asked.
+pub const T_LIMIT: i64 = 4 * MILLENNIUM;
+pub const NEAR_LIMIT: i64 = 2 * MILLENNIUM;
 /// A quarter of a turn, and the turn, in 10^-16 radian, the unit of an angle.
 pub const QUARTER: i64 = 15_707_963_267_948_966;
 pub const TURN: i64 = 4 * QUARTER;
@@ -68,4 +69,9 @@ pub fn within_limit(t: i64) -> Result<(), Refused> {
         return refused(2, t);
     }
     Ok(())
+}
+
+/// Whether t is beyond the near range.
+pub fn is_far(t: i64) -> bool {
+    !(-NEAR_LIMIT..=NEAR_LIMIT).contains(&t)
 }

@@ -1,11 +1,14 @@
 //! Packed numbers, the limits of a series, packed series, and the printer.
 
-use super::{refused, Refused, PARTS, U};
+use super::{is_far, refused, Refused, PARTS, U};
 
 /// The coarseness sum of a coordinate: what each part of |a| counts, what the sum begins with, and what it may reach.
 const COARSE_SHARE: i128 = 6;
 const COARSE_BASE: i128 = 32 * U as i128;
 const COARSE_LIMIT: i128 = 200_000_000_000_000;
+/// What the sum begins with in the wide range, where each power has 4 for 2; and the greatest total |a| of a block there.
+const WIDE_BASE: i128 = 342 * U as i128;
+const WIDE_TOTAL: i64 = 50_000 * PARTS;
 
 /// A term a cos(b + c tau), all three in parts.
 #[derive(Clone, Copy, Debug, PartialEq, Eq)]
@@ -25,6 +28,30 @@ impl Term {
 #[derive(Clone, Debug, Default, PartialEq, Eq)]
 pub struct Series {
     pub blocks: [Vec<Term>; 18],
+}
+
+/// The coarseness sum of one coordinate's six blocks in the wide range.
+fn wide_coarseness(blocks: &[Vec<Term>]) -> i128 {
+    let counts = |term: &Term| if term.constant() { 0 } else { COARSE_SHARE * term.a.abs() as i128 + U as i128 };
+    let of_power = |(power, block): (u32, &Vec<Term>)| 4_i128.pow(power) * block.iter().map(counts).sum::<i128>();
+    WIDE_BASE + (0..).zip(blocks).map(of_power).sum::<i128>()
+}
+
+impl Series {
+    /// Whether it is good for the wide range.
+    pub fn is_wide(&self) -> bool {
+        let total = |block: &Vec<Term>| block.iter().map(|term| term.a.abs()).sum::<i64>();
+        self.blocks.iter().all(|block| total(block) <= WIDE_TOTAL)
+            && self.blocks.chunks(6).all(|blocks| wide_coarseness(blocks) <= COARSE_LIMIT)
+    }
+}
+
+/// Refusal 17, for the first instant beyond the near range where a series is not good for the wide one.
+pub fn not_too_far(series: &[&Series], instants: impl IntoIterator<Item = i64>) -> Result<(), Refused> {
+    match instants.into_iter().find(|&t| is_far(t)) {
+        Some(t) if !series.iter().all(|series| series.is_wide()) => refused(17, t),
+        _ => Ok(()),
+    }
 }
 
 pub fn fold(v: i64) -> u64 {
@@ -230,10 +257,16 @@ pub fn parse(bytes: &[u8]) -> Result<Series, Refused> {
     Ok(series)
 }
 
-/// The number of terms of packed bytes.
-pub fn check(bytes: &[u8]) -> Result<i64, Refused> {
+/// How many terms a series has, and whether it is good for the wide range.
+#[derive(Clone, Copy, Debug, PartialEq, Eq)]
+pub struct Checked {
+    pub terms: i64,
+    pub wide: bool,
+}
+
+pub fn check(bytes: &[u8]) -> Result<Checked, Refused> {
     let series = parse(bytes)?;
-    Ok(series.blocks.iter().map(|block| block.len() as i64).sum())
+    Ok(Checked { terms: series.blocks.iter().map(|block| block.len() as i64).sum(), wide: series.is_wide() })
 }
 
 fn put_decimal(out: &mut Vec<u8>, v: i64) {

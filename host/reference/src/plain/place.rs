@@ -2,7 +2,7 @@
 
 use super::cosine::{cosine, sine};
 use super::nutation::nutation;
-use super::packed::{parse, Series};
+use super::packed::{not_too_far, parse, Series};
 use super::series::{coordinates, Coordinates};
 use super::{refused, rounded, within_limit, within_turn, Refused, ANGLE_PER_PART, PARTS, TURN, U};
 
@@ -173,14 +173,14 @@ pub fn apparent_place_worked(planet: &[u8], earth: &[u8], t: i64) -> Result<(Pla
     within_limit(t)?;
     let planet = parse(planet)?;
     let earth = parse(earth)?;
-    let Some(now) = geometry(&planet, &earth, t) else {
-        return refused(11, 0);
+    let usable = |t: i64| {
+        not_too_far(&[&planet, &earth], [t])?;
+        geometry(&planet, &earth, t).map_or_else(|| refused(11, 0), Ok)
     };
+    let now = usable(t)?;
     let earlier_t = t - light_time(now.distance);
     within_limit(earlier_t)?;
-    let Some(earlier) = geometry(&planet, &earth, earlier_t) else {
-        return refused(11, 0);
-    };
+    let earlier = usable(earlier_t)?;
     let nutation = nutation(t);
     let seen = earlier.geocentric;
     let longitude = angle_of(direction(seen.x, seen.y)) + nutation.longitude_angle();

@@ -1,7 +1,7 @@
 //! A term's angle and value, and the coordinates of a series at an instant.
 
 use super::cosine::cosine;
-use super::packed::{parse, Series, Term};
+use super::packed::{not_too_far, parse, Series, Term};
 use super::{rounded, within_limit, within_turn, Refused, ANGLE_PER_PART, MILLENNIUM, U};
 
 #[derive(Clone, Copy, Debug, PartialEq, Eq)]
@@ -35,7 +35,7 @@ fn coordinate(blocks: &[Vec<Term>], t: i64) -> i64 {
     v as i64
 }
 
-/// The coordinates at a t within its limit.
+/// The coordinates at a t within its limit, where the series may be asked.
 pub fn coordinates(series: &Series, t: i64) -> Coordinates {
     Coordinates {
         longitude: coordinate(&series.blocks[..6], t),
@@ -46,5 +46,7 @@ pub fn coordinates(series: &Series, t: i64) -> Coordinates {
 
 pub fn coordinates_at(packed: &[u8], t: i64) -> Result<Coordinates, Refused> {
     within_limit(t)?;
-    Ok(coordinates(&parse(packed)?, t))
+    let series = parse(packed)?;
+    not_too_far(&[&series], [t])?;
+    Ok(coordinates(&series, t))
 }

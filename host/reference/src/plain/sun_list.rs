@@ -1,7 +1,7 @@
 //! The list of minutes near the Sun.
 
 use super::cosine::sine;
-use super::packed::parse;
+use super::packed::{not_too_far, parse};
 use super::place::{geometry, Geometry};
 use super::{refused, rounded, within_limit, Refused, TURN};
 
@@ -36,6 +36,7 @@ pub fn sun_list(
     within_limit(t0 + 60_000 * (minutes - 1))?;
     let planet = parse(planet)?;
     let earth = parse(earth)?;
+    not_too_far(&[&planet, &earth], (0..minutes).map(|minute| t0 + 60_000 * minute))?;
     let limit = threshold(keep_out);
     let mut numbers: Vec<u64> = Vec::new();
     let mut in_run = false;

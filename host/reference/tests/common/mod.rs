@@ -2,9 +2,9 @@
 
 use std::path::Path;
 
-/// A file of vectors of a request.
-pub fn request(name: &str) -> String {
-    let path = Path::new(env!("CARGO_MANIFEST_DIR")).join("../../vectors/requests").join(name);
+/// A file of vectors.
+pub fn vectors(name: &str) -> String {
+    let path = Path::new(env!("CARGO_MANIFEST_DIR")).join("../../vectors").join(name);
     std::fs::read_to_string(&path).unwrap_or_else(|error| panic!("{}: {error}", path.display()))
 }
 

@@ -19,8 +19,8 @@ pub fn coordinates(rest: &[String], report: &mut Report) -> Result<Done, Failure
     let t = instant(when)?;
     let series = &all(&[word], arguments.option("--data"))?[0];
     report.sources = vec![series.json("input")];
-    let c =
-        stephylax::coordinates_at(&series.packed, t).map_err(|refusal| Failure::refused_at(refusal, series.blame()))?;
+    let c = stephylax::coordinates_at(&series.packed, t)
+        .map_err(|refusal| Failure::refused_at(refusal, series.blame_for(refusal)))?;
     let degrees = |parts: i64| (parts as f64 * PART).to_degrees();
     let text = format!(
         "{}, heliocentric, {} TD (t = {t} ms)\n\

@@ -60,7 +60,7 @@ stephylax: places of planets, and the minutes when one stands too near the Sun, 
       writes the offset of each change and 0 (dropped) or 1 (a tab made a space), a line each; --dry-run writes nothing
       and only tells. No file is written over the one that is read.
   stephylax check SERIES [--data FOLDER]
-      How many terms a series has, or why it is refused.
+      How many terms a series has and whether it is good for four millennia or for two, or why it is refused.
   stephylax --version
       The version, and the toolchain and the commit that it was built with.
 
@@ -77,7 +77,8 @@ DATE: 2026-11-15, its year with four digits and a sign if need be (-0044-03-15),
 1582-10-04, years from -4712 to 9999 (the year 0 exists); today if left out. TIME: 18:30, 18:30:05 or 18:30:05.250,
 else 00:00; DATE and TIME may be joined by a T. `now` stands for both: the second of the system's clock.
 All times are TD (dynamical time), which is 69.184 seconds ahead of UTC since 2017: `now` is put ahead by 69 seconds,
-today is the day of UTC. t is in milliseconds of TD from 2000-01-01 12h, at most two millennia away.
+today is the day of UTC. t is in milliseconds of TD from 2000-01-01 12h, at most four millennia away (-2001-12-19 12h
+to 6000-01-31 12h); beyond two millennia only where the series are good for that, which `check` tells.
 
 Exit status: 0 answered; 1 refused; 2 wrong use; 3 a file, or standard output, could not be read or written whole;
 4 (sun-list --quiet alone) no minute is listed, where 0 says that at least one is.
@@ -91,4 +92,5 @@ A refusal is printed with its number, its figure in brackets and a sentence:
   10 a packed number is not shortest (offset)            11 a place is not usable (minute of the window, else 0)
   12 keep-out outside 60 to 2,700 arcminutes, or no minutes in the window
   13 a heading is wrong or out of order (offset)         14 a running number is wrong (offset)
+  17 the instant is beyond two millennia, and a series is not good for that (the instant)
 ";

@@ -4,11 +4,18 @@ use std::fmt;
 
 pub enum Json {
     Null,
+    Truth(bool),
     Number(i64),
     Real(f64),
     Text(String),
     List(Vec<Json>),
     Object(Vec<(&'static str, Json)>),
+}
+
+impl From<bool> for Json {
+    fn from(truth: bool) -> Json {
+        Json::Truth(truth)
+    }
 }
 
 impl From<i64> for Json {
@@ -68,6 +75,7 @@ fn quoted(f: &mut fmt::Formatter, text: &str) -> fmt::Result {
 impl fmt::Display for Json {
     fn fmt(&self, f: &mut fmt::Formatter) -> fmt::Result {
         match self {
+            Json::Truth(truth) => write!(f, "{truth}"),
             Json::Number(number) => write!(f, "{number}"),
             Json::Real(number) if number.is_finite() => write!(f, "{number}"),
             Json::Null | Json::Real(_) => f.write_str("null"),

@@ -9,11 +9,11 @@ use crate::output::write;
 use crate::picture::picture;
 use crate::progress::Progress;
 use crate::report::Report;
-use crate::runs::{runs, Run};
+use crate::runs::{judge_ends, runs, Run};
 use crate::series::{judge_different, Series};
 use crate::sight::{bodies, sources, Sight};
 use crate::tables::{csv, table};
-use crate::window::Window;
+use crate::window::{Window, DAY};
 use crate::Done;
 
 const KEEP_OUT: i64 = 600;
@@ -91,7 +91,12 @@ fn lists<'a>(
     window: &'a Window,
     keep_out: i64,
 ) -> Result<Lists<'a>, Failure> {
-    let mut progress = Progress::new(window.minutes.saturating_mul(planets.len() as i64));
+    let minutes = window.minutes.saturating_mul(planets.len() as i64);
+    // Of more than one call, none is made before it is known that no planet's ends are refused.
+    if DAY < minutes {
+        planets.iter().try_for_each(|planet| judge_ends(Sight { planet, earth }, window, keep_out))?;
+    }
+    let mut progress = Progress::new(minutes);
     let listed = |planet: &'a Series| {
         let sight = Sight { planet, earth };
         Ok(Listed { sight, runs: runs(sight, window, keep_out, &mut progress)? })

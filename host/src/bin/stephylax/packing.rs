@@ -80,8 +80,16 @@ pub fn check(rest: &[String], report: &mut Report) -> Result<Done, Failure> {
     arguments.count(1, 1, "check")?;
     let series = &all(&[&arguments.words[0]], arguments.option("--data"))?[0];
     report.sources = vec![series.json("input")];
-    let terms = stephylax::check(&series.packed).map_err(|refusal| Failure::refused_at(refusal, series.blame()))?;
-    let answer = Json::Object(vec![("terms", terms.into()), ("packed_bytes", series.packed.len().into())]);
-    report.give(&format!("{}: a good series of {}\n", series.name, series.described()), answer)?;
+    let checked = stephylax::check(&series.packed).map_err(|refusal| Failure::refused_at(refusal, series.blame()))?;
+    let answer = Json::Object(vec![
+        ("terms", checked.terms.into()),
+        ("packed_bytes", series.packed.len().into()),
+        ("wide", checked.wide.into()),
+    ]);
+    let range = if checked.wide { "four millennia" } else { "two millennia alone" };
+    let (name, described) = (&series.name, series.described());
+    let told =
+        format!("{name}: a good series of {described}\nIt is good for {range} on either side of 2000-01-01 12h TD.\n");
+    report.give(&told, answer)?;
     Ok(Done::Answered)
 }

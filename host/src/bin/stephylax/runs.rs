@@ -34,22 +34,46 @@ fn failure(sight: Sight, refusal: Refusal, window: &Window, start: i64) -> Failu
     }
 }
 
-/// Asks for the last minute of a long window first, so that one that reaches past the limit is not worked in vain.
+/// Asks for the last minute of a window and for the first, so that one that reaches past a limit is not worked in vain.
 /// Whether places are usable is left to the parts, which find the first minute that is not.
-fn judge_last_minute(sight: Sight, window: &Window, keep_out: i64) -> Result<(), Failure> {
+pub fn judge_ends(sight: Sight, window: &Window, keep_out: i64) -> Result<(), Failure> {
     let Sight { planet, earth } = sight;
-    match sun_list(&planet.packed, &earth.packed, window.last_minute(), 1, keep_out, &mut [0; 2]) {
-        Ok(_) | Err(Refusal::NotUsable(_)) => Ok(()),
-        Err(refusal) => Err(failure(sight, refusal, window, 0)),
+    let asked = |minute| sun_list(&planet.packed, &earth.packed, window.at(minute), 1, keep_out, &mut [0; 2]);
+    let last = window.minutes - 1;
+    match asked(last) {
+        Ok(_) | Err(Refusal::NotUsable(_)) => {}
+        Err(Refusal::TooFar(_)) => {
+            let minute = first_too_far(last, |minute| matches!(asked(minute), Err(Refusal::TooFar(_))));
+            return Err(failure(sight, Refusal::TooFar(window.at(minute)), window, 0));
+        }
+        Err(refusal) => return Err(failure(sight, refusal, window, 0)),
     }
+    match asked(0) {
+        Err(refusal @ Refusal::TooFar(_)) => Err(failure(sight, refusal, window, 0)),
+        _ => Ok(()),
+    }
+}
+
+/// The first minute that is too far, where the last one is. Unless minute 0 is too far itself, all are from some minute on.
+fn first_too_far(last: i64, too_far: impl Fn(i64) -> bool) -> i64 {
+    if too_far(0) {
+        return 0;
+    }
+    let (mut near, mut far) = (0, last);
+    while near + 1 < far {
+        let middle = near + (far - near) / 2;
+        if too_far(middle) {
+            far = middle;
+        } else {
+            near = middle;
+        }
+    }
+    far
 }
 
 /// All runs of a window.
 pub fn runs(sight: Sight, window: &Window, keep_out: i64, progress: &mut Progress) -> Result<Vec<Run>, Failure> {
     let Sight { planet, earth } = sight;
-    if DAY < window.minutes {
-        judge_last_minute(sight, window, keep_out)?;
-    }
     let mut runs = Vec::new();
     let mut numbers = [0; DAY as usize];
     let mut done = 0;

@@ -6,7 +6,7 @@ use crate::json::Json;
 use crate::output::read;
 use crate::tables::{counted, parted};
 use std::path::{Path, PathBuf};
-use stephylax::Refusal;
+use stephylax::{Checked, Refusal};
 
 #[derive(Clone, Copy, PartialEq)]
 pub enum Kind {
@@ -37,8 +37,8 @@ pub struct Series {
     pub file: String,
     pub kind: Kind,
     pub packed: Vec<u8>,
-    /// How many terms it has, if it is good.
-    pub terms: Option<i64>,
+    /// What the library says of it, if it is good.
+    pub checked: Option<Checked>,
 }
 
 /// What a word asks for.
@@ -131,14 +131,14 @@ pub fn is_published(bytes: &[u8]) -> bool {
 
 /// The series of a file's bytes.
 pub fn of_bytes(name: String, path: &Path, kind: Kind, bytes: Vec<u8>) -> Result<Series, Failure> {
-    let mut series = Series { name, file: shown(path), kind, packed: bytes, terms: None };
+    let mut series = Series { name, file: shown(path), kind, packed: bytes, checked: None };
     if kind != Kind::Packed {
         series.packed = packed(kind, &series.packed).map_err(|refusal| {
             let remedy = remedy(kind, &series.packed, refusal);
             Failure::Refused { refusal, at: Some(series.blame()), remedy }
         })?;
     }
-    series.terms = stephylax::check(&series.packed).ok();
+    series.checked = stephylax::check(&series.packed).ok();
     Ok(series)
 }
 
@@ -181,9 +181,26 @@ impl Series {
         format!("{} was read as {}", self.file, self.kind.word())
     }
 
+    /// What there is to say of it where a call is refused: of refusal 17 how far it may be asked.
+    pub fn blame_for(&self, refusal: Refusal) -> String {
+        match refusal {
+            Refusal::TooFar(_) => format!("{} is good for two millennia alone", self.file),
+            _ => self.blame(),
+        }
+    }
+
+    /// Whether it is good for the near range alone.
+    pub fn is_narrow(&self) -> bool {
+        self.checked.is_some_and(|checked| !checked.wide)
+    }
+
+    fn terms(&self) -> Option<i64> {
+        self.checked.map(|checked| checked.terms)
+    }
+
     /// All that is told of a series.
     pub fn described(&self) -> String {
-        let terms = self.terms.map_or("? terms".to_string(), |terms| counted(terms, "term"));
+        let terms = self.terms().map_or("? terms".to_string(), |terms| counted(terms, "term"));
         let (bytes, sum, kind) = (parted(self.packed.len() as i64), self.checksum(), self.kind.word());
         format!("{terms}, {bytes} bytes packed, fnv1a64 {sum}, from {} ({kind})", self.file)
     }
@@ -199,7 +216,7 @@ impl Series {
             ("name", self.name.as_str().into()),
             ("file", self.file.as_str().into()),
             ("kind", self.kind.word().into()),
-            ("terms", self.terms.into()),
+            ("terms", self.terms().into()),
             ("packed_bytes", self.packed.len().into()),
             ("fnv1a64", self.checksum().into()),
         ])

@@ -26,11 +26,23 @@ pub fn sources(planets: &[Series], earth: &Series) -> Vec<Json> {
 
 impl Sight<'_> {
     /// A refusal of a call that took both series. If one of them is at fault, it is named: the library judges the planet's
-    /// first. Else `at` says where.
+    /// first. Else `at` says where; of refusal 17, for which series and instant are at fault together, it does so too.
     pub fn failure(&self, refusal: Refusal, at: String) -> Failure {
-        let at_fault =
-            [self.planet, self.earth].into_iter().find(|series| stephylax::check(&series.packed) == Err(refusal));
-        Failure::refused_at(refusal, at_fault.map_or(at, Series::blame))
+        let is_too_far = matches!(refusal, Refusal::TooFar(_));
+        let is_at_fault = |series: &&Series| match is_too_far {
+            true => series.is_narrow(),
+            false => stephylax::check(&series.packed) == Err(refusal),
+        };
+        let at_fault = [self.planet, self.earth].into_iter().find(is_at_fault);
+        let blame = at_fault.map(|series| series.blame_for(refusal));
+        Failure::refused_at(
+            refusal,
+            match blame {
+                Some(blame) if is_too_far => format!("{at}; {blame}"),
+                Some(blame) => blame,
+                None => at,
+            },
+        )
     }
 
     /// The angle between planet and Sun in degrees. It is worked in floating point, for the eye: no list rests on it.
