@@ -91,4 +91,5 @@ module _ {t : ℤ} {planet earth : List (List Term)} (w : Worked t planet earth)
       let back : k - 2 + 2 ≡ k = omega arith in
       subst (λ (n : ℕ). Within-arcminutes n (exact-coordinates (record { ms = t }) planet) (exact-coordinates (record { ms = t }) earth)) back
       (listed-is-within _ _ _ _ (near (pack planet) planet (record { ms = t }) (w .planet-in) (w .time-in) (w .planet-asked))
-      (near (pack earth) earth (record { ms = t }) (w .earth-in) (w .time-in) (w .earth-asked)) all-usable (k - 2) (omega arith) (omega arith) (listed-is (k - 2) ∙ y))
+      (near (pack earth) earth (record { ms = t }) (w .earth-in) (w .time-in) (w .earth-asked))
+      all-usable (k - 2) (omega arith) (omega arith) (listed-is (k - 2) ∙ y))

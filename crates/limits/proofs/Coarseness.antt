@@ -36,7 +36,8 @@ module _ (tau base : ℕ) where
   pub data Coarse : ℕ → ℕ → List (List Term) → Type 0 where
     no-blocks : {k c : ℕ} → Coarse k c []
     a-block : {k c : ℕ} {ts : List Term} {bs : List (List Term)}
-        → start base k c + burden (tau ^ (k % powers)) ts ≤ coarse-limit → Coarse (k + 1) (start base k c + burden (tau ^ (k % powers)) ts) bs → Coarse k c (ts ∷ bs)
+        → start base k c + burden (tau ^ (k % powers)) ts ≤ coarse-limit → Coarse (k + 1) (start base k c + burden (tau ^ (k % powers)) ts) bs
+        → Coarse k c (ts ∷ bs)
 
   -- The first block of some.
   first-block : (k p : ℕ) (ts : List Term) (bs : List (List Term))
@@ -46,7 +47,8 @@ module _ (tau base : ℕ) where
 
   -- Blocks of one coordinate, from the judgement block by block.
   coarse-part : (j p k c : ℕ) (bs : List (List Term))
-      → Coarse k c bs → k % powers ≡ p → p + j ≤ powers → start base k c ≤ coarse-limit → start base k c + coarseness-by tau coarse-share p (take j bs) ≤ coarse-limit
+      → Coarse k c bs → k % powers ≡ p → p + j ≤ powers → start base k c ≤ coarse-limit
+      → start base k c + coarseness-by tau coarse-share p (take j bs) ≤ coarse-limit
   unfolding coarseness-by
   coarse-part zero p k c bs h e l b = omega arith
   coarse-part (suc j) p k c [] h e l b = omega arith
@@ -67,7 +69,8 @@ module _ (tau base : ℕ) where
   coarse-drop (suc j) k c [] h = record { sum = c; is = no-blocks }
   coarse-drop (suc j) k c (ts ∷ bs) (a-block w r) = let e : k + suc j ≡ k + 1 + j = omega arith in rw e (coarse-drop j (k + 1) _ bs r)
 
-  pub coarse-coordinate : base ≤ coarse-limit → (c q : ℕ) (bs : List (List Term)) → Coarse 0 c bs → coarseness-by tau coarse-share 0 (coordinate q bs) + base ≤ coarse-limit
+  pub coarse-coordinate : base ≤ coarse-limit → (c q : ℕ) (bs : List (List Term)) → Coarse 0 c bs
+      → coarseness-by tau coarse-share 0 (coordinate q bs) + base ≤ coarse-limit
   coarse-coordinate low c q bs h =
       let d = coarse-drop (powers * q) 0 c bs h in
       let n : (0 + powers * q) % powers ≡ 0 = omega arith in
@@ -84,7 +87,8 @@ module _ (tau base : ℕ) where
   coarse-group j p k c [] e l w r = no-blocks
   coarse-group zero p k c (ts ∷ bs) e l w r =
       let z : k + 1 ≡ k + suc zero = omega arith in
-      let s : start base k c + (burden (tau ^ (k % powers)) ts + coarseness-by tau coarse-share (suc p) []) ≤ coarse-limit = rw (first-block k p ts [] e) at w in
+      let s : start base k c + (burden (tau ^ (k % powers)) ts + coarseness-by tau coarse-share (suc p) []) ≤ coarse-limit =
+      rw (first-block k p ts [] e) at w in
       a-block {k = k} {c = c} {ts = ts} {bs = bs} (omega arith) (rw z (r _))
   coarse-group (suc j) p k c (ts ∷ bs) e l w r =
       let s : start base k c + (burden (tau ^ (k % powers)) ts + coarseness-by tau coarse-share (suc p) (take (suc j) bs)) ≤ coarse-limit =

@@ -57,7 +57,8 @@ after-total k s ts = summed-total (factor k) (opened k (length ts) s) ts ∙ rw 
 
 -- What a block has added to the coarseness sum, times its factor, is what it adds to the wide one.
 grown : (k : ℕ) (s : Tally) (ts : List Term)
-    → factor k * (after-block k s ts .coarse - start coarse-base k (s .coarse)) ≡ wide-tau ^ (k % powers) * (coarse-share * moving-total ts + U * moving-count ts)
+    → factor k * (after-block k s ts .coarse - start coarse-base k (s .coarse))
+    ≡ wide-tau ^ (k % powers) * (coarse-share * moving-total ts + U * moving-count ts)
 unfolding factor burden
 grown k s ts =
     ap (λ (c : ℕ). coarse-tau ^ (k % powers) * (c - start coarse-base k (s .coarse))) (after-coarse k s ts)
@@ -74,7 +75,8 @@ widened-block k w s ts =
     ap₂ (λ (a b : ℕ). judged-wide w (start wide-base k (w .sum) + a) b) (grown k s ts) (after-total k s ts)
 
 -- While nothing has failed the sum is within its limit.
-judged-small : (w : Wide) (sum total : ℕ) → (w .good ≡ true → w .sum ≤ coarse-limit) → judged-wide w sum total .good ≡ true → judged-wide w sum total .sum ≤ coarse-limit
+judged-small : (w : Wide) (sum total : ℕ) → (w .good ≡ true → w .sum ≤ coarse-limit)
+    → judged-wide w sum total .good ≡ true → judged-wide w sum total .sum ≤ coarse-limit
 unfolding judged-wide judged
 judged-small w sum total h = go (w .good)
   where

@@ -26,7 +26,8 @@ use Rattle.packed.specs.machine.Answers.{row-of, filled, Filled}
 use Rattle.packed.proofs.Walking.{Stepped, joined, joined-none, joined-more}
 use Rattle.packed.proofs.Blocks.{block-accepted, block-sums, blocks-are-good}
 use Rattle.packed.proofs.Widening.{tallies-say}
-use Rattle.packed.proofs.Tabling.{all-rows, rows-more, count-more, ends-more, table-law, ends-length, ends-set, ends-stay, rows-stored, tally-upto, upto-more, tallies-more}
+use Rattle.packed.proofs.Tabling.{all-rows, rows-more, count-more, ends-more, table-law, ends-length, ends-set, ends-stay, rows-stored}
+use Rattle.packed.proofs.Tabling.{tally-upto, upto-more, tallies-more}
 
 -- The loop's invariant, with the blocks that are done.
 pub record Unpacking (s : List ℕ) (rows sums : List (List ℕ)) (tally : Tally) (i k : ℕ) : Type 0 where

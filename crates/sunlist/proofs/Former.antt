@@ -15,8 +15,8 @@ use Rattle.limits.specs.declared.Term.{Term}
 use Rattle.limits.specs.Wide.{Range, four-millennia, two-millennia, both-asked}
 use Rattle.limits.proofs.Reach.{near-taken, near-both}
 use Rattle.packed.specs.Series.{Parsed, accepted, refused, parse}
-use Rattle.sunlist.specs.SunList.{minute, window-fits, decision-at, of-minutes, first-unasked, of-blocks, of-series, outcome-by, outcome, answered, written}
-use Rattle.sunlist.specs.SunList.{sun-list-by, sun-list-out-by, sun-list, sun-list-out}
+use Rattle.sunlist.specs.SunList.{minute, window-fits, decision-at, of-minutes, first-unasked, of-blocks, of-series, outcome-by, outcome}
+use Rattle.sunlist.specs.SunList.{answered, written, sun-list-by, sun-list-out-by, sun-list, sun-list-out}
 use Rattle.sunlist.proofs.Limits.{minute-in}
 use Rattle.sunlist.proofs.Failing.{none-fails}
 

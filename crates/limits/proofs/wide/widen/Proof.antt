@@ -28,7 +28,8 @@ sub-judge-wide c = search needs
 
 -- What the block has added, times its factor.
 added-small : (c : tie.After-block-factor)
-    → c .block-factor .result * (c .before .before .before .before .before .args .after .coarse - c .before .before .begin .result) ≤ factor-limit * coarse-limit
+    → c .block-factor .result * (c .before .before .before .before .before .args .after .coarse - c .before .before .begin .result)
+    ≤ factor-limit * coarse-limit
 added-small c = grown-small _ _ _ (c .block-factor .ensures .1) (c .before .before .before .before .before .pre .within)
 
 mul-judge-wide : tie.Need-mul-judge-wide
@@ -38,7 +39,8 @@ add-judge-wide : tie.Need-add-judge-wide
 add-judge-wide c =
     let s = c .before .before .before .before .before .before in
     let b = c .before .before .begin2 in
-    let h = held-small (s .args .k) (s .args .w .sum) (b .result) (b .ensures) (s .pre .small (not-false (s .args .w .good) (c .before .before .before .before .if1 .left))) in
+    let g = not-false (s .args .w .good) (c .before .before .before .before .if1 .left) in
+    let h = held-small (s .args .k) (s .args .w .sum) (b .result) (b .ensures) (s .pre .small g) in
     omega (arith, h, added-small (c .before))
 
 judge-wide-requires : tie.Need-judge-wide-requires
@@ -50,7 +52,8 @@ returns-2 c =
     let t = c .before .before .before .before .before in
     let a = s .args in
     widens (a .k) (a .w) (a .before) (a .after) (not-false (a .w .good) (t .if1 .left))
-    (c .before .before .before .before .begin .ensures) (c .before .before .before .begin2 .ensures) (c .before .before .block-factor .ensures .0) (c .judge-wide .ensures)
+    (c .before .before .before .before .begin .ensures) (c .before .before .before .begin2 .ensures)
+    (c .before .before .block-factor .ensures .0) (c .judge-wide .ensures)
 
 pub widen-spec : {M : Type 1} → statement M
 widen-spec =
