@@ -1,5 +1,5 @@
 -- Numbers that are held in their range: what is answered, and what the calls ask. Assumes nothing.
-use mathlib.Core.Path.{_≡_, ap, ap₂, _∙_, subst}
+use mathlib.Core.Path.{_≡_, sym, ap, ap₂, _∙_, subst}
 use mathlib.Core.Bool.{true, false}
 use Prim.Native.Nat.{ℕ, _^_, _≤_, _<_}
 use native.Mathlib.Omega.{arith}
@@ -10,10 +10,19 @@ use lib.IntN.{ℤ, pos, natAbs, _+ℤ_, _*ℤ_}
 use Rattle.integers.proofs.Order.{natAbs-+, natAbs-*}
 use Rattle.units.specs.Units.{a-limit, b-limit, c-limit, t-limit}
 use Rattle.cosine.specs.Terms.{term-angle, term-value}
+use Rattle.rectangular.specs.declared.Vector.{Vector}
+use Rattle.rectangular.specs.declared.Frame.{Frame}
+use Rattle.rectangular.specs.declared.Sight.{Sight}
 use Rattle.rectangular.specs.Vectors.{length}
+use Rattle.rectangular.specs.Frames.{turned}
+use Rattle.rectangular.specs.Sight.{sight}
+use Rattle.rectangular.specs.machine.Components.{Components, grown}
+use Rattle.rectangular.proofs.Turn.{turned-size}
 use Rattle.direction.specs.Direction.{latitude}
 use Rattle.arith.proofs.Cells.{Cell, cell}
-use Rattle.inner_rules.specs.Inner.{held, reach, a-last, b-last, c-last}
+use Rattle.inner_rules.specs.declared.VectorFigures.{VectorFigures}
+use Rattle.inner_rules.specs.declared.SightFigures.{SightFigures}
+use Rattle.inner_rules.specs.Inner.{held, reach, turn-reach, a-last, b-last, c-last, vector-figures, shown}
 
 pub held-in : (last m : ℕ) (x : ℤ) → m ≡ natAbs x → m ≤ last → (x ≡ held last x) × (natAbs x ≤ last)
 unfolding held
@@ -73,3 +82,23 @@ angle-told r b b′ c t c′ t′ f g k h = h ∙ ap (λ (z : ℕ). term-angle z
 pub value-told : (r a a′ : ℤ) (b b′ : ℕ) (c t c′ t′ : ℤ) → a ≡ a′ → b ≡ b′ → c ≡ c′ → t ≡ t′ → r ≡ term-value a b c t → r ≡ term-value a′ b′ c′ t′
 value-told r a a′ b b′ c t c′ t′ e f g k h =
     h ∙ ap (λ z. term-value z b c t) e ∙ ap (λ (z : ℕ). term-value a′ z c t) f ∙ ap₂ (term-value a′ b′) g k
+
+-- Likewise a turned vector, whose components go in and come out as their bits.
+pub turned-told : (w : Vector) {x y z x′ y′ z′ : ℤ} → x ≡ x′ → y ≡ y′ → z ≡ z′ → natAbs x ≤ turn-reach → natAbs y ≤ turn-reach → natAbs z ≤ turn-reach
+    → w ≡ turned (record { x = Cell x; y = Cell y; z = Cell z })
+    → _≡_ {A = VectorFigures} (record { x = Cell (w .x); y = Cell (w .y); z = Cell (w .z) }) (vector-figures (turned (record { x = x′; y = y′; z = z′ })))
+unfolding vector-figures
+turned-told w {x} {y} {z} {x′} {y′} {z′} ex ey ez hx hy hz e =
+    let v : Vector = record { x = x; y = y; z = z } in
+    let p : w ≡ turned v = e ∙ rw (cell x (omega arith), cell y (omega arith), cell z (omega arith)) in
+    let s = subst (Components (grown turn-reach)) (sym p) (turned-size turn-reach v (record { x-in = hx; y-in = hy; z-in = hz })) in
+    let a = s .x-in in
+    let b = s .y-in in
+    let c = s .z-in in
+    rw (← ex, ← ey, ← ez, cell (w .x) (omega arith), cell (w .y) (omega arith), cell (w .z) (omega arith), p)
+
+-- And a sight.
+pub sight-told : (f : Frame) {l b r l′ b′ r′ m n o m′ n′ o′ : ℤ} → l ≡ l′ → b ≡ b′ → r ≡ r′ → m ≡ m′ → n ≡ n′ → o ≡ o′ → {s : Sight} {z : SightFigures}
+    → s ≡ sight f (record { longitude = l; latitude = b; radius = r }) (record { longitude = m; latitude = n; radius = o }) → z ≡ shown s
+    → z ≡ shown (sight f (record { longitude = l′; latitude = b′; radius = r′ }) (record { longitude = m′; latitude = n′; radius = o′ }))
+sight-told f el eb er em en eo ps pz = pz ∙ ap shown ps ∙ rw (el, eb, er, em, en, eo)

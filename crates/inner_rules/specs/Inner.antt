@@ -1,11 +1,13 @@
--- What a number past its range counts as, where tests call inner rules, and that range; and a sight as numbers.
+-- What a number past its range counts as, where tests call inner rules, and that range; a vector and a sight as numbers.
 use mathlib.Core.Bool.{cond}
 use Prim.Native.Nat.{ℕ, _-_, _^_}
 use lib.IntN.{ℤ, pos, natAbs}
 use lib.Dec.{leb}
 use Rattle.units.specs.Units.{a-limit, b-limit, c-limit}
+use Rattle.rectangular.specs.declared.Vector.{Vector}
 use Rattle.rectangular.specs.declared.Sight.{Sight}
 use Rattle.rectangular.specs.declared.Sight.the-variants.{Usable, Unusable}
+use Rattle.inner_rules.specs.declared.VectorFigures.{VectorFigures}
 use Rattle.inner_rules.specs.declared.SightFigures.{SightFigures}
 
 -- The number itself, or 0 where its magnitude is past the last allowed.
@@ -16,6 +18,10 @@ held last x = cond (leb (natAbs x) last) x (pos 0)
 abbrev pub reach : ℕ
 reach = 2 ^ 45
 
+-- The greatest component that is turned, over 87 AU.
+abbrev pub turn-reach : ℕ
+turn-reach = 2 ^ 43
+
 -- The greatest |a|, b and |c| of a term.
 abbrev pub a-last : ℕ
 a-last = a-limit - 1
@@ -25,6 +31,10 @@ b-last = b-limit - 1
 
 abbrev pub c-last : ℕ
 c-last = c-limit - 1
+
+-- A vector as its numbers.
+unfoldable pub vector-figures : Vector → VectorFigures
+vector-figures v = record { x = v .x; y = v .y; z = v .z }
 
 -- A usable sight as 1 and its numbers; an unusable one is nothing but 0.
 unfoldable pub shown : Sight → SightFigures

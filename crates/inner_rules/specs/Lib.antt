@@ -1,2 +1,2 @@
--- What a number past its range counts as, where tests call inner rules, and a sight as numbers.
+-- What a number past its range counts as, where tests call inner rules, and a vector and a sight as numbers.
 pub mod Inner

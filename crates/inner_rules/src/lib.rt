@@ -9,11 +9,13 @@ ghost use Rattle.direction.specs.Direction.{direction as direction·of, latitud
 ghost use Rattle.rectangular.specs.Vectors.{length as length·of};
 ghost use Rattle.units.specs.Units.{t-limit};
 ghost use Rattle.cosine.specs.Terms.{term-angle, term-value};
+ghost use Rattle.rectangular.specs.declared.Frame.the-variants.{Theory, Catalogues};
+ghost use Rattle.rectangular.specs.Frames.{turned as turned·of};
 ghost use Rattle.rectangular.specs.Sight.{sight as sight·of};
 ghost use Rattle.nutation.specs.Nutation.{mean-elongation, sun-anomaly, moon-anomaly, latitude-argument, moon-node};
 ghost use Rattle.nutation.specs.Nutation.{longitude-nutation, obliquity-nutation, mean-obliquity, nutation-angle, obliquity-angle};
 ghost use Rattle.place.specs.Apparent.{light-time};
-ghost use Rattle.inner_rules.specs.Inner.{held, reach, a-last, b-last, c-last, shown};
+ghost use Rattle.inner_rules.specs.Inner.{held, reach, turn-reach, a-last, b-last, c-last, vector-figures, shown};
 use crate::terms::figures_of;
 use arith::signed::abs;
 use cosine::cosine;
@@ -25,8 +27,10 @@ use nutation::mean_obliquity_at;
 use nutation::moon::arguments_with_turns;
 use nutation::rows::nutation_at;
 use place::light_time::light;
+use rectangular::Frame;
 use rectangular::Sight;
 use rectangular::Vector;
+use rectangular::frames::turned;
 use rectangular::from_earth::sight;
 use rectangular::length;
 use units::A_LIMIT;
@@ -35,8 +39,11 @@ use units::C_LIMIT;
 use units::Coordinates;
 use units::T_LIMIT;
 
-// The greatest component of a vector, and the greatest length, that is taken; the greatest |a|, b and |c|: specs/Inner.antt.
+// The greatest component of a vector, and the greatest length, that is taken; the greatest component that is turned; the greatest |a|, b and |c|:
+// specs/Inner.antt.
 const REACH: u64 = 35184372088832;
+
+const TURN_REACH: u64 = 8796093022208;
 
 const A_LAST: u64 = A_LIMIT - 1;
 
@@ -70,6 +77,14 @@ pub struct ArgumentFigures {
     pub moon: i64,
     pub latitude: i64,
     pub node: i64,
+}
+
+// The components of a vector, in parts.
+#[repr(C)]
+pub struct VectorFigures {
+    pub x: i64,
+    pub y: i64,
+    pub z: i64,
 }
 
 // Of a usable sight: 1, Earth's place, the planet's geocentric vector and its length D, in parts. Else nothing but 0.
@@ -223,7 +238,23 @@ pub extern "C" fn stephylax_test_light(distance: i64) -> i64
     light(abs(d))
 }
 
-// From L, B and R of the planet, then of Earth.
+// A vector in the frame of the catalogues.
+#[no_mangle]
+pub extern "C" fn stephylax_test_turned(x: i64, y: i64, z: i64) -> VectorFigures
+    ensures { λ r. ⌜ r ≡ vector-figures (turned·of (record { x = held turn-reach x; y = held turn-reach y; z = held turn-reach z })) ⌝ }
+{
+    let a = held(x, TURN_REACH);
+    let b = held(y, TURN_REACH);
+    let c = held(z, TURN_REACH);
+    let v = turned(Vector { x: a, y: b, z: c });
+    VectorFigures {
+        x: v.x,
+        y: v.y,
+        z: v.z,
+    }
+}
+
+// From L, B and R of the planet, then of Earth: the sight of the Sun list, in the frame of the theory.
 #[no_mangle]
 pub extern "C" fn stephylax_test_sight(
     l: i64,
@@ -233,7 +264,7 @@ pub extern "C" fn stephylax_test_sight(
     earth_b: i64,
     earth_r: i64,
 ) -> SightFigures
-    ensures { λ s. ⌜ s ≡ shown (sight·of (record { longitude = l; latitude = b; radius = r })
+    ensures { λ s. ⌜ s ≡ shown (sight·of Theory (record { longitude = l; latitude = b; radius = r })
         (record { longitude = «earth_l»; latitude = «earth_b»; radius = «earth_r» })) ⌝ }
 {
     let planet = Coordinates {
@@ -246,5 +277,31 @@ pub extern "C" fn stephylax_test_sight(
         latitude: earth_b,
         radius: earth_r,
     };
-    figures(sight(planet, earth))
+    figures(sight(Frame::Theory, planet, earth))
+}
+
+// The same of a place, in the frame of the catalogues.
+#[no_mangle]
+pub extern "C" fn stephylax_test_turned_sight(
+    l: i64,
+    b: i64,
+    r: i64,
+    earth_l: i64,
+    earth_b: i64,
+    earth_r: i64,
+) -> SightFigures
+    ensures { λ s. ⌜ s ≡ shown (sight·of Catalogues (record { longitude = l; latitude = b; radius = r })
+        (record { longitude = «earth_l»; latitude = «earth_b»; radius = «earth_r» })) ⌝ }
+{
+    let planet = Coordinates {
+        longitude: l,
+        latitude: b,
+        radius: r,
+    };
+    let earth = Coordinates {
+        longitude: earth_l,
+        latitude: earth_b,
+        radius: earth_r,
+    };
+    figures(sight(Frame::Catalogues, planet, earth))
 }

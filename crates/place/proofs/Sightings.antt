@@ -16,6 +16,7 @@ use Rattle.limits.specs.Wide.{good-for-wide, four-millennia, both-asked}
 use Rattle.limits.proofs.Reach.{both-is as asked-is}
 use Rattle.packed.specs.Series.{Parsed, accepted, refused, parse}
 use Rattle.series.specs.Sums.{coordinates}
+use Rattle.rectangular.specs.declared.Frame.the-variants.{Catalogues}
 use Rattle.rectangular.specs.declared.Sight.{Sight}
 use Rattle.rectangular.specs.declared.Sight.the-variants.{Usable, Unusable}
 use Rattle.place.specs.declared.Sighting.{Sighting}
@@ -26,10 +27,10 @@ use Rattle.place.specs.Apparent.{earlier}
 use Rattle.place.specs.Place.{sight-at, taken-again, at-earlier, taken, of-series, sighting-by, sighting}
 
 -- Both bodies at one instant.
-pub both-is : (t : Instant) (P E : List (List Term)) (p e : Coordinates) (r : Sight) → p ≡ coordinates (t .ms) P → e ≡ coordinates (t .ms) E → r ≡ sight p e
+pub both-is : (t : Instant) (P E : List (List Term)) (p e : Coordinates) (r : Sight) → p ≡ coordinates (t .ms) P → e ≡ coordinates (t .ms) E → r ≡ sight Catalogues p e
     → r ≡ sight-at P E t
 unfolding sight-at
-both-is t P E p e r k l m = m ∙ ap₂ sight k l
+both-is t P E p e r k l m = m ∙ ap₂ (sight Catalogues) k l
 
 -- The second sight.
 pub again-usable : (d : ℕ) (s : Sight) (g : View) → s ≡ Usable g → Seen (record { vector = g .vector; distance = d }) ≡ taken-again d s

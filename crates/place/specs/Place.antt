@@ -9,6 +9,7 @@ use Rattle.limits.specs.declared.Term.{Term}
 use Rattle.limits.specs.Wide.{Range, four-millennia, both-asked}
 use Rattle.packed.specs.Series.{Parsed, accepted, refused, parse}
 use Rattle.series.specs.Sums.{coordinates}
+use Rattle.rectangular.specs.declared.Frame.the-variants.{Catalogues}
 use Rattle.rectangular.specs.declared.Sight.{Sight}
 use Rattle.rectangular.specs.declared.Sight.the-variants.{Usable, Unusable}
 use Rattle.rectangular.specs.Sight.{sight}
@@ -18,9 +19,9 @@ use Rattle.place.specs.declared.PlaceAnswer.{PlaceAnswer}
 use Rattle.place.specs.declared.PlaceAnswer.the-variants.{Place, NoPlace}
 use Rattle.place.specs.Apparent.{earlier, apparent, equatorial}
 
--- Both bodies at an instant.
+-- Both bodies at an instant, in the frame of the catalogues.
 unfoldable pub sight-at : (planet earth : List (List Term)) → Instant → Sight
-sight-at planet earth t = sight (coordinates (t .ms) planet) (coordinates (t .ms) earth)
+sight-at planet earth t = sight Catalogues (coordinates (t .ms) planet) (coordinates (t .ms) earth)
 
 -- What is seen, where an instant is in the range, else 2; and where both series may be asked at it, else 17. Each has the instant.
 abbrev pub in-range : Range → Instant → Sighting → Sighting
@@ -57,8 +58,8 @@ unfoldable pub of-sighting : Instant → Sighting → PlaceAnswer
 of-sighting t (Seen g) = Place (equatorial (apparent t (g .vector) .vector) (g .distance))
 of-sighting t (NoSight r) = NoPlace r
 
--- The answer over a range. The rule has four millennia; with two it is the rule of before, and `as-before` (proofs/Former) says where both answer
--- the same.
+-- The answer over a range. The rule has four millennia; with two, time ends as it did before the wide range, and `as-before` (proofs/Former) says where
+-- both answer the same.
 unfoldable pub place-answer-by : Range → (planet earth : List ℕ) → Instant → PlaceAnswer
 place-answer-by range planet earth t = of-sighting t (sighting-by range planet earth t)
 

@@ -13,6 +13,7 @@ use crate::Geocentric;
 use crate::Sighting;
 use crate::steps::earlier;
 use limits::wide::may_ask;
+use rectangular::Frame;
 use rectangular::Sight;
 use rectangular::from_earth::sight;
 use series::table::Checked;
@@ -24,7 +25,7 @@ use units::Instant;
 use units::Refusal;
 use units::in_limit;
 
-// Planet and Earth at an instant at which both series may be asked, from their term tables.
+// Planet and Earth at an instant at which both series may be asked, from their term tables, in the frame of the catalogues.
 fn both_at(planet: &Table, earth: &Table, t: Instant) -> Sight
     requires { ⌜ (natAbs (t .ms) ≤ t-limit) × Table (now planet) × Table (now earth)
         × (both-asked four-millennia (table-blocks (now planet)) (table-blocks (now earth)) (t .ms) ≡ true) ⌝ }
@@ -32,7 +33,7 @@ fn both_at(planet: &Table, earth: &Table, t: Instant) -> Sight
 {
     let p = coordinates(planet, t);
     let e = coordinates(earth, t);
-    sight(p, e)
+    sight(Frame::Catalogues, p, e)
 }
 
 // The sight at the earlier instant, with D at t.

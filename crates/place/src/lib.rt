@@ -16,7 +16,7 @@ use rectangular::Vector;
 use units::Instant;
 use units::Refusal;
 
-// The geocentric vector of a planet, in parts, and its length D.
+// The geocentric vector of a planet when the light left, and D when it arrives, in parts.
 pub struct Geocentric {
     pub vector: Vector,
     pub distance: u64,
@@ -64,7 +64,7 @@ pub enum Mount {
     Refused(u64),
 }
 
-// The apparent place of a planet at an instant, from the packed series of planet and Earth. The answer's distance is that at t.
+// The apparent place of a planet at an instant, in the frame of the catalogues, from the packed series of planet and Earth. The answer's distance is that at t.
 pub fn apparent_place(planet: &[u8], earth: &[u8], t: Instant) -> PlaceAnswer
     ensures { λ r. ⌜ r ≡ place-answer (now (planet .entry)) (now (earth .entry)) t ⌝ }
 {

@@ -25,8 +25,8 @@ geocentric-size k a b h g = record {
     one : (x y : ℤ) → natAbs x ≤ k → natAbs y ≤ k → natAbs (x -ℤ y) ≤ k + k
     one x y h g = let s = natAbs-sub x y in omega arith
 
-pub place-in : (c : Coordinates) → radius-usable (c .radius) ≡ true → Components greatest-radius (place c)
-place-in c h = smaller (natAbs (c .radius)) greatest-radius (place c) (radius-size (c .radius) h) (place-size c)
+pub place-reach : (c : Coordinates) → radius-usable (c .radius) ≡ true → Components greatest-radius (place c)
+place-reach c h = smaller (natAbs (c .radius)) greatest-radius (place c) (radius-size (c .radius) h) (place-size c)
 
 pub radius-in : (r : ℤ) → radius-usable r ≡ true → natAbs r < 2 ^ 63
 radius-in r h = let s = radius-size r h in omega arith

@@ -1,10 +1,10 @@
 -- When R and D are usable, in the order of the checks, and what usable places tell. Assumes nothing.
 use mathlib.Core.Path.{_≡_, sym, ap, ap₂, _∙_, subst}
-use mathlib.Core.Bool.{Bool, true, false, _&&_}
+use mathlib.Core.Bool.{Bool, true, false, not, _&&_}
 use mathlib.Core.List.{[], _∷_}
 use Prim.Native.Nat.{ℕ, _*_, _^_, _≤_, _<_}
 use native.Mathlib.Omega.{arith}
-use borrow.Author.Tests.{le-leb, lt-leb, leb-true}
+use borrow.Author.Tests.{le-leb, lt-leb, leb-true, not-true, not-false}
 use lib.Dec.{leb}
 use lib.IntN.{ℤ, pos, natAbs, _+ℤ_}
 use lib.Signed.{leZ}
@@ -46,6 +46,18 @@ module _ (r : ℤ) (e : Cell r ≡ r) where
   unfolding radius-usable
   radius-first h = sym (ap (λ (b : Bool). b && leZ r (pos greatest-radius)) (least-is false h))
 
+-- ---- The tests of `usable_radii`: what the first answered, and the second.
+
+module _ (p e : ℤ) (cp : Cell p ≡ p) (b : Bool) (pb : b ≡ radius-usable (Cell p)) where
+  planet-told : radius-usable p ≡ b
+  planet-told = ap radius-usable (sym cp) ∙ sym pb
+
+  pub planet-unusable : not b ≡ true → false ≡ (radius-usable p && radius-usable e)
+  planet-unusable h = let f : radius-usable p ≡ false = planet-told ∙ not-true b h in rw f
+
+  pub both-radii : not b ≡ false → Cell e ≡ e → (r : Bool) → r ≡ radius-usable (Cell e) → r ≡ (radius-usable p && radius-usable e)
+  both-radii h ce r pr = let f : radius-usable p ≡ true = planet-told ∙ not-false b h in rw (f, ← ce) pr
+
 -- ---- The tests of `usable_distance`, for two R that are usable.
 
 module _ (p e : ℤ) (hp : radius-usable p ≡ true) (he : radius-usable e ≡ true) where
@@ -73,6 +85,17 @@ module _ (p e : ℤ) (hp : radius-usable p ≡ true) (he : radius-usable e ≡ t
 
 -- ---- Usable places: what each of the four checks has shown.
 
+pub usable-then : (rp re : ℤ) (d : ℕ) → usable rp re d ≡ true
+    → (radius-usable rp ≡ true) × (radius-usable re ≡ true) × (least-distance ≤ d) × (rp +ℤ re ≼ pos (distance-factor * d))
+unfolding usable
+usable-then rp re d h =
+    let near = leb least-distance d in
+    let sum = leZ (rp +ℤ re) (pos (distance-factor * d)) in
+    let a = both (radius-usable rp) (radius-usable re && (near && sum)) h in
+    let b = both (radius-usable re) (near && sum) (a .1) in
+    let c = both near sum (b .1) in
+    (a .0, b .0, leb-true least-distance d (c .0), at-most _ _ (c .1))
+
 pub record Usable-places (planet earth : Coordinates) : Type 0 where
   pub planet-radius : radius-usable (planet .radius) ≡ true
   pub earth-radius : radius-usable (earth .radius) ≡ true
@@ -80,11 +103,7 @@ pub record Usable-places (planet earth : Coordinates) : Type 0 where
   pub in-reach : planet .radius +ℤ earth .radius ≼ pos (distance-factor * distance planet earth)
 
 pub usable-places : (planet earth : Coordinates) → places-usable planet earth ≡ true → Usable-places planet earth
-unfolding places-usable usable
+unfolding places-usable
 usable-places p e h =
-    let d = leb least-distance (distance p e) in
-    let s = leZ (p .radius +ℤ e .radius) (pos (distance-factor * distance p e)) in
-    let a = both (radius-usable (p .radius)) (radius-usable (e .radius) && (d && s)) h in
-    let b = both (radius-usable (e .radius)) (d && s) (a .1) in
-    let c = both d s (b .1) in
-    record { planet-radius = a .0; earth-radius = b .0; far = leb-true least-distance (distance p e) (c .0); in-reach = at-most _ _ (c .1) }
+    let u = usable-then (p .radius) (e .radius) (distance p e) h in
+    record { planet-radius = u .0; earth-radius = u .1; far = u .2; in-reach = u .3 }

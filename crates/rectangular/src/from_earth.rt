@@ -1,13 +1,16 @@
 // A planet seen from Earth: whether both places are usable, and the view then.
 ghost use mathlib.Core.Path.{_≡_};
-ghost use mathlib.Core.Bool.{true};
+ghost use mathlib.Core.Bool.{true, _&&_};
 ghost use Prim.Native.Nat.{_<_, _^_};
-ghost use Rattle.rectangular.specs.Sight.{radius-usable, usable as usable-of, view as view-of, sight as sight-of};
+ghost use Rattle.rectangular.specs.Sight.{radius-usable, usable as usable-of, sight-from, sight as sight-of};
+ghost use Rattle.rectangular.specs.machine.Components.{Components};
+use crate::Frame;
 use crate::Sight;
+use crate::Vector;
 use crate::View;
+use crate::frames::place_in;
 use crate::geocentric;
 use crate::length;
-use crate::place;
 use arith::signed::add;
 use arith::signed::wide;
 use units::Coordinates;
@@ -34,6 +37,16 @@ fn usable_radius(radius: i64) -> bool
     false
 }
 
+// The planet's R, then Earth's.
+fn usable_radii(planet: i64, earth: i64) -> bool
+    ensures { λ b. ⌜ b ≡ (radius-usable planet && radius-usable earth) ⌝ }
+{
+    if !usable_radius(planet) {
+        return false;
+    }
+    usable_radius(earth)
+}
+
 // For two R that are usable.
 fn usable_distance(planet: i64, earth: i64, distance: u64) -> bool
     requires { ⌜ (radius-usable planet ≡ true) × (radius-usable earth ≡ true) × (distance < 2 ^ 46) ⌝ }
@@ -47,35 +60,31 @@ fn usable_distance(planet: i64, earth: i64, distance: u64) -> bool
     both <= reach
 }
 
-// For two R that are usable: the places, the geocentric vector and D.
-fn view(planet: Coordinates, earth: Coordinates) -> View
-    requires { ⌜ (radius-usable (planet .radius) ≡ true) × (radius-usable (earth .radius) ≡ true) ⌝ }
-    ensures { λ v. ⌜ (v ≡ view-of planet earth) × (v .distance < 2 ^ 46) ⌝ }
+// For two R that are usable, and both vectors in one frame: the geocentric vector and D, if D is usable.
+fn seen(planet: i64, earth: i64, p: Vector, e: Vector) -> Sight
+    requires { ⌜ (radius-usable planet ≡ true) × (radius-usable earth ≡ true) × Components (2 ^ 44) p × Components (2 ^ 44) e ⌝ }
+    ensures { λ r. ⌜ r ≡ sight-from planet earth p e ⌝ }
 {
-    let e = place(earth);
-    let p = place(planet);
     let vector = geocentric(p, e);
     let distance = length(vector);
-    View {
+    if !usable_distance(planet, earth, distance) {
+        return Sight::Unusable;
+    }
+    Sight::Usable(View {
         earth: e,
         vector,
         distance,
-    }
+    })
 }
 
-// Both R are tested before the vectors are worked, and each check has its own return, in the order of the rules.
-pub fn sight(planet: Coordinates, earth: Coordinates) -> Sight
-    ensures { λ r. ⌜ r ≡ sight-of planet earth ⌝ }
+// Both bodies in one frame. Both R are tested before the vectors are worked.
+pub fn sight(frame: Frame, planet: Coordinates, earth: Coordinates) -> Sight
+    ensures { λ r. ⌜ r ≡ sight-of frame planet earth ⌝ }
 {
-    if !usable_radius(planet.radius) {
+    if !usable_radii(planet.radius, earth.radius) {
         return Sight::Unusable;
     }
-    if !usable_radius(earth.radius) {
-        return Sight::Unusable;
-    }
-    let v = view(planet, earth);
-    if !usable_distance(planet.radius, earth.radius, v.distance) {
-        return Sight::Unusable;
-    }
-    Sight::Usable(v)
+    let p = place_in(frame, planet);
+    let e = place_in(frame, earth);
+    seen(planet.radius, earth.radius, p, e)
 }

@@ -6,6 +6,7 @@ ghost use Rattle.rectangular.specs.Rectangular.{rectangular, place as pl
 ghost use Rattle.rectangular.specs.Vectors.{geocentric as geocentric-of, sun as sun-of, length as length-of, unit as unit-of};
 ghost use Rattle.rectangular.specs.machine.Components.{Components};
 
+pub mod frames;
 pub mod from_earth;
 
 use arith::muldiv::mul_div_round;
@@ -26,7 +27,13 @@ pub struct Vector {
     pub z: i64,
 }
 
-// What is seen of a planet at one instant: Earth's own place, the planet's geocentric vector and its length D, all in parts.
+// The frame that a place is in: that of the theory whose series are summed, or that of star catalogues.
+pub enum Frame {
+    Theory,
+    Catalogues,
+}
+
+// What is seen of a planet at one instant, in one frame: Earth's own place, the planet's geocentric vector and its length D, all in parts.
 pub struct View {
     pub earth: Vector,
     pub vector: Vector,

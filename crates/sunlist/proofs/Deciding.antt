@@ -14,6 +14,7 @@ use Rattle.cosine.specs.Cosine.{sine}
 use Rattle.rectangular.specs.declared.Vector.{Vector}
 use Rattle.rectangular.specs.declared.View.{View}
 use Rattle.rectangular.specs.declared.Sight.{Sight}
+use Rattle.rectangular.specs.declared.Frame.the-variants.{Theory}
 use Rattle.rectangular.specs.declared.Sight.the-variants.{Usable, Unusable as Unusable-sight}
 use Rattle.rectangular.specs.Vectors.{geocentric, sun, squared, length, unit}
 use Rattle.rectangular.specs.Rectangular.{place}
@@ -22,7 +23,7 @@ use Rattle.rectangular.specs.machine.Components.{Components}
 use Rattle.arith.proofs.Cells.{Cell, cell}
 use Rattle.reference_cosine.proofs.Ranges.{sine-size}
 use Rattle.rectangular.proofs.Places.{smaller}
-use Rattle.rectangular.proofs.Radii.{geocentric-size, place-in, radius-in}
+use Rattle.rectangular.proofs.Radii.{geocentric-size, place-reach, radius-in}
 use Rattle.rectangular.proofs.Usable.{Usable-places, usable-places}
 use Rattle.rectangular.proofs.Sights.{sight-usable, sight-unusable, view-vector-in}
 use Rattle.separation.specs.Listed.{squared-separation, threshold, listed}
@@ -143,10 +144,11 @@ module _ (k : ℕ) (planet earth : Coordinates) (ok : places-usable planet earth
   vector-is = ap (λ (w : View). w .vector) pv
 
   distance-is : v .distance ≡ distance planet earth
+  unfolding distance
   distance-is = ap (λ (w : View). w .distance) pv
 
   earth-in : (m : ℕ) → greatest-radius ≤ m → Components m (place earth)
-  earth-in m h = smaller greatest-radius m (place earth) h (place-in earth (radii .earth-radius))
+  earth-in m h = smaller greatest-radius m (place earth) h (place-reach earth (radii .earth-radius))
 
   pub earth-asks : Components (2 ^ 61) (v .earth)
   earth-asks = subst (Components (2 ^ 61)) (sym earth-is) (earth-in (2 ^ 61) (omega arith))
@@ -214,7 +216,7 @@ module _ (k : ℕ) (planet earth : Coordinates) (ok : places-usable planet earth
 -- ---- decide
 
 -- A sight that is not usable.
-module _ (k : ℕ) (planet earth : Coordinates) (s : Sight) (ps : s ≡ sight planet earth) where
+module _ (k : ℕ) (planet earth : Coordinates) (s : Sight) (ps : s ≡ sight Theory planet earth) where
   pub not-decided : s ≡ Unusable-sight → Unusable ≡ decide k planet earth
   unfolding decide
   not-decided h = let u : places-usable planet earth ≡ false = sight-unusable planet earth (sym ps ∙ h) in rw u

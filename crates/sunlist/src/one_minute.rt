@@ -14,6 +14,7 @@ use crate::Figures;
 use arith::signed::add;
 use arith::signed::mul;
 use cosine::working::sine_at;
+use rectangular::Frame;
 use rectangular::Sight;
 use rectangular::Vector;
 use rectangular::View;
@@ -78,12 +79,12 @@ fn figures(planet: Coordinates, earth: Coordinates, v: View, k: u64) -> Figures
     }
 }
 
-// Listed, clear or not usable, for a keep-out of k arcminutes.
+// Listed, clear or not usable, for a keep-out of k arcminutes, in the frame of the theory.
 pub fn decide(planet: Coordinates, earth: Coordinates, k: u64) -> Decision
     requires { ⌜ k ≤ greatest-keep-out ⌝ }
     ensures { λ r. ⌜ r ≡ decide-of k planet earth ⌝ }
 {
-    match sight(planet, earth) {
+    match sight(Frame::Theory, planet, earth) {
         Sight::Unusable => Decision::Unusable,
         Sight::Usable(v) => {
             let f = figures(planet, earth, v, k);

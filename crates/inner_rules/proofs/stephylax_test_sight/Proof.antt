@@ -1,8 +1,7 @@
 -- `inner_rules::stephylax_test_sight` meets its contract. Assumes nothing.
-use mathlib.Core.Path.{_∙_, ap}
 use borrow.Author.Needs.{needs}
 use Rattle.arith.proofs.Signs.{back}
-use Rattle.inner_rules.specs.Inner.{shown}
+use Rattle.inner_rules.proofs.Ranges.{sight-told}
 use Rattle.inner_rules.proofs.stephylax_test_sight.Statement.{statement}
 use Rattle.inner_rules.proofs.stephylax_test_sight.Tie as tie
 
@@ -14,17 +13,10 @@ figures-requires c κs = search needs
 
 returns : tie.Need-returns
 returns c =
-    let s = c .before .before in
-    let seen =
-    rw (
-      back (s .args .l) (s .fits .l),
-      back (s .args .b) (s .fits .b),
-      back (s .args .r) (s .fits .r),
-      back (s .args .earth-l) (s .fits .earth-l),
-      back (s .args .earth-b) (s .fits .earth-b),
-      back (s .args .earth-r) (s .fits .earth-r),
-    ) at (c .before .sight .ensures) in
-    c .figures .ensures ∙ ap shown seen
+    let v = c .before in
+    let s = v .before in
+    sight-told _ (back _ (s .fits .l)) (back _ (s .fits .b)) (back _ (s .fits .r)) (back _ (s .fits .earth-l)) (back _ (s .fits .earth-b))
+    (back _ (s .fits .earth-r)) (v .sight .ensures) (c .figures .ensures)
 
 pub stephylax-test-sight-spec : {M : Type 1} → statement M
 stephylax-test-sight-spec = tie.close (tie.spec sight-requires figures-requires returns)

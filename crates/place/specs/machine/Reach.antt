@@ -3,11 +3,11 @@ use Prim.Native.Nat.{ℕ, _+_, _*_, _^_, _<_}
 use Rattle.units.specs.Units.{parts}
 use Rattle.rectangular.specs.declared.Vector.{Vector}
 use Rattle.rectangular.specs.Sight.{greatest-radius}
-use Rattle.rectangular.specs.machine.Components.{Components}
+use Rattle.rectangular.specs.machine.Components.{Components, grown}
 
 -- No component of a usable geocentric vector is greater.
 abbrev pub reach : ℕ
-reach = greatest-radius + greatest-radius
+reach = grown greatest-radius + grown greatest-radius
 
 -- Its length is less than 222 AU, and a component of the vector turned to the equator at most twice that.
 abbrev pub length-reach : ℕ

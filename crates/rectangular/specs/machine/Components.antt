@@ -1,5 +1,5 @@
 -- The size of a vector's components.
-use Prim.Native.Nat.{ℕ, _≤_}
+use Prim.Native.Nat.{ℕ, _+_, _/_, _≤_}
 use lib.IntN.{natAbs}
 use Rattle.rectangular.specs.declared.Vector.{Vector}
 
@@ -7,3 +7,7 @@ pub record Components (k : ℕ) (v : Vector) : Type 0 where
   pub x-in : natAbs (v .x) ≤ k
   pub y-in : natAbs (v .y) ≤ k
   pub z-in : natAbs (v .z) ≤ k
+
+-- A bound on what k grows to in the turn to the frame of the catalogues: at most a millionth of it and a part more.
+abbrev pub grown : ℕ → ℕ
+grown k = k + k / 1000000 + 1

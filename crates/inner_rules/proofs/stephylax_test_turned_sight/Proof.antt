@@ -1,0 +1,22 @@
+-- `inner_rules::stephylax_test_turned_sight` meets its contract. Assumes nothing.
+use borrow.Author.Needs.{needs}
+use Rattle.arith.proofs.Signs.{back}
+use Rattle.inner_rules.proofs.Ranges.{sight-told}
+use Rattle.inner_rules.proofs.stephylax_test_turned_sight.Statement.{statement}
+use Rattle.inner_rules.proofs.stephylax_test_turned_sight.Tie as tie
+
+sight-requires : tie.Need-sight-requires
+sight-requires c κs = search needs
+
+figures-requires : tie.Need-figures-requires
+figures-requires c κs = search needs
+
+returns : tie.Need-returns
+returns c =
+    let v = c .before in
+    let s = v .before in
+    sight-told _ (back _ (s .fits .l)) (back _ (s .fits .b)) (back _ (s .fits .r)) (back _ (s .fits .earth-l)) (back _ (s .fits .earth-b))
+    (back _ (s .fits .earth-r)) (v .sight .ensures) (c .figures .ensures)
+
+pub stephylax-test-turned-sight-spec : {M : Type 1} → statement M
+stephylax-test-turned-sight-spec = tie.close (tie.spec sight-requires figures-requires returns)
