@@ -47,6 +47,9 @@
  * Units: t is in whole milliseconds of TD from 2000-01-01 12h, negative before, and at most 126,230,400,000,000 (four
  * millennia) from 0. Parts are 10^-11 radian or AU. "Rules" names the section of docs/RULES.md.
  *
+ * Frames: apparent places, for the mount too, are in the frame of the star catalogues (FK5); coordinates and the Sun list are in that of
+ * the theory.
+ *
  * Range: every good series may be asked up to 63,115,200,000,000 (two millennia) from 0, that instant included, and beyond only if it is
  * good for the wide range: the amplitudes of none of its blocks total more than 50,000, half of what a block may have, and its terms are
  * so few and so small that over four millennia, too, they can be summed within 10^-6. stephylax_check tells which it is. A series that
@@ -298,8 +301,9 @@ stephylax_coordinates stephylax_coordinates_at(const uint8_t *packed, size_t n, 
  *   Returned  right_ascension, declination   hundredths of an arcsecond
  *             distance                       parts of an AU, at t
  *   Refused   2, the planet's series, Earth's series, 17, 11, then 2, 17 and 11 at the earlier instant
- *   Range     both radii 0.1 to 64 AU, distance at least 0.1 AU and a sixteenth of the sum of both radii
- *   Rules     Places
+ *   Range     both radii 0.1 to 64 AU, distance at least 0.1 AU and a sixteenth of the sum of both radii. The distance is that in this
+ *             frame, by roundings a few parts off the one that a list tests: at these limits one may be refused 11 and the other not
+ *   Rules     Places, The frame of the catalogues
  */
 STEPHYLAX_MUST_USE
 stephylax_place stephylax_apparent_place(const uint8_t *planet, size_t np, const uint8_t *earth, size_t ne, int64_t t);
@@ -310,7 +314,7 @@ stephylax_place stephylax_apparent_place(const uint8_t *planet, size_t np, const
  *   Returned  right_ascension, declination   degrees: the whole number over 360000.0, rounded once
  *             distance                       AU: the whole number over 1e11, rounded once
  *   Refused   as stephylax_apparent_place, the number alone
- *   Rules     Places
+ *   Rules     Places, The frame of the catalogues
  */
 STEPHYLAX_MUST_USE
 stephylax_mount stephylax_mount_place(const uint8_t *planet, size_t np, const uint8_t *earth, size_t ne, int64_t t);

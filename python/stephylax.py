@@ -137,7 +137,7 @@ class Coordinates(NamedTuple):
 
 
 class Place(NamedTuple):
-    """Right ascension and declination in hundredths of an arcsecond, distance in 10^-11 AU."""
+    """Right ascension and declination in hundredths of an arcsecond, distance in 10^-11 AU. In the frame of the star catalogues (FK5)."""
 
     right_ascension: int
     declination: int
@@ -556,7 +556,7 @@ def print_text(packed, text=None):
 
 
 def coordinates_at(packed, when):
-    """The heliocentric Coordinates of a packed series at an instant. Refused: 2, then as `check`, then 17."""
+    """The heliocentric Coordinates of a packed series at an instant, in the frame of the theory. Refused: 2, then as `check`, then 17."""
     _need_stack()
     t = _instant(when)
     with _Lent(packed) as slices:
@@ -573,8 +573,8 @@ def _place(name, planet, earth, when):
 
 
 def apparent_place(planet, earth, when):
-    """The apparent Place of a planet, seen from Earth; both packed series. Refused: 2, the planet's series, Earth's, 17, 11; at
-    the instant that the light left at 2, 17, 11."""
+    """The apparent Place of a planet, seen from Earth, in the frame of the star catalogues (FK5); both packed series. Refused: 2, the
+    planet's series, Earth's, 17, 11; at the instant that the light left at 2, 17, 11."""
     return Place(*_place("apparent_place", planet, earth, when))
 
 
@@ -586,7 +586,7 @@ def mount_place(planet, earth, when):
 def sun_list(planet, earth, start, minutes=1440, keep_out=600, runs=None):
     """The Runs of minutes, counted from `start`, at which a planet stands within `keep_out` arcminutes of the Sun: none is missing, and
     none is listed that is more than two arcminutes farther out. `runs` is an output of 64-bit numbers, else one that is long enough
-    is made. Refused: 12, 2, the planet's series, Earth's, 17, 11, 7."""
+    is made. In the frame of the theory. Refused: 12, 2, the planet's series, Earth's, 17, 11, 7."""
     _need_stack()
     t0, minutes, keep_out = _instant(start), _i64(minutes), _i64(keep_out)
     if runs is None:

@@ -28,7 +28,7 @@ pub struct Coordinates {
     pub radius: i64,
 }
 
-/// Right ascension and declination in hundredths of an arcsecond, distance in 10^-11 AU.
+/// Right ascension and declination in hundredths of an arcsecond, distance in 10^-11 AU. In the frame of the star catalogues (FK5).
 #[derive(Clone, Copy, Debug, PartialEq, Eq)]
 pub struct Place {
     pub right_ascension: i64,

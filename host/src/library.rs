@@ -180,14 +180,14 @@ pub fn print(packed: &[u8], text: &mut [u8]) -> Result<usize, Refusal> {
     written(unsafe { ffi::stephylax_print(packed.as_ptr(), packed.len(), text.as_mut_ptr(), text.len()) })
 }
 
-/// The coordinates of a packed series at an instant.
+/// The coordinates of a packed series at an instant, in the frame of the theory.
 pub fn coordinates_at(packed: &[u8], t: i64) -> Result<Coordinates, Refusal> {
     // SAFETY: the slice is lent for the call, with its length.
     let c = unsafe { ffi::stephylax_coordinates_at(packed.as_ptr(), packed.len(), t) };
     answer(c.refusal, c.figure, Coordinates { longitude: c.longitude, latitude: c.latitude, radius: c.radius })
 }
 
-/// The apparent place of a planet at an instant.
+/// The apparent place of a planet at an instant, in the frame of the star catalogues (FK5).
 pub fn apparent_place(planet: &[u8], earth: &[u8], t: i64) -> Result<Place, Refusal> {
     // SAFETY: both slices are lent for the call, with their lengths.
     let p = unsafe { ffi::stephylax_apparent_place(planet.as_ptr(), planet.len(), earth.as_ptr(), earth.len(), t) };
@@ -208,7 +208,7 @@ pub fn mount_place(planet: &[u8], earth: &[u8], t: i64) -> Result<Mount, u64> {
     Ok(Mount { right_ascension: m.right_ascension, declination: m.declination, distance: m.distance })
 }
 
-/// Writes the first and last minute of each run near the Sun: how many numbers of `runs` they took.
+/// Writes the first and last minute of each run near the Sun: how many numbers of `runs` they took. In the frame of the theory.
 pub fn sun_list(
     planet: &[u8],
     earth: &[u8],

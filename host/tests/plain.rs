@@ -46,6 +46,19 @@ fn roots() {
 }
 
 #[test]
+fn turned_vectors() {
+    let mut cases = 0;
+    for (number, line) in vectors("turn.txt") {
+        let fields = &mut Fields::of(&line);
+        let mut vector = || Vector { x: fields.number(), y: fields.number(), z: fields.number() };
+        assert_eq!(vector().turned(), vector(), "line {number}: {line}");
+        assert!(fields.done(), "line {number}: {line}");
+        cases += 1;
+    }
+    assert_eq!(cases, 260);
+}
+
+#[test]
 fn directions() {
     for (number, line) in vectors("direction.txt") {
         let fields = &mut Fields::of(&line);

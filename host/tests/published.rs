@@ -3,8 +3,11 @@
 mod common;
 
 use common::calls::LIBRARY;
-use common::{published, repository, vectors};
+use common::{published, repository, same, vectors};
+use reference::floating;
 use reference::plain::nutation::TABLE;
+use reference::plain::packed::parse;
+use reference::plain::place::{apparent_place_worked, geometry, light_time, Frame, Vector};
 
 fn packed(planet: &str) -> Vec<u8> {
     let mut packed = vec![0; 200_000];
@@ -13,20 +16,44 @@ fn packed(planet: &str) -> Vec<u8> {
     packed
 }
 
-/// A worked example from outside this project: Mercury on 2005-01-01 at 0h TD, 17h 10min 10.349s, -21° 17′ 23.81″, 1.059197986 AU. Its frame
-/// turn is not applied here, which 0.2 arcsecond allow for.
+/// A worked example from outside this project: Mercury on 2005-01-01 at 0h TD, in the frame of the star catalogues. Printed are 17h 10min
+/// 10.349s, -21° 17′ 23.81″ and 1.059197986 AU.
 #[test]
 fn mercury_in_2005() {
     let t = (LIBRARY.instant_of_date)([2005, 1, 1, 0]).unwrap();
     assert_eq!(t, 157_809_600_000);
-    let [right_ascension, declination, distance] =
-        (LIBRARY.apparent_place)(&packed("mercury"), &packed("earth"), t).unwrap();
-    let hundredths = 20.0;
-    let wanted = ((17.0 * 60.0 + 10.0) * 60.0 + 10.349) * 1500.0;
-    assert!((right_ascension as f64 - wanted).abs() <= hundredths, "{right_ascension} against {wanted}");
-    let wanted = -((21.0 * 60.0 + 17.0) * 60.0 + 23.81) * 100.0;
-    assert!((declination as f64 - wanted).abs() <= hundredths, "{declination} against {wanted}");
-    assert!((distance as f64 - 1.059_197_986e11).abs() < 1e4, "{distance}");
+    let (mercury, earth) = (packed("mercury"), packed("earth"));
+    let place = same(|calls| (calls.apparent_place)(&mercury, &earth, t), || "Mercury".to_string()).unwrap();
+    assert_eq!(place, [92_715_523, -7_664_381, 105_919_798_645]);
+    // In thousandths of an arcsecond. A thousandth of a second of right ascension has 15 of them.
+    let [right_ascension, declination, distance] = place;
+    let printed = ((17 * 60 + 10) * 60_000 + 10_349) * 15;
+    assert!((10 * right_ascension - printed).abs() <= 5, "{right_ascension} against {printed}");
+    let printed = -((21 * 60 + 17) * 60_000 + 23_810);
+    assert!((10 * declination - printed).abs() <= 5, "{declination} against {printed}");
+    assert_eq!(distance / 100, 1_059_197_986);
+    // The benchmark's yardstick, in doubles, comes within two hundredths of an arcsecond; unturned it would be nine and four off.
+    let [mercury, earth] = [mercury, earth].map(|packed| floating::Tables::of(&parse(&packed).unwrap()));
+    let (doubles, hundredths) = (floating::place(&mercury, &earth, t), 1f64.to_degrees() * 360_000.0);
+    assert!((doubles.right_ascension * hundredths - right_ascension as f64).abs() < 2.0, "{doubles:?}");
+    assert!((doubles.declination * hundredths - declination as f64).abs() < 2.0, "{doubles:?}");
+}
+
+/// Of the same example, the independent implementation's geocentric vector when the light left. Printed are, to eleven decimals,
+/// -0.21282066905, -1.03702719761 and 0.03050584416 AU: in the theory's own frame every component is thousands of parts from that.
+#[test]
+fn mercury_when_the_light_left() {
+    let (t, mercury, earth) = (157_809_600_000, packed("mercury"), packed("earth"));
+    let (place, _, earlier) = apparent_place_worked(&mercury, &earth, t).unwrap();
+    let light = light_time(place.distance);
+    assert_eq!(light, 528_545);
+    let off_printed = |v: Vector| [v.x + 21_282_066_905, v.y + 103_702_719_761, v.z - 3_050_584_416].map(i64::abs);
+    let seen = earlier.geocentric;
+    assert_eq!(seen, Vector { x: -21_282_066_915, y: -103_702_719_726, z: 3_050_584_375 });
+    assert!(off_printed(seen).iter().all(|&off| off < 50), "{seen:?}");
+    let (mercury, earth) = (parse(&mercury).unwrap(), parse(&earth).unwrap());
+    let in_theory = geometry(&mercury, &earth, t - light, Frame::Theory).unwrap().geocentric;
+    assert!(off_printed(in_theory).iter().all(|&off| 5_000 < off), "{in_theory:?}");
 }
 
 /// L, B and R of Mercury on 2005-01-01, where three figures more of the turn change nothing; and L three and a half days before the end of

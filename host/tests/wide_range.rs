@@ -7,7 +7,7 @@ use common::calls::Outcome;
 use common::coarse::{at_wide_limit, constant, fill, Edge, ACCEPTED, LIMIT, WIDE};
 use common::{hex, packed_series, rounds, same, same_output, unhex, Met, Random};
 use reference::plain::packed::{pack, parse, Series, Term};
-use reference::plain::place::{geometry, light_time};
+use reference::plain::place::{geometry, light_time, Frame};
 use reference::plain::{is_far, NEAR_LIMIT, PARTS, T_LIMIT};
 
 fn check(series: &Series) -> Outcome<(i64, bool)> {
@@ -144,7 +144,12 @@ impl Bodies {
 
     /// The light time at t, if the place is usable.
     fn light(&self, t: i64) -> Option<i64> {
-        geometry(&self.planet, &self.earth, t).map(|geometry| light_time(geometry.distance))
+        geometry(&self.planet, &self.earth, t, Frame::Catalogues).map(|geometry| light_time(geometry.distance))
+    }
+
+    /// Whether a list takes the minute at t.
+    fn are_usable(&self, t: i64) -> bool {
+        geometry(&self.planet, &self.earth, t, Frame::Theory).is_some()
     }
 }
 
@@ -198,7 +203,7 @@ fn not_usable_when_the_light_left() {
     let planet = unhex("00000000000000000000000001ffff97bde5ca8a07000001ffffb3ccd4dfc603000000000000");
     let earth = unhex("019ed9cfd5a412000000000000000000000000000180a0b787e90500000000000000");
     let [p, e] = [&planet, &earth].map(|bytes| parse(bytes).unwrap());
-    assert!(geometry(&p, &e, -NEAR_LIMIT).is_some() && p.is_wide() && e.is_wide());
+    assert!(geometry(&p, &e, -NEAR_LIMIT, Frame::Catalogues).is_some() && p.is_wide() && e.is_wide());
     let answer = same(|calls| (calls.apparent_place)(&planet, &earth, -NEAR_LIMIT), String::new);
     assert_eq!(answer, Err((11, 0)));
 }
@@ -239,7 +244,7 @@ fn windows_at_both_limits() {
         met.note("ends at the limit of t", answered && last == T_LIMIT);
         met.note("begins past the limit of t", refused == Some((2, t0)));
         met.note("ends past the limit of t", refused == Some((2, last)) && T_LIMIT - 60_000 * minutes < t0);
-        met.note("a minute not usable before the first far one", inside && bodies.light(t0).is_none());
+        met.note("a minute not usable before the first far one", inside && !bodies.are_usable(t0));
         met.note("far, good and not usable", refused == Some((11, 0)) && is_far(t0));
         met.note("17 without room", room == 0 && refused.is_some_and(|(number, _)| number == 17));
         met.note("a minute listed beyond two millennia", matches!(answer, Ok(count) if 0 < count) && is_far(t0));

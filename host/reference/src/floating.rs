@@ -2,6 +2,7 @@
 
 use crate::plain::nutation::TABLE;
 use crate::plain::packed::Series;
+use crate::plain::place::{TO_CATALOGUES, TO_CATALOGUES_UNIT};
 
 struct Term {
     a: f64,
@@ -68,6 +69,14 @@ impl Vector {
         Vector { x: flat * longitude.cos(), y: flat * longitude.sin(), z: length * latitude.sin() }
     }
 
+    /// In the frame of the star catalogues.
+    fn turned(self) -> Vector {
+        let v = [self.x, self.y, self.z];
+        let product = |m: i64, v: f64| m as f64 / TO_CATALOGUES_UNIT as f64 * v;
+        let [x, y, z] = TO_CATALOGUES.map(|row| product(row[0], v[0]) + product(row[1], v[1]) + product(row[2], v[2]));
+        Vector { x: self.x + x, y: self.y + y, z: self.z + z }
+    }
+
     fn minus(self, other: Vector) -> Vector {
         Vector { x: self.x - other.x, y: self.y - other.y, z: self.z - other.z }
     }
@@ -104,14 +113,14 @@ fn nutation(t: i64) -> (f64, f64) {
 }
 
 pub fn place(planet: &Tables, earth: &Tables, t: i64) -> Place {
-    let distance = planet.vector(t).minus(earth.vector(t)).length();
-    let earlier = t - (499_004.781_984 * distance).round() as i64;
-    let seen = planet.vector(earlier).minus(earth.vector(earlier));
+    let seen_at = |t: i64| planet.vector(t).turned().minus(earth.vector(t).turned());
+    let distance = seen_at(t).length();
+    let seen = seen_at(t - (499_004.781_984 * distance).round() as i64);
     let (longitude, obliquity) = nutation(t);
     let latitude = (seen.z / (seen.x * seen.x + seen.y * seen.y).sqrt()).atan();
-    let turned = Vector::of_angles(seen.length(), seen.y.atan2(seen.x) + longitude, latitude);
+    let rebuilt = Vector::of_angles(seen.length(), seen.y.atan2(seen.x) + longitude, latitude);
     let (s, c) = obliquity.sin_cos();
-    let v = Vector { x: turned.x, y: turned.y * c - turned.z * s, z: turned.y * s + turned.z * c };
+    let v = Vector { x: rebuilt.x, y: rebuilt.y * c - rebuilt.z * s, z: rebuilt.y * s + rebuilt.z * c };
     Place {
         right_ascension: v.y.atan2(v.x).rem_euclid(2.0 * std::f64::consts::PI),
         declination: (v.z / (v.x * v.x + v.y * v.y).sqrt()).atan(),

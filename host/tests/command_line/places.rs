@@ -31,7 +31,7 @@ fn a_range_of_places() {
     let table = printed(&range);
     let lines: Vec<&str> = table.lines().collect();
     assert_eq!(lines[0], "Mercury, 144 apparent places from 2005-01-01 00:00 TD");
-    assert!(lines[2].starts_with("2005-01-01 00:00  17h 10m 10.354s   -21° 17′ 23.85″   1.05919798645"), "{table}");
+    assert!(lines[2].starts_with("2005-01-01 00:00  17h 10m 10.348s   -21° 17′ 23.81″   1.05919798645"), "{table}");
     assert!(lines[145].starts_with("2005-01-01 23:50  ") && lines[146] == "Series:" && lines.len() == 149, "{table}");
     let csv = printed(&[&range[..], &["--csv"]].concat());
     let rows: Vec<&str> = csv.lines().filter(|line| !line.starts_with('#')).collect();
@@ -40,7 +40,7 @@ fn a_range_of_places() {
         Some("# apparent places of Mercury from 2005-01-01T00:00 TD: 144; step in milliseconds: 600000")
     );
     assert_eq!(rows[0], "td,t,right_ascension,declination,distance");
-    assert_eq!(rows[1], "2005-01-01T00:00,157809600000,92715532,-7664385,105919798645");
+    assert_eq!(rows[1], "2005-01-01T00:00,157809600000,92715523,-7664381,105919798645");
     assert!(rows[144].starts_with("2005-01-01T23:50,157895400000,") && rows.len() == 145);
     // A step that does not divide the window ends before it does.
     assert_eq!(
@@ -52,7 +52,7 @@ fn a_range_of_places() {
 /// The mount gets its three doubles and nothing else, or the refusal.
 #[test]
 fn mount() {
-    let doubles = "257.54314444444447 -21.289958333333335 1.05919798645";
+    let doubles = "257.54311944444447 -21.28994722222222 1.05919798645";
     assert_eq!(printed(&["place", "mercury", "2005-01-01", "--mount"]), format!("{doubles}\n"));
     let range = ["place", "mercury", "2005-01-01", "--every", "12h", "--mount"];
     let lines = printed(&range);

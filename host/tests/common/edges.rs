@@ -5,7 +5,7 @@ use super::generate::window_start;
 use super::Random;
 use reference::plain::cosine::sine;
 use reference::plain::packed::{Series, Term};
-use reference::plain::place::geometry;
+use reference::plain::place::{geometry, Frame};
 use reference::plain::sun_list::{squared_separation, threshold, TURN_HALF_ARCMINUTES};
 use reference::plain::{rounded, ANGLE_PER_PART, ANGLE_STEP, MILLENNIUM, PARTS, QUARTER, TURN};
 
@@ -102,7 +102,8 @@ impl Window {
 
     /// The squared separation at a minute, from the plain program; none where the places are not usable.
     pub fn squared_separation(&self, minute: i64) -> Option<i64> {
-        geometry(&self.planet, &self.earth, self.t0 + MINUTE * minute).map(|geometry| squared_separation(&geometry))
+        let geometry = geometry(&self.planet, &self.earth, self.t0 + MINUTE * minute, Frame::Theory);
+        geometry.map(|geometry| squared_separation(&geometry))
     }
 
     /// How far the squared separation at a minute is from the threshold.

@@ -3,6 +3,8 @@
 use super::coarse::{at_wide_limit, constant, fill, Edge, WIDE};
 use super::Random;
 use reference::plain::packed::{pack, put_number, Series, Term};
+use reference::plain::place::Vector;
+use reference::plain::series::Coordinates;
 use reference::plain::{MILLENNIUM, NEAR_LIMIT, PARTS, T_LIMIT};
 
 /// Any number of 64 bits, small ones and the ends as often as others.
@@ -203,6 +205,25 @@ pub fn bodies(random: &mut Random) -> (Vec<u8>, Vec<u8>) {
         earth = packed(random);
     }
     (planet, earth)
+}
+
+/// L, B and R of planet and Earth, in line with the Sun and as near to each other as is usable, or a part or two beside: their distance is
+/// 0.1 AU, or a sixteenth of the sum of both radii. Either is the inner one.
+pub fn as_near_as_is_usable(random: &mut Random) -> [[i64; 3]; 2] {
+    let (longitude, latitude) = (random.between(0, 7 * PARTS), random.between(-3 * PARTS / 2, 3 * PARTS / 2));
+    let place = |radius: i64| Vector::of_coordinates(Coordinates { longitude, latitude, radius });
+    // Up to 0.75 AU a distance of 0.1 AU is enough.
+    let near = random.one_in(2);
+    let inner = if near { random.between(PARTS / 10, PARTS * 7 / 10) } else { random.between(PARTS, 56 * PARTS) };
+    let mut outer = if near { inner + PARTS / 10 } else { inner * 17 / 15 };
+    for _ in 0..2 {
+        // Cosines are rounded, so the distance is not quite the difference of the radii.
+        let distance = place(outer).minus(place(inner)).length();
+        outer += if near { PARTS / 10 - distance } else { (inner + outer - 16 * distance) / 15 };
+    }
+    outer += random.between(-2, 2);
+    let [inner, outer] = [inner, outer].map(|radius| [longitude, latitude, radius]);
+    random.pick(&[[inner, outer], [outer, inner]])
 }
 
 /// A decimal in parts, mostly as the grammar has it.

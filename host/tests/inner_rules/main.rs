@@ -2,6 +2,7 @@
 
 #[path = "../common/mod.rs"]
 mod common;
+mod frame;
 mod proved;
 mod random;
 mod terms;

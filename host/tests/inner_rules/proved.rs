@@ -1,5 +1,7 @@
 //! The functions that the crate inner_rules shows to tests.
 
+use reference::plain::place::Frame;
+
 #[repr(C)]
 struct TermFigures {
     angle: u64,
@@ -19,6 +21,13 @@ pub struct NutationFigures {
 #[repr(C)]
 struct ArgumentFigures {
     figures: [i64; 5],
+}
+
+#[repr(C)]
+struct VectorFigures {
+    x: i64,
+    y: i64,
+    z: i64,
 }
 
 /// 1, Earth's place, the planet's geocentric vector and its length; or nothing but 0.
@@ -41,7 +50,9 @@ extern "C" {
     fn stephylax_test_nutation(t: i64) -> NutationFigures;
     fn stephylax_test_arguments(t: i64) -> ArgumentFigures;
     fn stephylax_test_light(distance: i64) -> i64;
+    fn stephylax_test_turned(x: i64, y: i64, z: i64) -> VectorFigures;
     fn stephylax_test_sight(l: i64, b: i64, r: i64, earth_l: i64, earth_b: i64, earth_r: i64) -> SightFigures;
+    fn stephylax_test_turned_sight(l: i64, b: i64, r: i64, earth_l: i64, earth_b: i64, earth_r: i64) -> SightFigures;
 }
 
 // SAFETY of every call below: the functions take every number and touch no memory of ours.
@@ -85,8 +96,17 @@ pub fn light_time(distance: i64) -> i64 {
     unsafe { stephylax_test_light(distance) }
 }
 
-/// From L, B and R of the planet and of Earth, where they are usable.
-pub fn sight([l, b, r]: [i64; 3], [earth_l, earth_b, earth_r]: [i64; 3]) -> Option<SightFigures> {
-    let sight = unsafe { stephylax_test_sight(l, b, r, earth_l, earth_b, earth_r) };
+/// A vector turned to the frame of the catalogues.
+pub fn turned([x, y, z]: [i64; 3]) -> [i64; 3] {
+    let v = unsafe { stephylax_test_turned(x, y, z) };
+    [v.x, v.y, v.z]
+}
+
+/// From L, B and R of the planet and of Earth, where they are usable in this frame.
+pub fn sight([l, b, r]: [i64; 3], [earth_l, earth_b, earth_r]: [i64; 3], frame: Frame) -> Option<SightFigures> {
+    let sight = match frame {
+        Frame::Theory => unsafe { stephylax_test_sight(l, b, r, earth_l, earth_b, earth_r) },
+        Frame::Catalogues => unsafe { stephylax_test_turned_sight(l, b, r, earth_l, earth_b, earth_r) },
+    };
     (sight.usable == 1).then_some(sight)
 }

@@ -4,8 +4,7 @@ use crate::common::generate::any_number;
 use crate::common::{rounds, Random};
 use crate::proved;
 use crate::terms::edge;
-use reference::plain::place::{direction, latitude, seen, Vector};
-use reference::plain::series::Coordinates;
+use reference::plain::place::{direction, latitude, Vector};
 use reference::plain::{cosine, nutation, NEAR_LIMIT, PARTS, TURN, T_LIMIT};
 
 /// Angles of 64 bits: any, and those at and beside edges, with whole turns.
@@ -48,26 +47,4 @@ fn directions_and_latitudes() {
         assert_eq!(proved::direction(x, y), direction(x, y), "{x} {y}");
         assert_eq!(proved::latitude([x, y, z]), latitude(Vector { x, y, z }), "{x} {y} {z}");
     }
-}
-
-/// Longitudes and latitudes of any number of turns.
-#[test]
-fn sights() {
-    let mut random = Random(48);
-    let mut usable = 0;
-    for _ in 0..rounds(100_000) {
-        let [planet, earth] = [0; 2].map(|_| {
-            let radius = random.pick(&[PARTS / 10, 64 * PARTS]) + random.between(-2, 2);
-            let radius = if random.one_in(4) { radius } else { random.between(PARTS / 10, 64 * PARTS) };
-            [any_number(&mut random), any_number(&mut random), radius]
-        });
-        let coordinates = |[longitude, latitude, radius]: [i64; 3]| Coordinates { longitude, latitude, radius };
-        let three = |v: Vector| [v.x, v.y, v.z];
-        let answer = proved::sight(planet, earth).map(|s| (s.earth, s.vector, s.distance as i64));
-        let wanted = seen(coordinates(planet), coordinates(earth));
-        let wanted = wanted.map(|g| (three(g.earth), three(g.geocentric), g.distance));
-        assert_eq!(answer, wanted, "{planet:?} {earth:?}");
-        usable += answer.is_some() as u64;
-    }
-    assert!(rounds(100_000) / 4 < usable, "only {usable} sights are usable");
 }

@@ -41,7 +41,7 @@ fn amplitude(random: &mut Random) -> i64 {
 }
 
 /// The number from 0 to n - 1 that times a is 1 more than a multiple of n, where a and n have no common factor.
-fn inverse(a: i64, n: i64) -> i64 {
+pub fn inverse(a: i64, n: i64) -> i64 {
     let (mut last, mut rest) = (n, a.rem_euclid(n));
     let (mut last_factor, mut factor) = (0, 1);
     while rest != 0 {
@@ -53,7 +53,7 @@ fn inverse(a: i64, n: i64) -> i64 {
 }
 
 /// a b mod n.
-fn product(a: i64, b: i64, n: i64) -> i64 {
+pub fn product(a: i64, b: i64, n: i64) -> i64 {
     (a as i128 * b as i128).rem_euclid(n as i128) as i64
 }
 

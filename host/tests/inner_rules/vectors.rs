@@ -3,6 +3,7 @@
 use crate::common::calls::{Outcome, LIBRARY};
 use crate::common::{expected, numbers, packed_series, repository, two_series, vectors, Fields};
 use crate::proved;
+use reference::plain::place::Frame;
 
 /// The case lines of a vector file, which has so many: every test below ends each of them, and none passes on less.
 fn counted(name: &str, count: usize) -> Vec<(usize, String)> {
@@ -28,6 +29,16 @@ fn terms() {
         let fields = &mut Fields::of(&line);
         let term = proved::term(numbers(fields));
         assert_eq!(term, numbers(fields), "line {number}: {line}");
+        assert!(fields.done(), "line {number}: {line}");
+    }
+}
+
+#[test]
+fn turned_vectors() {
+    for (number, line) in counted("turn.txt", 260) {
+        let fields = &mut Fields::of(&line);
+        let turned = proved::turned(numbers(fields));
+        assert_eq!(turned, numbers(fields), "line {number}: {line}");
         assert!(fields.done(), "line {number}: {line}");
     }
 }
@@ -139,7 +150,7 @@ fn seen(planet: &[u8], earth: &[u8], t: i64) -> Outcome<proved::SightFigures> {
     if let (Err((17, _)), Err(refusal)) = (planet, earth) {
         return Err(refusal);
     }
-    proved::sight(planet?, earth?).ok_or((11, 0))
+    proved::sight(planet?, earth?, Frame::Catalogues).ok_or((11, 0))
 }
 
 /// The figures on the way to a place: planet and Earth at t, D and its light time, the geocentric vector at the earlier
@@ -155,11 +166,16 @@ fn steps(planet: &[u8], earth: &[u8], t: i64) -> Outcome<[i64; 11]> {
     Ok([planet[0], planet[1], planet[2], earth_x, earth_y, earth_z, distance, light, then_x, then_y, then_z])
 }
 
+/// The case lines of the vectors of places.
+pub fn place_lines() -> Vec<(usize, String)> {
+    counted("place.txt", 617)
+}
+
 /// What follows these figures in a line is the answer of the public call, which has a test of its own.
 #[test]
 fn steps_to_a_place() {
     let series = packed_series();
-    for (number, line) in counted("place.txt", 662) {
+    for (number, line) in place_lines() {
         let fields = &mut Fields::of(&line);
         if line.starts_with("light") {
             fields.word();

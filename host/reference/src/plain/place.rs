@@ -28,6 +28,11 @@ pub struct Mount {
     pub distance: f64,
 }
 
+/// What the turn to the frame of the star catalogues adds to x, y and z, a row each: so many 10^-12 of x, of y and of z. The whole that each
+/// keeps of itself, the diagonal, is left out.
+pub const TO_CATALOGUES: [[i64; 3]; 3] = [[0, 440_291, -190_889], [-440_291, 0, 188_593], [190_889, -188_593, 0]];
+pub const TO_CATALOGUES_UNIT: i64 = 1_000_000_000_000;
+
 /// Hundredths of an arcsecond in a quarter of a turn, and in a turn.
 const QUARTER_K: i64 = 32_400_000;
 const TURN_K: i128 = 129_600_000;
@@ -63,6 +68,14 @@ impl Vector {
     pub fn of_coordinates(c: Coordinates) -> Vector {
         let angle = |parts: i64| within_turn(ANGLE_PER_PART as i128 * parts as i128);
         Vector::of_angles(c.radius, angle(c.longitude), angle(c.latitude))
+    }
+
+    /// In the frame of the star catalogues, each product rounded to the part.
+    pub fn turned(self) -> Vector {
+        let v = [self.x, self.y, self.z];
+        let product = |m: i64, v: i64| rounded(m as i128 * v as i128, TO_CATALOGUES_UNIT as i128) as i64;
+        let [x, y, z] = TO_CATALOGUES.map(|row| product(row[0], v[0]) + product(row[1], v[1]) + product(row[2], v[2]));
+        Vector { x: self.x + x, y: self.y + y, z: self.z + z }
     }
 
     pub fn minus(self, other: Vector) -> Vector {
@@ -139,7 +152,26 @@ pub fn light_time(distance: i64) -> i64 {
     rounded(499_004_781_984 * distance as i128, 100_000_000_000_000_000) as i64
 }
 
-/// Both heliocentric places, the geocentric vector and its length, where the place is usable.
+/// The frame that both heliocentric places are taken in.
+#[derive(Clone, Copy, Debug, PartialEq, Eq)]
+pub enum Frame {
+    /// The theory's own, as its series give them: that of the Sun list.
+    Theory,
+    /// That of the star catalogues, FK5: that of apparent places.
+    Catalogues,
+}
+
+impl Frame {
+    fn place_of(self, c: Coordinates) -> Vector {
+        let place = Vector::of_coordinates(c);
+        match self {
+            Frame::Theory => place,
+            Frame::Catalogues => place.turned(),
+        }
+    }
+}
+
+/// Both heliocentric places in one frame, the geocentric vector and its length, where the place is usable.
 #[derive(Clone, Copy, Debug, PartialEq, Eq)]
 pub struct Geometry {
     pub planet: Vector,
@@ -148,18 +180,18 @@ pub struct Geometry {
     pub distance: i64,
 }
 
-pub fn geometry(planet: &Series, earth: &Series, t: i64) -> Option<Geometry> {
-    seen(coordinates(planet, t), coordinates(earth, t))
+pub fn geometry(planet: &Series, earth: &Series, t: i64, frame: Frame) -> Option<Geometry> {
+    seen(coordinates(planet, t), coordinates(earth, t), frame)
 }
 
 /// The geometry of these coordinates of the planet and of Earth.
-pub fn seen(p: Coordinates, e: Coordinates) -> Option<Geometry> {
+pub fn seen(p: Coordinates, e: Coordinates, frame: Frame) -> Option<Geometry> {
     let radii = PARTS / 10..=64 * PARTS;
     if !radii.contains(&p.radius) || !radii.contains(&e.radius) {
         return None;
     }
-    let planet = Vector::of_coordinates(p);
-    let earth = Vector::of_coordinates(e);
+    let planet = frame.place_of(p);
+    let earth = frame.place_of(e);
     let geocentric = planet.minus(earth);
     let distance = geocentric.length();
     if distance < PARTS / 10 || 16 * distance < p.radius + e.radius {
@@ -175,7 +207,7 @@ pub fn apparent_place_worked(planet: &[u8], earth: &[u8], t: i64) -> Result<(Pla
     let earth = parse(earth)?;
     let usable = |t: i64| {
         not_too_far(&[&planet, &earth], [t])?;
-        geometry(&planet, &earth, t).map_or_else(|| refused(11, 0), Ok)
+        geometry(&planet, &earth, t, Frame::Catalogues).map_or_else(|| refused(11, 0), Ok)
     };
     let now = usable(t)?;
     let earlier_t = t - light_time(now.distance);

@@ -2,7 +2,7 @@
 
 use super::cosine::sine;
 use super::packed::{not_too_far, parse};
-use super::place::{geometry, Geometry};
+use super::place::{geometry, Frame, Geometry};
 use super::{refused, rounded, within_limit, Refused, TURN};
 
 /// Half arcminutes in a turn.
@@ -41,7 +41,7 @@ pub fn sun_list(
     let mut numbers: Vec<u64> = Vec::new();
     let mut in_run = false;
     for minute in 0..minutes {
-        let Some(geometry) = geometry(&planet, &earth, t0 + 60_000 * minute) else {
+        let Some(geometry) = geometry(&planet, &earth, t0 + 60_000 * minute, Frame::Theory) else {
             return refused(11, minute);
         };
         let listed = squared_separation(&geometry) <= limit;

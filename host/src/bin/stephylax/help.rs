@@ -38,9 +38,10 @@ stephylax: places of planets, and the minutes when one stands too near the Sun, 
       angle, a band for each planet, after the list is printed (`-`: instead of the list, to standard output).
   stephylax place PLANET [DATE [TIME]] [--every STEP [--days N | --minutes N]] [--earth SERIES]
                   [--data FOLDER] [--mount] [--csv | --json]
-      The apparent place: right ascension, declination and distance. --every gives one at each step (30s, 10m, 6h, 1d)
-      of a day, or of as many days or minutes as told. --mount prints the three doubles that a mount takes (degrees,
-      degrees, AU), a line for each place.
+      The apparent place, in the frame of the star catalogues (FK5): right ascension, declination and distance. --every
+      gives one at each step (30s, 10m, 6h, 1d) of a day, or of as many days or minutes as told. --mount prints the
+      three doubles that a mount takes (degrees, degrees, AU), a line for each place. Coordinates and Sun lists are in
+      the frame of the theory instead.
   stephylax coordinates SERIES [DATE [TIME]] [--data FOLDER]
       Heliocentric longitude, latitude and radius.
   stephylax day DATE [TIME]
