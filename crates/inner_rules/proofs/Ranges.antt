@@ -1,7 +1,7 @@
 -- Numbers that are held in their range: what is answered, and what the calls ask. Assumes nothing.
-use mathlib.Core.Path.{_≡_, sym, ap, ap₂, _∙_, subst}
+use mathlib.Core.Path.{_≡_, refl, sym, ap, ap₂, _∙_, subst}
 use mathlib.Core.Bool.{true, false}
-use Prim.Native.Nat.{ℕ, _^_, _≤_, _<_}
+use Prim.Native.Nat.{ℕ, zero, suc, _^_, _≤_, _<_}
 use native.Mathlib.Omega.{arith}
 use native.Mathlib.Nat.{mul-le-mul}
 use borrow.Author.Tests.{le-leb, lt-leb}
@@ -12,6 +12,7 @@ use Rattle.units.specs.Units.{a-limit, b-limit, c-limit, t-limit}
 use Rattle.cosine.specs.Terms.{term-angle, term-value}
 use Rattle.rectangular.specs.declared.Vector.{Vector}
 use Rattle.rectangular.specs.declared.Frame.{Frame}
+use Rattle.rectangular.specs.declared.Frame.the-variants.{Theory, Catalogues}
 use Rattle.rectangular.specs.declared.Sight.{Sight}
 use Rattle.rectangular.specs.Vectors.{length}
 use Rattle.rectangular.specs.Frames.{turned}
@@ -22,7 +23,7 @@ use Rattle.direction.specs.Direction.{latitude}
 use Rattle.arith.proofs.Cells.{Cell, cell}
 use Rattle.inner_rules.specs.declared.VectorFigures.{VectorFigures}
 use Rattle.inner_rules.specs.declared.SightFigures.{SightFigures}
-use Rattle.inner_rules.specs.Inner.{held, reach, turn-reach, a-last, b-last, c-last, vector-figures, shown}
+use Rattle.inner_rules.specs.Inner.{held, reach, turn-reach, a-last, b-last, c-last, frame-of, vector-figures, shown}
 
 pub held-in : (last m : ℕ) (x : ℤ) → m ≡ natAbs x → m ≤ last → (x ≡ held last x) × (natAbs x ≤ last)
 unfolding held
@@ -97,8 +98,18 @@ turned-told w {x} {y} {z} {x′} {y′} {z′} ex ey ez hx hy hz e =
     let c = s .z-in in
     rw (← ex, ← ey, ← ez, cell (w .x) (omega arith), cell (w .y) (omega arith), cell (w .z) (omega arith), p)
 
+-- A frame, by the test of its number.
+pub frame-theory : (n : ℕ) → n ≡ 0 → Theory ≡ frame-of n
+unfolding frame-of
+frame-theory n e = rw e
+
+pub frame-catalogues : (n : ℕ) → (n ≡ 0 → ⊥) → Catalogues ≡ frame-of n
+unfolding frame-of
+frame-catalogues zero h = absurd (h refl)
+frame-catalogues (suc n) h = refl
+
 -- And a sight.
-pub sight-told : (f : Frame) {l b r l′ b′ r′ m n o m′ n′ o′ : ℤ} → l ≡ l′ → b ≡ b′ → r ≡ r′ → m ≡ m′ → n ≡ n′ → o ≡ o′ → {s : Sight} {z : SightFigures}
+pub sight-told : {f f′ : Frame} → f ≡ f′ → {l b r l′ b′ r′ m n o m′ n′ o′ : ℤ} → l ≡ l′ → b ≡ b′ → r ≡ r′ → m ≡ m′ → n ≡ n′ → o ≡ o′ → {s : Sight} {z : SightFigures}
     → s ≡ sight f (record { longitude = l; latitude = b; radius = r }) (record { longitude = m; latitude = n; radius = o }) → z ≡ shown s
-    → z ≡ shown (sight f (record { longitude = l′; latitude = b′; radius = r′ }) (record { longitude = m′; latitude = n′; radius = o′ }))
-sight-told f el eb er em en eo ps pz = pz ∙ ap shown ps ∙ rw (el, eb, er, em, en, eo)
+    → z ≡ shown (sight f′ (record { longitude = l′; latitude = b′; radius = r′ }) (record { longitude = m′; latitude = n′; radius = o′ }))
+sight-told ef el eb er em en eo ps pz = pz ∙ ap shown ps ∙ rw (ef, el, eb, er, em, en, eo)

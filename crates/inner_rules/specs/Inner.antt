@@ -1,10 +1,12 @@
 -- What a number past its range counts as, where tests call inner rules, and that range; a vector and a sight as numbers.
 use mathlib.Core.Bool.{cond}
-use Prim.Native.Nat.{ℕ, _-_, _^_}
+use Prim.Native.Nat.{ℕ, zero, suc, _-_, _^_}
 use lib.IntN.{ℤ, pos, natAbs}
 use lib.Dec.{leb}
 use Rattle.units.specs.Units.{a-limit, b-limit, c-limit}
 use Rattle.rectangular.specs.declared.Vector.{Vector}
+use Rattle.rectangular.specs.declared.Frame.{Frame}
+use Rattle.rectangular.specs.declared.Frame.the-variants.{Theory, Catalogues}
 use Rattle.rectangular.specs.declared.Sight.{Sight}
 use Rattle.rectangular.specs.declared.Sight.the-variants.{Usable, Unusable}
 use Rattle.inner_rules.specs.declared.VectorFigures.{VectorFigures}
@@ -31,6 +33,11 @@ b-last = b-limit - 1
 
 abbrev pub c-last : ℕ
 c-last = c-limit - 1
+
+-- The frame that a number stands for: the theory's for 0.
+unfoldable pub frame-of : ℕ → Frame
+frame-of zero = Theory
+frame-of (suc n) = Catalogues
 
 -- A vector as its numbers.
 unfoldable pub vector-figures : Vector → VectorFigures

@@ -9,13 +9,12 @@ ghost use Rattle.direction.specs.Direction.{direction as direction·of, latitud
 ghost use Rattle.rectangular.specs.Vectors.{length as length·of};
 ghost use Rattle.units.specs.Units.{t-limit};
 ghost use Rattle.cosine.specs.Terms.{term-angle, term-value};
-ghost use Rattle.rectangular.specs.declared.Frame.the-variants.{Theory, Catalogues};
 ghost use Rattle.rectangular.specs.Frames.{turned as turned·of};
 ghost use Rattle.rectangular.specs.Sight.{sight as sight·of};
 ghost use Rattle.nutation.specs.Nutation.{mean-elongation, sun-anomaly, moon-anomaly, latitude-argument, moon-node};
 ghost use Rattle.nutation.specs.Nutation.{longitude-nutation, obliquity-nutation, mean-obliquity, nutation-angle, obliquity-angle};
 ghost use Rattle.place.specs.Apparent.{light-time};
-ghost use Rattle.inner_rules.specs.Inner.{held, reach, turn-reach, a-last, b-last, c-last, vector-figures, shown};
+ghost use Rattle.inner_rules.specs.Inner.{held, reach, turn-reach, a-last, b-last, c-last, frame-of, vector-figures, shown};
 use crate::terms::figures_of;
 use arith::signed::abs;
 use cosine::cosine;
@@ -108,6 +107,16 @@ fn held(x: i64, last: u64) -> i64
         return x;
     }
     0
+}
+
+// The frame of the theory for 0, else that of the catalogues.
+fn frame_of(turned: u64) -> Frame
+    ensures { λ f. ⌜ f ≡ frame-of turned ⌝ }
+{
+    if turned == 0 {
+        return Frame::Theory;
+    }
+    Frame::Catalogues
 }
 
 // A sight as numbers.
@@ -254,9 +263,10 @@ pub extern "C" fn stephylax_test_turned(x: i64, y: i64, z: i64) -> VectorFigures
     }
 }
 
-// From L, B and R of the planet, then of Earth: the sight of the Sun list, in the frame of the theory.
+// From L, B and R of the planet, then of Earth: the sight of the Sun list where `turned` is 0, else that of a place.
 #[no_mangle]
 pub extern "C" fn stephylax_test_sight(
+    turned: u64,
     l: i64,
     b: i64,
     r: i64,
@@ -264,7 +274,7 @@ pub extern "C" fn stephylax_test_sight(
     earth_b: i64,
     earth_r: i64,
 ) -> SightFigures
-    ensures { λ s. ⌜ s ≡ shown (sight·of Theory (record { longitude = l; latitude = b; radius = r })
+    ensures { λ s. ⌜ s ≡ shown (sight·of (frame-of turned) (record { longitude = l; latitude = b; radius = r })
         (record { longitude = «earth_l»; latitude = «earth_b»; radius = «earth_r» })) ⌝ }
 {
     let planet = Coordinates {
@@ -277,31 +287,5 @@ pub extern "C" fn stephylax_test_sight(
         latitude: earth_b,
         radius: earth_r,
     };
-    figures(sight(Frame::Theory, planet, earth))
-}
-
-// The same of a place, in the frame of the catalogues.
-#[no_mangle]
-pub extern "C" fn stephylax_test_turned_sight(
-    l: i64,
-    b: i64,
-    r: i64,
-    earth_l: i64,
-    earth_b: i64,
-    earth_r: i64,
-) -> SightFigures
-    ensures { λ s. ⌜ s ≡ shown (sight·of Catalogues (record { longitude = l; latitude = b; radius = r })
-        (record { longitude = «earth_l»; latitude = «earth_b»; radius = «earth_r» })) ⌝ }
-{
-    let planet = Coordinates {
-        longitude: l,
-        latitude: b,
-        radius: r,
-    };
-    let earth = Coordinates {
-        longitude: earth_l,
-        latitude: earth_b,
-        radius: earth_r,
-    };
-    figures(sight(Frame::Catalogues, planet, earth))
+    figures(sight(frame_of(turned), planet, earth))
 }

@@ -51,8 +51,15 @@ extern "C" {
     fn stephylax_test_arguments(t: i64) -> ArgumentFigures;
     fn stephylax_test_light(distance: i64) -> i64;
     fn stephylax_test_turned(x: i64, y: i64, z: i64) -> VectorFigures;
-    fn stephylax_test_sight(l: i64, b: i64, r: i64, earth_l: i64, earth_b: i64, earth_r: i64) -> SightFigures;
-    fn stephylax_test_turned_sight(l: i64, b: i64, r: i64, earth_l: i64, earth_b: i64, earth_r: i64) -> SightFigures;
+    fn stephylax_test_sight(
+        turned: u64,
+        l: i64,
+        b: i64,
+        r: i64,
+        earth_l: i64,
+        earth_b: i64,
+        earth_r: i64,
+    ) -> SightFigures;
 }
 
 // SAFETY of every call below: the functions take every number and touch no memory of ours.
@@ -104,9 +111,7 @@ pub fn turned([x, y, z]: [i64; 3]) -> [i64; 3] {
 
 /// From L, B and R of the planet and of Earth, where they are usable in this frame.
 pub fn sight([l, b, r]: [i64; 3], [earth_l, earth_b, earth_r]: [i64; 3], frame: Frame) -> Option<SightFigures> {
-    let sight = match frame {
-        Frame::Theory => unsafe { stephylax_test_sight(l, b, r, earth_l, earth_b, earth_r) },
-        Frame::Catalogues => unsafe { stephylax_test_turned_sight(l, b, r, earth_l, earth_b, earth_r) },
-    };
+    let turned = (frame == Frame::Catalogues) as u64;
+    let sight = unsafe { stephylax_test_sight(turned, l, b, r, earth_l, earth_b, earth_r) };
     (sight.usable == 1).then_some(sight)
 }
