@@ -1,5 +1,5 @@
-//! The frame of the star catalogues: an apparent place is in it, the Sun list is in the theory's own. What is usable, or listed, in one frame
-//! alone shows which of the two a call works in. The library and the independent implementation must agree throughout.
+//! The frame of the star catalogues: an apparent place is in it, the Sun list is in the theory's own. What is usable, or listed, in one
+//! frame alone shows which of the two a call works in. The library and the independent implementation must agree throughout.
 
 mod common;
 

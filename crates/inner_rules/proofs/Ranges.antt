@@ -14,16 +14,16 @@ use Rattle.rectangular.specs.declared.Vector.{Vector}
 use Rattle.rectangular.specs.declared.Frame.{Frame}
 use Rattle.rectangular.specs.declared.Frame.the-variants.{Theory, Catalogues}
 use Rattle.rectangular.specs.declared.Sight.{Sight}
-use Rattle.rectangular.specs.Vectors.{length}
 use Rattle.rectangular.specs.Frames.{turned}
 use Rattle.rectangular.specs.Sight.{sight}
 use Rattle.rectangular.specs.machine.Components.{Components, grown}
+use Rattle.rectangular.proofs.Places.{three}
 use Rattle.rectangular.proofs.Turn.{turned-size}
 use Rattle.direction.specs.Direction.{latitude}
 use Rattle.arith.proofs.Cells.{Cell, cell}
 use Rattle.inner_rules.specs.declared.VectorFigures.{VectorFigures}
 use Rattle.inner_rules.specs.declared.SightFigures.{SightFigures}
-use Rattle.inner_rules.specs.Inner.{held, reach, turn-reach, a-last, b-last, c-last, frame-of, vector-figures, shown}
+use Rattle.inner_rules.specs.Inner.{held, reach, turn-reach, a-last, b-last, c-last, held-vector, frame-of, vector-figures, shown}
 
 pub held-in : (last m : ℕ) (x : ℤ) → m ≡ natAbs x → m ≤ last → (x ≡ held last x) × (natAbs x ≤ last)
 unfolding held
@@ -58,12 +58,6 @@ latitude-asks x y z h g k = (rw (cell x (omega arith), cell y (omega arith)) (fl
 pub latitude-told : (r x y z x′ y′ z′ : ℤ) → x ≡ x′ → y ≡ y′ → z ≡ z′ → r ≡ latitude x y z → r ≡ latitude x′ y′ z′
 latitude-told r x y z x′ y′ z′ e f g h = h ∙ ap (λ t. latitude t y z) e ∙ ap (λ t. latitude x′ t z) f ∙ ap (latitude x′ y′) g
 
-pub length-told : (r : ℕ) (x y z x′ y′ z′ : ℤ) → x ≡ x′ → y ≡ y′ → z ≡ z′ → r ≡ length (record { x = x; y = y; z = z })
-    → r ≡ length (record { x = x′; y = y′; z = z′ })
-length-told r x y z x′ y′ z′ e f g h =
-    h ∙ ap (λ t. length (record { x = t; y = y; z = z })) e ∙ ap (λ t. length (record { x = x′; y = t; z = z })) f
-    ∙ ap (λ t. length (record { x = x′; y = y′; z = t })) g
-
 pub light-asks : (d : ℕ) (x : ℤ) → d ≡ natAbs x → natAbs x ≤ reach → d < 2 ^ 46
 light-asks d x e h = omega arith
 
@@ -84,19 +78,30 @@ pub value-told : (r a a′ : ℤ) (b b′ : ℕ) (c t c′ t′ : ℤ) → a ≡
 value-told r a a′ b b′ c t c′ t′ e f g k h =
     h ∙ ap (λ z. term-value z b c t) e ∙ ap (λ (z : ℕ). term-value a′ z c t) f ∙ ap₂ (term-value a′ b′) g k
 
--- Likewise a turned vector, whose components go in and come out as their bits.
-pub turned-told : (w : Vector) {x y z x′ y′ z′ : ℤ} → x ≡ x′ → y ≡ y′ → z ≡ z′ → natAbs x ≤ turn-reach → natAbs y ≤ turn-reach → natAbs z ≤ turn-reach
-    → w ≡ turned (record { x = Cell x; y = Cell y; z = Cell z })
-    → _≡_ {A = VectorFigures} (record { x = Cell (w .x); y = Cell (w .y); z = Cell (w .z) }) (vector-figures (turned (record { x = x′; y = y′; z = z′ })))
+-- Three numbers that are held, and handed on as their bits, are a held vector; and it is that of numbers equal to those it was asked for.
+pub vector-held : (last : ℕ) {a b c x y z : ℤ} → Cell a ≡ a → Cell b ≡ b → Cell c ≡ c → (a ≡ held last (Cell x)) × (natAbs a ≤ last)
+    → (b ≡ held last (Cell y)) × (natAbs b ≤ last) → (c ≡ held last (Cell z)) × (natAbs c ≤ last) → Cell x ≡ x → Cell y ≡ y → Cell z ≡ z
+    → let v : Vector = record { x = Cell a; y = Cell b; z = Cell c } in (v ≡ held-vector last x y z) × Components last v
+unfolding held-vector
+vector-held last ca cb cc′ ha hb hc cx cy cz = (
+  three (ca ∙ ha .0 ∙ ap (held last) cx) (cb ∙ hb .0 ∙ ap (held last) cy) (cc′ ∙ hc .0 ∙ ap (held last) cz),
+  record { x-in = rw ca (ha .1); y-in = rw cb (hb .1); z-in = rw cc′ (hc .1) },
+)
+
+pub vector-told : {v : Vector} (last : ℕ) {x y z : ℤ} → Cell x ≡ x → Cell y ≡ y → Cell z ≡ z → v ≡ held-vector last (Cell x) (Cell y) (Cell z)
+    → v ≡ held-vector last x y z
+vector-told last ex ey ez e = e ∙ rw (ex, ey, ez)
+
+-- A turned vector comes out as its bits.
+pub turned-told : (v w : Vector) → Components turn-reach v → w ≡ turned v
+    → _≡_ {A = VectorFigures} (record { x = Cell (w .x); y = Cell (w .y); z = Cell (w .z) }) (vector-figures (turned v))
 unfolding vector-figures
-turned-told w {x} {y} {z} {x′} {y′} {z′} ex ey ez hx hy hz e =
-    let v : Vector = record { x = x; y = y; z = z } in
-    let p : w ≡ turned v = e ∙ rw (cell x (omega arith), cell y (omega arith), cell z (omega arith)) in
-    let s = subst (Components (grown turn-reach)) (sym p) (turned-size turn-reach v (record { x-in = hx; y-in = hy; z-in = hz })) in
+turned-told v w h e =
+    let s = subst (Components (grown turn-reach)) (sym e) (turned-size turn-reach v h) in
     let a = s .x-in in
     let b = s .y-in in
     let c = s .z-in in
-    rw (← ex, ← ey, ← ez, cell (w .x) (omega arith), cell (w .y) (omega arith), cell (w .z) (omega arith), p)
+    rw (cell (w .x) (omega arith), cell (w .y) (omega arith), cell (w .z) (omega arith), e)
 
 -- A frame, by the test of its number.
 pub frame-theory : (n : ℕ) → n ≡ 0 → Theory ≡ frame-of n
@@ -109,7 +114,8 @@ frame-catalogues zero h = absurd (h refl)
 frame-catalogues (suc n) h = refl
 
 -- And a sight.
-pub sight-told : {f f′ : Frame} → f ≡ f′ → {l b r l′ b′ r′ m n o m′ n′ o′ : ℤ} → l ≡ l′ → b ≡ b′ → r ≡ r′ → m ≡ m′ → n ≡ n′ → o ≡ o′ → {s : Sight} {z : SightFigures}
+pub sight-told : {f f′ : Frame} → f ≡ f′ → {l b r l′ b′ r′ m n o m′ n′ o′ : ℤ} → l ≡ l′ → b ≡ b′ → r ≡ r′ → m ≡ m′ → n ≡ n′ → o ≡ o′
+    → {s : Sight} {z : SightFigures}
     → s ≡ sight f (record { longitude = l; latitude = b; radius = r }) (record { longitude = m; latitude = n; radius = o }) → z ≡ shown s
     → z ≡ shown (sight f′ (record { longitude = l′; latitude = b′; radius = r′ }) (record { longitude = m′; latitude = n′; radius = o′ }))
 sight-told ef el eb er em en eo ps pz = pz ∙ ap shown ps ∙ rw (ef, el, eb, er, em, en, eo)

@@ -16,6 +16,10 @@ use Rattle.inner_rules.specs.declared.SightFigures.{SightFigures}
 unfoldable pub held : (last : ℕ) → ℤ → ℤ
 held last x = cond (leb (natAbs x) last) x (pos 0)
 
+-- The vector of three numbers, each so held.
+unfoldable pub held-vector : (last : ℕ) (x y z : ℤ) → Vector
+held-vector last x y z = record { x = held last x; y = held last y; z = held last z }
+
 -- The greatest component of a vector, and the greatest length, over 350 AU in parts.
 abbrev pub reach : ℕ
 reach = 2 ^ 45

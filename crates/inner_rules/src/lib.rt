@@ -11,10 +11,11 @@ ghost use Rattle.units.specs.Units.{t-limit};
 ghost use Rattle.cosine.specs.Terms.{term-angle, term-value};
 ghost use Rattle.rectangular.specs.Frames.{turned as turned·of};
 ghost use Rattle.rectangular.specs.Sight.{sight as sight·of};
+ghost use Rattle.rectangular.specs.machine.Components.{Components};
 ghost use Rattle.nutation.specs.Nutation.{mean-elongation, sun-anomaly, moon-anomaly, latitude-argument, moon-node};
 ghost use Rattle.nutation.specs.Nutation.{longitude-nutation, obliquity-nutation, mean-obliquity, nutation-angle, obliquity-angle};
 ghost use Rattle.place.specs.Apparent.{light-time};
-ghost use Rattle.inner_rules.specs.Inner.{held, reach, turn-reach, a-last, b-last, c-last, frame-of, vector-figures, shown};
+ghost use Rattle.inner_rules.specs.Inner.{held, reach, turn-reach, a-last, b-last, c-last, held-vector, frame-of, vector-figures, shown};
 use crate::terms::figures_of;
 use arith::signed::abs;
 use cosine::cosine;
@@ -109,6 +110,16 @@ fn held(x: i64, last: u64) -> i64
     0
 }
 
+// The vector of three numbers, each so held.
+fn held_vector(x: i64, y: i64, z: i64, last: u64) -> Vector
+    ensures { λ v. ⌜ (v ≡ held-vector last x y z) × Components last v ⌝ }
+{
+    let a = held(x, last);
+    let b = held(y, last);
+    let c = held(z, last);
+    Vector { x: a, y: b, z: c }
+}
+
 // The frame of the theory for 0, else that of the catalogues.
 fn frame_of(turned: u64) -> Frame
     ensures { λ f. ⌜ f ≡ frame-of turned ⌝ }
@@ -164,12 +175,9 @@ pub extern "C" fn stephylax_test_sine(x: i64) -> i64
 // The floor of the length of (x, y, z).
 #[no_mangle]
 pub extern "C" fn stephylax_test_root(x: i64, y: i64, z: i64) -> u64
-    ensures { λ r. ⌜ r ≡ length·of (record { x = held reach x; y = held reach y; z = held reach z }) ⌝ }
+    ensures { λ r. ⌜ r ≡ length·of (held-vector reach x y z) ⌝ }
 {
-    let a = held(x, REACH);
-    let b = held(y, REACH);
-    let c = held(z, REACH);
-    length(Vector { x: a, y: b, z: c })
+    length(held_vector(x, y, z, REACH))
 }
 
 #[no_mangle]
@@ -250,12 +258,9 @@ pub extern "C" fn stephylax_test_light(distance: i64) -> i64
 // A vector in the frame of the catalogues.
 #[no_mangle]
 pub extern "C" fn stephylax_test_turned(x: i64, y: i64, z: i64) -> VectorFigures
-    ensures { λ r. ⌜ r ≡ vector-figures (turned·of (record { x = held turn-reach x; y = held turn-reach y; z = held turn-reach z })) ⌝ }
+    ensures { λ r. ⌜ r ≡ vector-figures (turned·of (held-vector turn-reach x y z)) ⌝ }
 {
-    let a = held(x, TURN_REACH);
-    let b = held(y, TURN_REACH);
-    let c = held(z, TURN_REACH);
-    let v = turned(Vector { x: a, y: b, z: c });
+    let v = turned(held_vector(x, y, z, TURN_REACH));
     VectorFigures {
         x: v.x,
         y: v.y,

@@ -27,8 +27,8 @@ use Rattle.place.specs.Apparent.{earlier}
 use Rattle.place.specs.Place.{sight-at, taken-again, at-earlier, taken, of-series, sighting-by, sighting}
 
 -- Both bodies at one instant.
-pub both-is : (t : Instant) (P E : List (List Term)) (p e : Coordinates) (r : Sight) → p ≡ coordinates (t .ms) P → e ≡ coordinates (t .ms) E → r ≡ sight Catalogues p e
-    → r ≡ sight-at P E t
+pub both-is : (t : Instant) (P E : List (List Term)) (p e : Coordinates) (r : Sight) → p ≡ coordinates (t .ms) P → e ≡ coordinates (t .ms) E
+    → r ≡ sight Catalogues p e → r ≡ sight-at P E t
 unfolding sight-at
 both-is t P E p e r k l m = m ∙ ap₂ (sight Catalogues) k l
 

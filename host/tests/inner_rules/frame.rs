@@ -1,5 +1,5 @@
-//! The turn to the frame of the catalogues, and sights in both frames: at random, at ties and beside them, at the least usable distance, and on
-//! the vectors of places; beside the independent implementation.
+//! The turn to the frame of the catalogues, and sights in both frames: at random, at ties and beside them, at the least usable distance,
+//! and on the vectors of places; beside the independent implementation.
 
 use crate::common::calls::LIBRARY;
 use crate::common::generate::{any_number, as_near_as_is_usable};

@@ -1,18 +1,16 @@
 -- `inner_rules::stephylax_test_turned` meets its contract. Assumes nothing.
+use mathlib.Core.Path.{_∙_, ap}
 use borrow.Author.Needs.{needs}
 use Rattle.arith.proofs.Signs.{back}
-use Rattle.inner_rules.proofs.Ranges.{turned-told}
+use Rattle.rectangular.specs.declared.Vector.{Vector}
+use Rattle.rectangular.specs.Frames.{turned}
+use Rattle.inner_rules.specs.Inner.{turn-reach, vector-figures}
+use Rattle.inner_rules.proofs.Ranges.{vector-told, turned-told}
 use Rattle.inner_rules.proofs.stephylax_test_turned.Statement.{statement}
 use Rattle.inner_rules.proofs.stephylax_test_turned.Tie as tie
 
-held-requires : tie.Need-held-requires
-held-requires c κs = search needs
-
-held-requires-2 : tie.Need-held-requires-2
-held-requires-2 c κs = search needs
-
-held-requires-3 : tie.Need-held-requires-3
-held-requires-3 c κs = search needs
+held-vector-requires : tie.Need-held-vector-requires
+held-vector-requires c κs = search needs
 
 turned-requires : tie.Need-turned-requires
 turned-requires c κs = search needs
@@ -20,15 +18,11 @@ turned-requires c κs = search needs
 returns : tie.Need-returns
 returns c =
     let t = c .before in
-    let d = t .before in
-    let b = d .before in
-    let a = b .before in
-    let s = a .before in
-    let x = rw (back (s .args .x) (s .fits .x)) at (a .held .ensures .0) in
-    let y = rw (back (s .args .y) (s .fits .y)) at (b .held2 .ensures .0) in
-    let z = rw (back (s .args .z) (s .fits .z)) at (d .held3 .ensures .0) in
-    turned-told (t .turned .result) x y z (a .held .ensures .1) (b .held2 .ensures .1) (d .held3 .ensures .1) (t .turned .ensures)
+    let v = t .before in
+    let s = v .before in
+    let e = vector-told turn-reach (back _ (s .fits .x)) (back _ (s .fits .y)) (back _ (s .fits .z)) (v .held-vector .ensures .0) in
+    turned-told (v .held-vector .result) (t .turned .result) (v .held-vector .ensures .1) (t .turned .ensures)
+    ∙ ap (λ (w : Vector). vector-figures (turned w)) e
 
 pub stephylax-test-turned-spec : {M : Type 1} → statement M
-stephylax-test-turned-spec =
-    tie.close (tie.spec held-requires held-requires-2 held-requires-3 turned-requires returns)
+stephylax-test-turned-spec = tie.close (tie.spec held-vector-requires turned-requires returns)

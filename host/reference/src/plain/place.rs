@@ -28,8 +28,8 @@ pub struct Mount {
     pub distance: f64,
 }
 
-/// What the turn to the frame of the star catalogues adds to x, y and z, a row each: so many 10^-12 of x, of y and of z. The whole that each
-/// keeps of itself, the diagonal, is left out.
+/// What the turn to the frame of the star catalogues adds to x, y and z, a row each: so many 10^-12 of x, of y and of z. The whole that
+/// each keeps of itself, the diagonal, is left out.
 pub const TO_CATALOGUES: [[i64; 3]; 3] = [[0, 440_291, -190_889], [-440_291, 0, 188_593], [190_889, -188_593, 0]];
 pub const TO_CATALOGUES_UNIT: i64 = 1_000_000_000_000;
 

@@ -26,7 +26,8 @@ both-good : (c : tie.Else1) → let s = c .before .before .before .before in
 both-good c =
     let r = c .before in
     let s = r .before .before .before in
-    radii-pass (s .args .planet .radius) (s .args .earth .radius) (search needs) (search needs) (r .usable-radii .result) (r .usable-radii .ensures) (c .if1 .left)
+    radii-pass (s .args .planet .radius) (s .args .earth .radius) (search needs) (search needs) (r .usable-radii .result) (r .usable-radii .ensures)
+    (c .if1 .left)
 
 place-in-requires : tie.Need-place-in-requires
 place-in-requires c κs = both-good c .0
@@ -50,8 +51,8 @@ returns-2 c =
     let p = e .before in
     let g = both-good (p .before) in
     let s = p .before .before .before .before .before in
-    sight-told (s .args .planet .radius) (s .args .earth .radius) (cell _ (radius-in _ (g .0))) (cell _ (radius-in _ (g .1))) (p .place-in .result) (e .place-in2 .result) _ _
-    (c .seen .result) (p .place-in .ensures .0) (e .place-in2 .ensures .0) (c .seen .ensures)
+    sight-told (s .args .planet .radius) (s .args .earth .radius) (cell _ (radius-in _ (g .0))) (cell _ (radius-in _ (g .1)))
+    (p .place-in .result) (e .place-in2 .result) _ _ (c .seen .result) (p .place-in .ensures .0) (e .place-in2 .ensures .0) (c .seen .ensures)
 
 pub sight-spec : {M : Type 1} → statement M
 sight-spec =
