@@ -1,5 +1,5 @@
 -- Where every instant that is used lies within two millennia, the earlier one too, a place is answered as if time ended there, whether the series are
--- good for the wide range or not. (Before the wide range it did; the frame of the catalogues, which moved every place, came later.) Assumes nothing.
+-- good for the wide range or not. (Before the wide range it did; the frame of the catalogues, which moved places, came later.) Assumes nothing.
 use mathlib.Core.Path.{_≡_, refl, ap, _∙_}
 use mathlib.Core.Bool.{true}
 use mathlib.Core.List.{List}
