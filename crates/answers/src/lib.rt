@@ -1,5 +1,7 @@
 // Each answer of the library as C has it, in a struct of numbers: `refusal` is 0 or the refusal's number, `figure` what comes with a refusal;
 // what an answer does not use is 0. All of this is for the crate stephylax.
+#![tactic(auto)]
+
 ghost use Rattle.std.specs.Prelude.{◌≡◌};
 ghost use Rattle.units.specs.Refusals.{figure};
 ghost use Rattle.answers.specs.Answers.{clip, clipped, one_refused, one_counted, moment_refused, three_refused};
@@ -20,7 +22,7 @@ use units::{Figure, Refusal};
 
 // stephylax_day, _instant and _written: one number.
 #[repr(C)]
-#[derive(Drop)]
+#[derive(Clone, Copy)]
 pub struct One {
     pub refusal: u64,
     pub figure: i64,
@@ -29,7 +31,7 @@ pub struct One {
 
 // stephylax_checked.
 #[repr(C)]
-#[derive(Drop)]
+#[derive(Clone, Copy)]
 pub struct Examined {
     pub refusal: u64,
     pub figure: i64,
@@ -39,7 +41,7 @@ pub struct Examined {
 
 // stephylax_answer.
 #[repr(C)]
-#[derive(Drop)]
+#[derive(Clone, Copy)]
 pub struct Standing {
     pub refusal: u64,
     pub figure: i64,
@@ -49,7 +51,7 @@ pub struct Standing {
 
 // stephylax_date.
 #[repr(C)]
-#[derive(Drop)]
+#[derive(Clone, Copy)]
 pub struct Moment {
     pub refusal: u64,
     pub figure: i64,
@@ -61,7 +63,7 @@ pub struct Moment {
 
 // stephylax_coordinates and stephylax_place.
 #[repr(C)]
-#[derive(Drop)]
+#[derive(Clone, Copy)]
 pub struct Three {
     pub refusal: u64,
     pub figure: i64,
@@ -72,7 +74,7 @@ pub struct Three {
 
 // stephylax_mount.
 #[repr(C)]
-#[derive(Drop)]
+#[derive(Clone, Copy)]
 pub struct Doubles {
     pub refusal: u64,
     pub first: f64,
@@ -82,7 +84,7 @@ pub struct Doubles {
 
 // stephylax_mended.
 #[repr(C)]
-#[derive(Drop)]
+#[derive(Clone, Copy)]
 pub struct Mended {
     pub refusal: u64,
     pub figure: i64,

@@ -15,7 +15,7 @@ const BASE_2: u64 = BASE * BASE;
 
 const BASE_3: u64 = BASE * BASE_2;
 
-#[derive(Drop)]
+#[derive(Clone, Copy)]
 pub struct Quot {
     pub q: u64,
     pub r: u64,

@@ -1,4 +1,6 @@
 // Calendar dates, noon day numbers and instants: RULES, "Calendar". Every number may be any i64.
+#![tactic(auto)]
+
 ghost use Rattle.std.specs.Prelude.{◌≡◌};
 ghost use Rattle.calendar.specs.Calendar.{day_of_date, date_of_day, instant_of_date, date_of_instant};
 
@@ -60,7 +62,7 @@ const HALF_DAY_MS: u64 = DAY_MS / 2;
 const EPOCH_DAY: u64 = 2451545;
 
 // A date: the year in the astronomical count (year 0 exists), the month from 1, the day from 1.
-#[derive(Drop)]
+#[derive(Clone, Copy)]
 pub struct Date {
     pub year: i64,
     pub month: i64,
@@ -68,33 +70,33 @@ pub struct Date {
 }
 
 // A date as the code counts it: the year plus YEAR_SHIFT, month and day.
-#[derive(Drop)]
+#[derive(Clone, Copy)]
 struct Shifted {
     index: u64,
     month: u64,
     day: u64,
 }
 
-#[derive(Drop)]
+#[derive(Clone, Copy)]
 pub enum DayAnswer {
     Day(i64),
     NoDay(Refusal),
 }
 
-#[derive(Drop)]
+#[derive(Clone, Copy)]
 pub enum DateAnswer {
     On(Date),
     NoDate(Refusal),
 }
 
-#[derive(Drop)]
+#[derive(Clone, Copy)]
 pub enum InstantAnswer {
     At(Instant),
     NoInstant(Refusal),
 }
 
 // A date with the milliseconds from its 0h.
-#[derive(Drop)]
+#[derive(Clone, Copy)]
 pub enum MomentAnswer {
     Moment(Date, i64),
     NoMoment(Refusal),

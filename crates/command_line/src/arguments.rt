@@ -31,14 +31,14 @@ pub fn number_argument(i: usize) -> Read {
 }
 
 // Three numbers in a row.
-#[derive(Drop)]
+#[derive(Clone, Copy)]
 pub struct Triple {
     pub first: i64,
     pub second: i64,
     pub third: i64,
 }
 
-#[derive(Drop)]
+#[derive(Clone, Copy)]
 pub enum Three {
     Numbers(Triple),
     Other,

@@ -49,7 +49,7 @@ const REST_R: u64 = TICK + HALF_TICK;
 const A_BIAS: u64 = A_LIMIT / U;
 
 // specs/machine/Prepared.antt says what the figures are.
-#[derive(Drop)]
+#[derive(Clone, Copy)]
 pub struct Prepared {
     pub t: i64,
     pub h0: u64,
@@ -64,14 +64,14 @@ pub struct Prepared {
 }
 
 // tick q + r.
-#[derive(Drop)]
+#[derive(Clone, Copy)]
 struct ByTick {
     pub q: u64,
     pub r: u64,
 }
 
 // specs/machine/Parity.antt says what a term's value is of these.
-#[derive(Drop)]
+#[derive(Clone, Copy)]
 pub struct ReducedTerm {
     pub a: i64,
     pub v: u64,

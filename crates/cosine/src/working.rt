@@ -46,7 +46,7 @@ pub const ODD_5: u64 = 10 * 11;
 
 pub const ODD_6: u64 = 12 * 13;
 
-#[derive(Drop)]
+#[derive(Clone, Copy)]
 pub struct Trig {
     pub cos: i64,
     pub sin: i64,

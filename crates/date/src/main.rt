@@ -1,5 +1,7 @@
 // Reads lines of standard input, each a date as three numbers, and prints the day number, `refused 1`, or what is wrong with the line
 // (RULES, "Programs").
+#![tactic(auto)]
+
 use date_lines::reader::{Line, start};
 use date_lines::{answer_last, answer_piece};
 use libc::{STDIN_FILENO, STDOUT_FILENO};

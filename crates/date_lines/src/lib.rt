@@ -1,5 +1,7 @@
 // The date program's work: lines of three numbers in, day numbers and refusals out. A line has no limit of length, and the input may be cut
 // anywhere. Both calls are for the program `date`, which lends the room that they ask for.
+#![tactic(auto)]
+
 ghost use Rattle.std.specs.Prelude.{◌+◌, ◌*◌, ◌≤◌, length};
 ghost use Rattle.date_lines.specs.Replies.{reply_limit, Answered, AnsweredLast};
 ghost use Rattle.date_lines.specs.Machine.Writing.{AnsweredByte};
@@ -28,7 +30,7 @@ const FAULT_FEW: u64 = 5;
 const FAULT_MANY: u64 = 6;
 
 // How far the input has been read and answered: the line that is being read, and where in the output the next reply goes.
-#[derive(Drop)]
+#[derive(Clone, Copy)]
 pub struct Progress {
     pub line: Line,
     pub at: usize,

@@ -21,7 +21,7 @@ const DIGIT_LIMIT: u64 = GREATEST_SIZE / 10;
 
 // What a line has said so far: its first fault, or 0; how many of its numbers have ended; the year and the month once they have;
 // and of the number that is being read whether it has a minus, whether it has a digit, and its magnitude.
-#[derive(Drop)]
+#[derive(Clone, Copy)]
 pub struct Line {
     pub fault: u64,
     pub count: u64,
@@ -33,7 +33,7 @@ pub struct Line {
 }
 
 // What a whole line says: its three numbers, or its first fault.
-#[derive(Drop)]
+#[derive(Clone, Copy)]
 pub enum Reading {
     Three(i64, i64, i64),
     Bad(u64),

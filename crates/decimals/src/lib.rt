@@ -1,4 +1,6 @@
 // Whole numbers as decimals: written into a lent buffer, and read. All of this is for crates above, which lend room enough.
+#![tactic(auto)]
+
 pub mod reading;
 pub mod writing;
 

@@ -7,7 +7,7 @@ use crate::{MINUS_SIGN, NINE_DIGIT, ZERO_DIGIT};
 use arith::signed::of_parts;
 
 // What a text says: a whole number below a milliard in size; or another text.
-#[derive(Drop)]
+#[derive(Clone, Copy)]
 pub enum Read {
     Number(i64),
     Other,

@@ -1,4 +1,6 @@
 // Direction and latitude of a vector, in hundredths of an arcsecond, and the angle of a number of units: RULES, "Places".
+#![tactic(auto)]
+
 ghost use Rattle.std.specs.Prelude.{◌≡◌, ◌+◌, ◌-◌, ◌*◌, ◌<◌, ◌≤◌, ◌^◌, pos, nat_abs, ◌+ℤ◌, ◌*ℤ◌};
 ghost use Rattle.units.specs.Units.{turn};
 ghost use Rattle.direction.specs.Angles.{units_angle};

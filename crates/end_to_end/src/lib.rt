@@ -1,1 +1,2 @@
 // Laws only: series stored end to end, told apart and found again.
+#![tactic(auto)]

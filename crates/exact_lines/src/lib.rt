@@ -1,1 +1,2 @@
 // Lines of the vectors of the exact test, proved; it has no functions.
+#![tactic(auto)]

@@ -1,4 +1,6 @@
 // Inner rules as C functions, for tests alone: no library or program holds this crate. Each takes every number; one past its range counts as 0.
+#![tactic(auto)]
+
 mod terms;
 
 ghost use Rattle.std.specs.Prelude.{◌≡◌, ◌≤◌, pos, nat_abs};
@@ -42,7 +44,7 @@ const C_LAST: u64 = C_LIMIT - 1;
 
 // The angle of a term, in 10^-16 radian and less than a turn, and its value in parts.
 #[repr(C)]
-#[derive(Drop)]
+#[derive(Clone, Copy)]
 pub struct TermFigures {
     pub angle: u64,
     pub value: i64,
@@ -51,7 +53,7 @@ pub struct TermFigures {
 // The nutation in longitude and in obliquity and the mean obliquity, in 10^-5 arcsecond, and the angles of the nutation in longitude and of the
 // true obliquity, in 10^-16 radian.
 #[repr(C)]
-#[derive(Drop)]
+#[derive(Clone, Copy)]
 pub struct NutationFigures {
     pub longitude: i64,
     pub obliquity: i64,
@@ -62,7 +64,7 @@ pub struct NutationFigures {
 
 // D, M, M', F and the longitude of the node, in 10^-8 arcsecond.
 #[repr(C)]
-#[derive(Drop)]
+#[derive(Clone, Copy)]
 pub struct ArgumentFigures {
     pub elongation: i64,
     pub sun: i64,
@@ -73,7 +75,7 @@ pub struct ArgumentFigures {
 
 // The components of a vector, in parts.
 #[repr(C)]
-#[derive(Drop)]
+#[derive(Clone, Copy)]
 pub struct VectorFigures {
     pub x: i64,
     pub y: i64,
@@ -82,7 +84,7 @@ pub struct VectorFigures {
 
 // Of a usable sight: 1, Earth's place, the planet's geocentric vector and its length D, in parts. Else nothing but 0.
 #[repr(C)]
-#[derive(Drop)]
+#[derive(Clone, Copy)]
 pub struct SightFigures {
     pub usable: u64,
     pub earth_x: i64,

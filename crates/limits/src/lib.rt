@@ -1,5 +1,7 @@
 // The limits of a series, each judged once: RULES, "Series, as text and packed". The tests take magnitudes and the tally of the part
 // so far, and no tally can make them wrap: a reader of texts may hold any numbers.
+#![tactic(auto)]
+
 pub mod wide;
 
 ghost use Rattle.std.specs.Prelude.{◌≡◌, true, ◌<◌, ◌≤◌, pos};
@@ -14,7 +16,7 @@ use units::{
 };
 
 // A term of a series, in parts: a times the cosine of b + c tau.
-#[derive(Drop)]
+#[derive(Clone, Copy)]
 pub struct Term {
     pub a: i64,
     pub b: u64,
@@ -23,7 +25,7 @@ pub struct Term {
 
 // The part of a series so far: the terms that its counts declare, the total |a| of the block, and the coarseness sum of the
 // coordinate.
-#[derive(Drop)]
+#[derive(Clone, Copy)]
 pub struct Tally {
     pub terms: u64,
     pub total: u64,

@@ -9,7 +9,7 @@ use units::{COARSE_BASE, COARSE_LIMIT, Instant, POWERS, WIDE_BASE, WIDE_TOTAL, n
 
 // The blocks so far: the sum of the coordinate by the wide rule, and whether they all keep to that rule. After one that does not, the sum is
 // of no use.
-#[derive(Drop)]
+#[derive(Clone, Copy)]
 pub struct Wide {
     pub sum: u64,
     pub good: bool,

@@ -1,4 +1,6 @@
 // Thirteen runs of the program `list` in one, for its stored cases: each 9 arguments are a run.
+#![tactic(auto)]
+
 use list_lines::list_of_arguments;
 
 fn main() {

@@ -2,6 +2,8 @@
 //     list PLANET EARTH YEAR MONTH DAY HOUR MINUTE MINUTES KEEP-OUT
 // PLANET and EARTH are files of packed series of up to 24,576 bytes each, the date and time are TD, the keep-out is in arcminutes.
 // A run is one line: its first and last minute, then their clock times. A refusal is its number and its words.
+#![tactic(auto)]
+
 mod answer;
 mod lines;
 
@@ -20,7 +22,7 @@ const FILE_MOST: usize = 24576;
 const ROOM: usize = FILE_MOST + 1;
 
 // What the arguments ask for: year, month and day; hour, minute, and how many minutes; the keep-out.
-#[derive(Drop)]
+#[derive(Clone, Copy)]
 enum Asked {
     For(Triple, Triple, i64),
     Unclear,

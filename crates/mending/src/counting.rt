@@ -6,14 +6,14 @@ ghost use Rattle.mending.specs.Machine.Passes.{no_run, Counted, Plain, next_byte
 use crate::{is_blank, next_byte};
 
 // The length of the mended text, and how many changes it takes.
-#[derive(Drop)]
+#[derive(Clone, Copy)]
 pub struct Counts {
     pub length: usize,
     pub changes: usize,
 }
 
 // The counts before a byte. begun: its line holds a byte before from that stays. The blanks from from on are held back; tabs of them are tabs.
-#[derive(Drop)]
+#[derive(Clone, Copy)]
 pub struct Counting {
     pub begun: bool,
     pub from: usize,

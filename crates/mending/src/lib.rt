@@ -1,6 +1,8 @@
 // Mending a damaged series text (RULES, "Mending"): the clean text and the list of changes, one pass that counts and one that writes.
 // Blanks are dropped before a line feed and stay before any other byte, tabs as spaces, so both passes hold a run of blanks back until they
 // know what follows it.
+#![tactic(auto)]
+
 mod counting;
 mod writing;
 
@@ -19,7 +21,7 @@ use writing::write;
 const CHANGE_NUMBERS: usize = 2;
 
 // A text that was mended: its length, how many changes it took, and what the reader of texts says of it with room enough.
-#[derive(Drop)]
+#[derive(Clone, Copy)]
 pub struct Clean {
     pub length: usize,
     pub changes: usize,
@@ -27,7 +29,7 @@ pub struct Clean {
 }
 
 // What mending answers: refused only where a buffer is too short, with the length of the text or the number of changes.
-#[derive(Drop)]
+#[derive(Clone, Copy)]
 pub enum Mending {
     Mended(Clean),
     Unmended(Refusal),

@@ -13,14 +13,14 @@ const DROPPED: u64 = 0;
 const SPACED: u64 = 1;
 
 // Where the next byte goes in the text, and the next number in the list.
-#[derive(Drop)]
+#[derive(Clone, Copy)]
 pub struct Place {
     pub at: usize,
     pub slot: usize,
 }
 
 // What is written before a byte. begun: its line holds a byte before from that stays. The blanks from from on are held back.
-#[derive(Drop)]
+#[derive(Clone, Copy)]
 pub struct Writing {
     pub begun: bool,
     pub from: usize,

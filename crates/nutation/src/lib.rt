@@ -1,4 +1,6 @@
 // Nutation and obliquity at an instant: RULES, "Places".
+#![tactic(auto)]
+
 pub mod moon;
 mod polynomial;
 pub mod rows;
@@ -25,7 +27,7 @@ const SUM_TURN: u64 = 360 * 3600 * 100000;
 const OBLIQUITY: [i64; 4] = [8438144800, -46815000, -5900, 181300];
 
 // D, M, M', F and the longitude of the node, in 10^-8 arcsecond.
-#[derive(Drop)]
+#[derive(Clone, Copy)]
 pub struct Arguments {
     pub elongation: i64,
     pub sun: i64,
@@ -35,14 +37,14 @@ pub struct Arguments {
 }
 
 // The nutation in longitude and in obliquity, in 10^-5 arcsecond.
-#[derive(Drop)]
+#[derive(Clone, Copy)]
 pub struct Nutation {
     pub longitude: i64,
     pub obliquity: i64,
 }
 
 // The angle of the nutation in longitude and that of the true obliquity, in 10^-16 radian.
-#[derive(Drop)]
+#[derive(Clone, Copy)]
 pub struct Angles {
     pub nutation: i64,
     pub obliquity: i64,

@@ -1,12 +1,14 @@
 // The table of nutation, whose figures are those of the IAU 1980 series: RULES, "Places". All of this is for the crate `nutation`.
 // It stands in four parts: one table of all rows takes far longer to prove.
+#![tactic(auto)]
+
 ghost use Rattle.std.specs.Prelude.{◌≡◌, ◌-◌, ◌*◌, ◌<◌, get_or, take, drop};
 ghost use Rattle.nutation_table.specs.Table.{rows, no_row};
 ghost use Rattle.nutation_table.specs.Machine.Small.{row_count, part_size, Small};
 
 // A row: the figure of the longitude in 10^-4 arcsecond and its rate in 10^-5 a century, the same of the obliquity,
 // and the multipliers of D, M, M', F and the node.
-#[derive(Drop)]
+#[derive(Clone, Copy)]
 pub struct Row(
     pub i64,
     pub i64,

@@ -1,4 +1,6 @@
 // The program `pack` on a published file that takes three reads, for its stored case: the first terms of Venus, with some blocks left out.
+#![tactic(auto)]
+
 use packing::pack_input;
 
 fn main() {

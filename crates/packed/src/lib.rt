@@ -1,4 +1,6 @@
 // Packed series: RULES, "Series, as text and packed".
+#![tactic(auto)]
+
 pub mod table;
 mod terms;
 mod wide;
@@ -10,14 +12,14 @@ use table::{TABLE_ROWS, Table, unpack};
 use units::Refusal;
 
 // What the walk over a packed series tells of it: the number of its terms, and whether it is good for the wide range.
-#[derive(Drop)]
+#[derive(Clone, Copy)]
 pub struct Content {
     pub terms: u64,
     pub wide: bool,
 }
 
 // What checking a packed series answers.
-#[derive(Drop)]
+#[derive(Clone, Copy)]
 pub enum Checked {
     Series(Content),
     NoSeries(Refusal),

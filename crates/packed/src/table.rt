@@ -26,7 +26,7 @@ pub const TABLE_ROWS: usize = TERM_ROWS + END_ROWS;
 pub type Table = [[u64; 3]; TABLE_ROWS];
 
 // The offset past what was read and the tally with it; or a refusal.
-#[derive(Drop)]
+#[derive(Clone, Copy)]
 enum Walk {
     Moved(usize, Tally),
     Stopped(Refusal),

@@ -13,7 +13,7 @@ use packed_numbers::{Number, magnitude, number_at};
 use units::Refusal;
 
 // A term as it is packed, a and c folded, and the offset past it; or a refusal.
-#[derive(Drop)]
+#[derive(Clone, Copy)]
 pub enum TermRead {
     Found(u64, u64, u64, usize),
     Wrong(Refusal),

@@ -1,4 +1,6 @@
 // Packed numbers (RULES, "Series, as text and packed"): read, written, folded and unfolded. For the crates above.
+#![tactic(auto)]
+
 pub mod quick;
 
 ghost use Rattle.std.specs.Prelude.{◌≡◌, nat_abs, length, ◌+◌, ◌<◌, ◌≤◌};
@@ -17,7 +19,7 @@ const GROUP_LIMIT: u64 = 9;
 const EARLIER_LIMIT: u64 = GROUP_LIMIT - 1;
 
 // What stands at an offset: the value and the offset past its last byte, or a refusal.
-#[derive(Drop)]
+#[derive(Clone, Copy)]
 pub enum Number {
     Value(u64, usize),
     Bad(Refusal),
@@ -87,7 +89,7 @@ pub fn magnitude(v: u64) -> u64
 }
 
 // Where a number was put: the offset past it, or how many bytes it needs.
-#[derive(Drop)]
+#[derive(Clone, Copy)]
 pub enum Put {
     Next(usize),
     NoRoom(usize),

@@ -7,7 +7,7 @@ ghost use Rattle.packed_numbers.specs.Machine.Usual.{usual_groups, tops, Begun, 
 use crate::GROUP;
 
 // What the bytes of the first groups come to, with their top bits; or that a group is the last.
-#[derive(Drop)]
+#[derive(Clone, Copy)]
 struct Groups {
     sum: u64,
     usual: bool,
@@ -19,7 +19,7 @@ const NO_GROUPS: Groups = Groups {
 };
 
 // A number and the offset past it; or that it has another length or a last group of 0.
-#[derive(Drop)]
+#[derive(Clone, Copy)]
 struct Quick {
     v: u64,
     to: usize,
@@ -33,7 +33,7 @@ const NO_NUMBER: Quick = Quick {
 };
 
 // A term as it is packed and the offset past it; or that one of its numbers is not read so, or too few bytes are left.
-#[derive(Drop)]
+#[derive(Clone, Copy)]
 pub struct QuickTerm {
     pub a: u64,
     pub b: u64,

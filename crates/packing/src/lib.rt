@@ -1,5 +1,7 @@
 // Reads a series on standard input, as a text or as a published file, and writes its packed form on standard output; or writes on standard
 // error, in one line, why it is no series: the number of the refusal, what is wrong, and where. For the program pack and its further cases.
+#![tactic(auto)]
+
 use command_line::files::{PACKED_ROOM, write_first};
 use command_line::words::write_refusal;
 use io::write_all;

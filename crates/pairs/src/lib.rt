@@ -1,4 +1,6 @@
 // Two angles at a time, in step: neither lane waits for the other, so the processor works both at once. For the crates above.
+#![tactic(auto)]
+
 ghost use Rattle.std.specs.Prelude.{◌≡◌, ◌*◌, ◌<◌, ◌≤◌, pos, nat_abs, ◌+ℤ◌, ◌-ℤ◌, ◌*ℤ◌};
 ghost use Rattle.integers.specs.Division.{rounded};
 ghost use Rattle.units.specs.Units.{U, a_limit};
@@ -14,7 +16,7 @@ use cosine::working::{
 use units::U;
 
 // A number for each lane.
-#[derive(Drop)]
+#[derive(Clone, Copy)]
 pub struct Pair {
     pub one: u64,
     pub two: u64,

@@ -3,6 +3,8 @@
 // random from term to term. A table has one place more than a piece has terms: a term of amplitude 0 stands past the last one, for a
 // last pair to end with. Of a term, ea and ev (at an even quarter) or oa and ov (at an odd one) hold the a and the v of
 // cosine/specs/machine/Parity.antt. For the crates above.
+#![tactic(auto)]
+
 ghost use Rattle.std.specs.Prelude.{◌≡◌, ◌+◌, ◌-◌, ◌≤◌, ◌<◌};
 ghost use Rattle.cosine.specs.Machine.Parity.{even_value, odd_value};
 ghost use Rattle.cosine.specs.Machine.Prepared.{Ready};
@@ -25,7 +27,7 @@ const PIECE_LIMIT: usize = 128;
 const ROOM: usize = PIECE_LIMIT + 1;
 
 // How many terms each table has.
-#[derive(Drop)]
+#[derive(Clone, Copy)]
 pub struct Counts {
     pub evens: usize,
     pub odds: usize,

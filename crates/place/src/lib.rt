@@ -1,4 +1,6 @@
 // The apparent equatorial place of a planet from two packed series, and the mount's answer: RULES, "Places".
+#![tactic(auto)]
+
 ghost use Rattle.std.specs.Prelude.{◌≡◌};
 ghost use Rattle.place.specs.Place.{place_answer};
 ghost use Rattle.place.specs.Mount.{mount_answer};
@@ -15,21 +17,21 @@ use rectangular::Vector;
 use units::{Instant, Refusal};
 
 // The geocentric vector of a planet when the light left, and D when it arrives, in parts.
-#[derive(Drop)]
+#[derive(Clone, Copy)]
 pub struct Geocentric {
     pub vector: Vector,
     pub distance: u64,
 }
 
 // What is seen at t: the geocentric vector at t less the light time, with D at t; or the refusal.
-#[derive(Drop)]
+#[derive(Clone, Copy)]
 pub enum Sighting {
     Seen(Geocentric),
     NoSight(Refusal),
 }
 
 // The apparent equatorial vector, in parts, with the nutation in longitude and the true obliquity as angles, in 10^-16 radian.
-#[derive(Drop)]
+#[derive(Clone, Copy)]
 pub struct Apparent {
     pub vector: Vector,
     pub nutation: i64,
@@ -40,7 +42,7 @@ pub struct Apparent {
 pub const HUNDREDTHS_PER_DEGREE: u64 = 360000;
 
 // Right ascension and declination in hundredths of an arcsecond, the distance in parts.
-#[derive(Drop)]
+#[derive(Clone, Copy)]
 pub struct Equatorial {
     pub right_ascension: i64,
     pub declination: i64,
@@ -48,14 +50,14 @@ pub struct Equatorial {
 }
 
 // What `apparent_place` answers.
-#[derive(Drop)]
+#[derive(Clone, Copy)]
 pub enum PlaceAnswer {
     Place(Equatorial),
     NoPlace(Refusal),
 }
 
 // The mount's figures: degrees, degrees and AU.
-#[derive(Drop)]
+#[derive(Clone, Copy)]
 pub struct MountPlace {
     pub right_ascension: f64,
     pub declination: f64,
@@ -63,7 +65,7 @@ pub struct MountPlace {
 }
 
 // What `mount_place` answers: the three figures, or the number of the refusal.
-#[derive(Drop)]
+#[derive(Clone, Copy)]
 pub enum Mount {
     At(MountPlace),
     Refused(u64),

@@ -1,4 +1,6 @@
 // Nineteen runs of the program `position` in one, for its stored cases: each 8 arguments are a run.
+#![tactic(auto)]
+
 use position_lines::place_of_arguments;
 
 fn main() {

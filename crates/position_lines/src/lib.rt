@@ -2,6 +2,8 @@
 //     position PLANET EARTH YEAR MONTH DAY HOUR MINUTE SECOND
 // PLANET and EARTH are files of packed series, the time is TD. A line each for right ascension, declination and distance, in degrees or AU
 // and in the library's own whole numbers; or a refusal, its number, words and figure.
+#![tactic(auto)]
+
 mod answer;
 mod lines;
 
@@ -15,7 +17,7 @@ use command_line::files::{Both, PACKED_ROOM, first_bytes, read_both};
 use libc::STDOUT_FILENO;
 
 // What the arguments ask for: year, month and day, and hour, minute and second.
-#[derive(Drop)]
+#[derive(Clone, Copy)]
 enum Asked {
     For(Triple, Triple),
     Unclear,

@@ -1,4 +1,6 @@
 // The printer: from a packed series to its plain text. RULES, "Series, as text and packed".
+#![tactic(auto)]
+
 mod blocks;
 mod digits;
 mod lines;
@@ -27,7 +29,7 @@ pub const TEXT_LIMIT: usize = (BLOCK_COUNT * COUNT_LINE_LIMIT
     + SERIES_LIMIT * TERM_LINE_LIMIT) as usize;
 
 // What printing answers: the length of the text, or the refusal.
-#[derive(Drop)]
+#[derive(Clone, Copy)]
 pub enum Printed {
     Length(usize),
     NoText(Refusal),

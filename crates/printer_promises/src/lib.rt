@@ -1,1 +1,2 @@
 // Laws only: printed texts read again, plain texts printed again, and how long a printed text is.
+#![tactic(auto)]

@@ -1,5 +1,7 @@
 // The reader of published VSOP87D files (RULES, "Published files"): a file comes in pieces, and the packed form of its series is written record
 // by record into one buffer that each call lends.
+#![tactic(auto)]
+
 mod rows;
 mod steps;
 
@@ -15,7 +17,7 @@ use series_lines::{Outcome, Reader};
 // What a reader has of the file so far: the counts and terms that have come, as the reader of a series text holds them; the record as far as it is
 // read; and the running number of the record before it in its block, or 0.
 #[repr(C)]
-#[derive(Drop)]
+#[derive(Clone, Copy)]
 pub struct Published {
     pub reader: Reader,
     pub row: Row,

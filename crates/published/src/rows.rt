@@ -9,7 +9,7 @@ use series_lines::steps::in_line;
 use series_lines::{LAST_OFFSET, READING};
 
 // The reader after some bytes, and the index of the next one.
-#[derive(Drop)]
+#[derive(Clone, Copy)]
 pub struct Taken {
     pub published: Published,
     pub next: usize,

@@ -13,7 +13,7 @@ use series_lines::LAST_OFFSET;
 const NO_END: u64 = LAST_OFFSET as u64;
 
 // The row after some bytes, and the index of the next one.
-#[derive(Drop)]
+#[derive(Clone, Copy)]
 pub struct Skipped {
     pub row: Row,
     pub next: usize,

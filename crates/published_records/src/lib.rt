@@ -1,4 +1,6 @@
 // One record of a published VSOP87D file, a byte at a time (RULES, "Published files"). For the crate published.
+#![tactic(auto)]
+
 pub mod columns;
 mod figures;
 mod fillers;
@@ -11,7 +13,7 @@ use series_lines::Line;
 
 // What stands in a column: any byte, a single digit, a digit of a count or of a decimal's whole part (with so many such columns after it), a
 // decimal's point, a digit after it, or a space.
-#[derive(Drop)]
+#[derive(Clone, Copy)]
 pub enum Column {
     Filler,
     Digit,
@@ -25,7 +27,7 @@ pub enum Column {
 // A record as far as it is read: the column of the next byte, the figure so far with those before it as a line of a series text has them,
 // the digits of a heading, and a term's running number.
 #[repr(C)]
-#[derive(Drop)]
+#[derive(Clone, Copy)]
 pub struct Row {
     pub column: u64,
     pub line: Line,

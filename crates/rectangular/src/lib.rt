@@ -1,4 +1,6 @@
 // Rectangular places from L, B and R, vectors, and a planet seen from Earth: RULES, "Places".
+#![tactic(auto)]
+
 ghost use Rattle.std.specs.Prelude.{◌≡◌, ◌<◌, ◌^◌, pos, nat_abs};
 ghost use Rattle.rectangular.specs.Rectangular.{rectangular, place as place_of};
 ghost use Rattle.rectangular.specs.Vectors.{geocentric as geocentric_of, sun as sun_of, length as length_of, unit as unit_of};
@@ -17,7 +19,7 @@ use units::{Coordinates, U};
 const UNIT: i64 = U as i64;
 
 // Three components: in parts for a place, over U for a unit vector.
-#[derive(Drop)]
+#[derive(Clone, Copy)]
 pub struct Vector {
     pub x: i64,
     pub y: i64,
@@ -25,14 +27,14 @@ pub struct Vector {
 }
 
 // The frame that a place is in: that of the theory whose series are summed, or that of star catalogues.
-#[derive(Drop)]
+#[derive(Clone, Copy)]
 pub enum Frame {
     Theory,
     Catalogues,
 }
 
 // What is seen of a planet at one instant, in one frame: Earth's own place, the planet's geocentric vector and its length D, all in parts.
-#[derive(Drop)]
+#[derive(Clone, Copy)]
 pub struct View {
     pub earth: Vector,
     pub vector: Vector,
@@ -40,7 +42,7 @@ pub struct View {
 }
 
 // A planet and Earth at one instant: their places are usable, or not.
-#[derive(Drop)]
+#[derive(Clone, Copy)]
 pub enum Sight {
     Usable(View),
     Unusable,

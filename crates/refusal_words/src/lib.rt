@@ -1,5 +1,7 @@
 // Refusals in words, written into a lent buffer: the one table that all programs print from. For command_line, position_lines and
 // list_lines, which lend room enough.
+#![tactic(auto)]
+
 ghost use Rattle.std.specs.Prelude.{◌+◌, ◌≤◌, length};
 ghost use Rattle.units.specs.Refusals.{whole};
 ghost use Rattle.decimals.specs.Decimals.{most_digits, signed_decimal};

@@ -1,5 +1,7 @@
 // The length of a vector rounded down: the floor root of the sum of three squares, which two words of 48 bits hold. For the crates above.
 // The root is found bit by bit from the top: RULES, "The floor root bit by bit". What holds of every bit is said in specs/Bits.antt.
+#![tactic(auto)]
+
 ghost use Rattle.std.specs.Prelude.{◌≡◌, ◌+◌, ◌*◌, ◌/◌, ◌%◌, ◌<◌, ◌^◌, nat_abs, ◌+ℤ◌, ◌*ℤ◌};
 ghost use Rattle.integers.specs.Root.{root};
 ghost use Rattle.roots.specs.Bits.{Worked, read};
@@ -18,14 +20,14 @@ const WORD_BITS: u32 = 48;
 const PAIRS: u64 = 24;
 
 // A number in two words.
-#[derive(Drop)]
+#[derive(Clone, Copy)]
 struct Words {
     high: u64,
     low: u64,
 }
 
 // The root of a number as far as it has been read, and the rest: what the number has above the root's square.
-#[derive(Drop)]
+#[derive(Clone, Copy)]
 struct Working {
     root: u64,
     rest: u64,

@@ -1,4 +1,6 @@
 // The runs of listed minutes of a window, from a byte for each minute. For the crates above.
+#![tactic(auto)]
+
 ghost use Rattle.std.specs.Prelude.{◌≡◌, ◌+◌, ◌≤◌, length, drop};
 ghost use Rattle.std.proofs.lemmas.List.Edits.{sets};
 ghost use Rattle.runs.specs.Runs.{first_listed, flags, run_ends, run_numbers, most_minutes};

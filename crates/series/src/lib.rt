@@ -1,4 +1,6 @@
 // L, B and R of a packed series at an instant: RULES, "Working cosine and sums".
+#![tactic(auto)]
+
 ghost use Rattle.series.specs.Call.{CoordinatesPromised};
 
 mod sums;
@@ -9,7 +11,7 @@ use limits::wide::may_ask;
 use units::{Coordinates, Instant, Refusal, in_limit};
 
 // What `coordinates_at` answers: L, B and R in parts, or the refusal.
-#[derive(Drop)]
+#[derive(Clone, Copy)]
 pub enum CoordinatesAnswer {
     At(Coordinates),
     NoCoordinates(Refusal),

@@ -1,5 +1,7 @@
 // What the readers of series texts share: a line of a text a byte at a time, runs of digits after a point, the judgement of its numbers, the
 // writer of its packed bytes, and what a reader holds.
+#![tactic(auto)]
+
 pub mod judge;
 pub mod lexer;
 pub mod parts;
@@ -22,7 +24,7 @@ pub const LAST_OFFSET: usize = 18446744073709551615;
 // A line as far as it is read: where the next byte stands (specs/Lexer.antt), how many decimals stand before this one, the decimal or
 // count so far, with 1 for a minus, and the two decimals before it, in parts.
 #[repr(C)]
-#[derive(Drop)]
+#[derive(Clone, Copy)]
 pub struct Line {
     pub spot: u64,
     pub field: u64,
@@ -37,7 +39,7 @@ pub struct Line {
 // What a reader has of the text so far: the line, the bytes read and written, the counts that have come, the terms that are left of the
 // block, the tally so far (limits::Tally), and the status with its place.
 #[repr(C)]
-#[derive(Drop)]
+#[derive(Clone, Copy)]
 pub struct Reader {
     pub line: Line,
     pub at: usize,
@@ -53,7 +55,7 @@ pub struct Reader {
 
 // What stands after a call: more may come, and so many bytes are packed; the text is accepted, and its packed form has so many bytes; or
 // it is refused.
-#[derive(Drop)]
+#[derive(Clone, Copy)]
 pub enum Outcome {
     More(usize),
     Accepted(usize),

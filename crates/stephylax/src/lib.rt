@@ -1,5 +1,7 @@
 // The C interface: one function for each public call, with its name and its layout of `include/stephylax.h`, which explains each. A slice
 // crosses as a pointer and a length. An answer is the library's, as numbers: answers/specs/Answers.antt says which.
+#![tactic(auto)]
+
 ghost use Rattle.std.specs.Prelude.{◌≡◌};
 ghost use Rattle.calendar.specs.Calendar.{day_of_date, date_of_day, instant_of_date, date_of_instant};
 ghost use Rattle.mending.specs.Answer.{mending, mending_out, mending_list};

@@ -1,4 +1,6 @@
 // The list of minutes when a planet stands too near the Sun: RULES, "Sun list".
+#![tactic(auto)]
+
 ghost use Rattle.sunlist.specs.Call.{SunListPromised};
 
 mod list;
@@ -12,7 +14,7 @@ use units::{Instant, Refusal, in_limit};
 
 // The figures by which a usable minute is decided: the squared separation of the two unit vectors and the threshold, both in 1/U^2;
 // D, and both R (planet, earth), in parts.
-#[derive(Drop)]
+#[derive(Clone, Copy)]
 pub struct Figures {
     pub separation: i64,
     pub threshold: i64,
@@ -22,7 +24,7 @@ pub struct Figures {
 }
 
 // A minute is listed, or clear of the Sun, or its places are not usable.
-#[derive(Drop)]
+#[derive(Clone, Copy)]
 pub enum Decision {
     Listed(Figures),
     Clear(Figures),
@@ -30,7 +32,7 @@ pub enum Decision {
 }
 
 // What `sun_list` answers: how many numbers it has written, two for each run, or the refusal.
-#[derive(Drop)]
+#[derive(Clone, Copy)]
 pub enum ListAnswer {
     Runs(u64),
     NoList(Refusal),

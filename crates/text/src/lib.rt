@@ -1,5 +1,7 @@
 // The reader of series texts (RULES, "Series, as text and packed"): a text comes in pieces, and its packed form is written line by line into
 // one buffer that each call lends.
+#![tactic(auto)]
+
 mod parts;
 mod steps;
 

@@ -8,7 +8,7 @@ use series_lines::steps::in_line;
 use series_lines::{LAST_OFFSET, READING, Reader};
 
 // The reader after some bytes, and the index of the next one.
-#[derive(Drop)]
+#[derive(Clone, Copy)]
 pub struct Taken {
     pub reader: Reader,
     pub next: usize,

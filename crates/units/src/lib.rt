@@ -1,4 +1,6 @@
 // What every crate above shares: the constants of the rules, the instant, the coordinates of a body, and the refusals.
+#![tactic(auto)]
+
 ghost use Rattle.std.specs.Prelude.{◌≡◌};
 ghost use Rattle.units.specs.Units.{in_limit, near as near_of};
 ghost use Rattle.units.specs.Refusals.{number, figure, of_number, whole};
@@ -83,7 +85,7 @@ pub const WIDE_TAU: u64 = 4;
 pub const WIDE_BASE: u64 = 342 * U;
 
 // An instant of TD: whole milliseconds from 2000-01-01 12h, negative before.
-#[derive(Drop)]
+#[derive(Clone, Copy)]
 pub struct Instant {
     pub ms: i64,
 }
@@ -118,7 +120,7 @@ pub fn near(t: Instant) -> bool
 }
 
 // L, B and R of a body at an instant, in parts (10^-11 radian or AU). A longitude keeps its whole turns.
-#[derive(Drop)]
+#[derive(Clone, Copy)]
 pub struct Coordinates {
     pub longitude: i64,
     pub latitude: i64,
@@ -131,7 +133,7 @@ pub struct Coordinates {
 // - its words, in `words` and `put_words` of the crate refusal_words;
 // - a line in the table of include/stephylax.h, and its name in the enum there;
 // - its line in the host's table, host/src/refusal.rs, its line in the help, and its name and words in python/stephylax.py.
-#[derive(Drop)]
+#[derive(Clone, Copy)]
 pub enum Refusal {
     // 1: the first field of a date that does not exist, 1 year, 2 month, 3 day, 4 ms; 5 a day number.
     NoSuchDate(u64),
@@ -197,7 +199,7 @@ pub const BAD_NUMBER: u64 = 14;
 pub const TOO_FAR: u64 = 17;
 
 // What comes with a refusal: a count (of bytes, of fields, of minutes), or an instant.
-#[derive(Drop)]
+#[derive(Clone, Copy)]
 pub enum Figure {
     Count(u64),
     Time(Instant),

@@ -1,5 +1,7 @@
 // Reads a packed series on standard input and writes its plain text on standard output; or writes on standard error, in one line, why it is
 // no series: the number of the refusal, what is wrong, and where. For the program unpack and its further case.
+#![tactic(auto)]
+
 ghost use Rattle.unpacking.specs.Input.{Roomy, AnswersAny};
 
 use command_line::files::{PACKED_ROOM, write_first};
