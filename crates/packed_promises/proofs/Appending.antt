@@ -35,6 +35,7 @@ then : {A B : Type 0} {y : List ℕ} (p q : Read A) (f : A → ℕ → List ℕ 
     → ((v : A) (to : ℕ) (rest : List ℕ) → Longer y (f v to rest) (f v to (rest ++ y))) → Longer y (next p f) (next q f)
 unfolding next
 then (got v to rest) (got v' to' rest') f same k = k v to rest
+then (got v to rest) (bad q') f h k = elim h [ ]
 then (bad (EndedEarly n)) r f early k = early
 then (bad q) (bad q') f no_more k = no_more
 
@@ -99,6 +100,7 @@ longer_got {y = y} {v = v} {to = to} {rest = rest} (got u i l) (got u' i' l') sa
     let b : i ≡ to = cc in
     let c : l ≡ rest = cc in
     rw (a, b, c)
+longer_got (got u i l) (bad q') h e = elim h [ ]
 longer_got (bad (EndedEarly n)) r early e = let z : ◌≡◌ {A = ℕ} 0 1 = cc in absurd (omega arith)
 longer_got (bad q) (bad q') no_more e = let z : ◌≡◌ {A = ℕ} 0 1 = cc in absurd (omega arith)
 
@@ -110,6 +112,7 @@ series_append at x y = longer_got _ _ (blocks_longer y block_count 0 no_tally at
 
 longer_bad : {A : Type 0} {y : List ℕ} (p q : Read A) (r : Refusal) → ((n : ℕ) → r ≡ EndedEarly n → ⊥) → Longer y p q → p ≡ bad r → q ≡ bad r
 longer_bad (got u i l) (got u' i' l') r h same e = let z : ◌≡◌ {A = ℕ} 0 1 = cc in absurd (omega arith)
+longer_bad (got u i l) (bad q') r h k e = elim k [ ]
 longer_bad (bad (EndedEarly n)) q r h early e = let p : r ≡ EndedEarly n = cc in absurd (h n p)
 longer_bad (bad q) (bad q') r h no_more e = e
 
