@@ -6,7 +6,7 @@ use Prim.Native.Nat.{ℕ, zero, suc, ◌+◌, ◌*◌, ◌≤◌}
 use mathlib.Core.Bool.{true}
 use lib.Dec.{T, leb, leb→le, le→leb}
 use lib.IntN.{ℤ, pos, nat_abs, ◌+ℤ◌, ◌-ℤ◌, ◌*ℤ◌, neg_ℤ}
-use lib.Signed.{◌≤ℤ◌, ◌<ℤ◌, ≤ℤ_refl}
+use lib.Signed.{≤ℤ_refl}
 use Rattle.integers.specs.Order.{◌≼◌, ◌≺◌}
 use Rattle.integers.proofs.Pairs.{diff-of-≤ℤ, <ℤ-suc, suc-<ℤ, nonneg, nonneg-+, nonneg-*, nonneg_sq}
 use Rattle.integers.proofs.Ring.{E, v, #, ◌⊕◌, ◌⊖◌, ◌⊗◌, ⊝, ring, den, nth, zer, nonn, norm, cert}

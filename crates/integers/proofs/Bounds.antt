@@ -1,7 +1,7 @@
 -- Two-sided bounds, |a| at most A, and how they add and multiply. Assumes nothing.
 use mathlib.Core.Path.{◌≡◌, subst₂}
 use mathlib.Core.List.{[], ◌∷◌}
-use Prim.Native.Nat.{ℕ, ◌+◌, ◌*◌, ◌-◌, ◌<◌}
+use Prim.Native.Nat.{ℕ, ◌<◌}
 use lib.IntN.{ℤ, pos, neg_ℤ, ◌+ℤ◌, ◌-ℤ◌, ◌*ℤ◌}
 use Rattle.integers.specs.Order.{◌≼◌, ◌≺◌}
 use Rattle.integers.proofs.Pairs.{nonneg}

@@ -6,7 +6,6 @@ use Prim.Native.Nat.{ℕ, zero, suc, ◌+◌, ◌*◌, ◌-◌, ◌/◌, ◌%◌
 use native.Mathlib.Omega.{arith, by_contra, both_ways}
 use native.Mathlib.Nat.{div-add-mod, mod-lt, mul-le-mul_left}
 use lib.IntN.{ℤ, pos, negsuc, neg_ℤ, nat_abs, ◌+ℤ◌, ◌*ℤ◌}
-use lib.Signed.{◌<ℤ◌}
 use Rattle.integers.proofs.Pairs.{nonneg, up, dn, int, nat, ◌+ᵢ◌, ◌*ᵢ◌, negᵢ, same, same⁻¹, less, less⁻¹, <ℤ-suc, suc-<ℤ}
 use Rattle.integers.specs.Order.{◌≼◌, ◌≺◌}
 use Rattle.integers.specs.Division.{floor, rounded, modulo}

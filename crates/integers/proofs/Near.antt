@@ -1,7 +1,6 @@
 -- Fractions a/A and b/B that differ by at most f/g, by cross products. Assumes nothing.
 use mathlib.Core.Path.{◌≡◌, subst}
 use mathlib.Core.List.{[], ◌∷◌}
-use Prim.Native.Nat.{◌*◌, ◌+◌}
 use lib.IntN.{ℤ, pos, ◌+ℤ◌, ◌-ℤ◌, ◌*ℤ◌, neg_ℤ}
 use Rattle.integers.specs.Order.{◌≼◌, ◌≺◌}
 use Rattle.integers.proofs.Auto.{cert!, polys, gap, ◌⊞◌, ◌⊛◌}

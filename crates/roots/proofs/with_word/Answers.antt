@@ -1,5 +1,5 @@
 -- `roots::with_word` meets its contract. Assumes nothing.
-use Prim.Native.Nat.{◌+◌, ◌-◌, ◌*◌, ◌<◌}
+use Prim.Native.Nat.{◌+◌, ◌*◌, ◌<◌}
 use native.Mathlib.Omega.{arith}
 use Rattle.roots.specs.Bits.{read}
 use Rattle.roots.specs.Machine.Word.{word}

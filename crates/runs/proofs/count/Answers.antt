@@ -1,5 +1,4 @@
 -- `runs::count` meets its contract: what is counted and what is left are all. Assumes nothing.
-use Prim.Native.Nat.{◌-◌}
 use native.Mathlib.Omega.{arith}
 use Rattle.runs.proofs.WindowLoops.{counted_none, counted_more, counted_all}
 use Rattle.runs.proofs.count.Goals as goal

@@ -1,5 +1,4 @@
 -- `runs::write` meets its contract: what is written and what is left give the whole. Assumes nothing.
-use Prim.Native.Nat.{◌-◌}
 use native.Mathlib.Omega.{arith}
 use borrow.Author.Rules.{rules}
 use Rattle.runs.proofs.WindowLoops.{written_none, written_room, written_more, written_all}
