@@ -19,7 +19,8 @@ pub returns-then-b-gt-NINE_DIGIT : goal.returns-then-b-gt-NINE_DIGIT
 returns-then-b-gt-NINE_DIGIT c = (digits_high _ _ _ _ c.loop-i.invariant.2 c.loop-i-test.true c.if-b-lt-ZERO_DIGIT.false c.if-b-gt-NINE_DIGIT.true, omega arith)
 
 pub returns-then-value : goal.returns-then-value
-returns-then-value c = (digits_full _ _ _ _ c.loop-i.invariant.2 c.loop-i-test.true c.if-b-lt-ZERO_DIGIT.false c.if-b-gt-NINE_DIGIT.false c.if-value.true, omega arith)
+returns-then-value c =
+    (digits_full _ _ _ _ c.loop-i.invariant.2 c.loop-i-test.true c.if-b-lt-ZERO_DIGIT.false c.if-b-gt-NINE_DIGIT.false c.if-value.true, omega arith)
 
 pub overflow_mul-value : goal.overflow_mul-value
 overflow_mul-value c = omega arith

@@ -13,25 +13,32 @@ nonzero_div-n c = omega (arith, c.requires.0, one-le-pow c.args.places 10 (omega
 
 pub put_decimal-point-requires : goal.put_decimal-point-requires
 put_decimal-point-requires c =
-    let signed : c.put_sign-whole.result + (most_digits + (1 + c.args.places)) ≤ length c.args.out.now = after_sign c.args.below _ _ _ _ c.put_sign-whole.ensures.0 (omega (arith, c.requires.1)) in
+    let signed : c.put_sign-whole.result + (most_digits + (1 + c.args.places)) ≤ length c.args.out.now =
+    after_sign c.args.below _ _ _ _ c.put_sign-whole.ensures.0 (omega (arith, c.requires.1)) in
     omega (arith, signed, c.put_sign-whole.auto.out)
 
 pub bounds-out-point : goal.bounds-out-point
 bounds-out-point c =
-    let signed : c.put_sign-whole.result + (most_digits + (1 + c.args.places)) ≤ length c.args.out.now = after_sign c.args.below _ _ _ _ c.put_sign-whole.ensures.0 (omega (arith, c.requires.1)) in
-    let whole : c.put_decimal-point.result + (1 + c.args.places) ≤ length c.args.out.now = after_whole (c.args.n / c.args.unit) _ _ _ _ c.put_decimal-point.ensures.0 (signed) in
+    let signed : c.put_sign-whole.result + (most_digits + (1 + c.args.places)) ≤ length c.args.out.now =
+    after_sign c.args.below _ _ _ _ c.put_sign-whole.ensures.0 (omega (arith, c.requires.1)) in
+    let whole : c.put_decimal-point.result + (1 + c.args.places) ≤ length c.args.out.now =
+    after_whole (c.args.n / c.args.unit) _ _ _ _ c.put_decimal-point.ensures.0 (signed) in
     omega (arith, whole, c.put_decimal-point.auto.out, c.put_sign-whole.auto.out)
 
 pub overflow_add-point : goal.overflow_add-point
 overflow_add-point c =
-    let signed : c.put_sign-whole.result + (most_digits + (1 + c.args.places)) ≤ length c.args.out.now = after_sign c.args.below _ _ _ _ c.put_sign-whole.ensures.0 (omega (arith, c.requires.1)) in
-    let whole : c.put_decimal-point.result + (1 + c.args.places) ≤ length c.args.out.now = after_whole (c.args.n / c.args.unit) _ _ _ _ c.put_decimal-point.ensures.0 (signed) in
+    let signed : c.put_sign-whole.result + (most_digits + (1 + c.args.places)) ≤ length c.args.out.now =
+    after_sign c.args.below _ _ _ _ c.put_sign-whole.ensures.0 (omega (arith, c.requires.1)) in
+    let whole : c.put_decimal-point.result + (1 + c.args.places) ≤ length c.args.out.now =
+    after_whole (c.args.n / c.args.unit) _ _ _ _ c.put_decimal-point.ensures.0 (signed) in
     omega (arith, whole, c.well_formed)
 
 pub put_last-requires : goal.put_last-requires
 put_last-requires c =
-    let signed : c.put_sign-whole.result + (most_digits + (1 + c.args.places)) ≤ length c.args.out.now = after_sign c.args.below _ _ _ _ c.put_sign-whole.ensures.0 (omega (arith, c.requires.1)) in
-    let whole : c.put_decimal-point.result + (1 + c.args.places) ≤ length c.args.out.now = after_whole (c.args.n / c.args.unit) _ _ _ _ c.put_decimal-point.ensures.0 (signed) in (
+    let signed : c.put_sign-whole.result + (most_digits + (1 + c.args.places)) ≤ length c.args.out.now =
+    after_sign c.args.below _ _ _ _ c.put_sign-whole.ensures.0 (omega (arith, c.requires.1)) in
+    let whole : c.put_decimal-point.result + (1 + c.args.places) ≤ length c.args.out.now =
+    after_whole (c.args.n / c.args.unit) _ _ _ _ c.put_decimal-point.ensures.0 (signed) in (
       c.requires.0,
       simp length-set (omega (arith, whole, c.put_decimal-point.auto.out, c.put_sign-whole.auto.out)),
     )
