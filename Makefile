@@ -21,7 +21,8 @@ SHARED = target/shared/libstephylax.so.$(VERSION)
 MADE = target/install/stephylax.pc target/install/stephylax.1
 SERIES = $(wildcard data/vsop87d/*.txt)
 
-CRATES := $(shell find crates -type f) crates.txt
+# Without what the checks leave in each crate's out/.
+CRATES := $(shell find crates -path 'crates/*/out' -prune -o -type f -print) crates.txt
 HOST := $(shell find host -path host/target -prune -o -path host/tests -prune -o -type f -print)
 
 .PHONY: all install uninstall check FORCE
@@ -29,12 +30,10 @@ HOST := $(shell find host -path host/target -prune -o -path host/tests -prune -o
 all: $(COMMAND) $(SHARED)
 
 $(ARCHIVE): $(CRATES)
-	rt staticlib stephylax
-	touch $@
+	packaging/archive.sh stephylax
 
 $(INNER): $(CRATES) | $(ARCHIVE)
-	rt staticlib inner_rules
-	touch $@
+	packaging/archive.sh inner_rules
 
 # The host's build script makes an archive only if it is missing or older than its sources.
 $(COMMAND): $(HOST) $(ARCHIVE) $(INNER)

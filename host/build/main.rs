@@ -12,10 +12,13 @@ fn main() {
     let repository = Path::new(&manifest).parent().expect("the package stands in the repository");
     println!("cargo::rerun-if-changed=build");
     println!("cargo::rerun-if-changed=src");
-    println!("cargo::rerun-if-changed={}", repository.join("crates").display());
+    let sources = archive::sources(repository);
+    for source in &sources {
+        println!("cargo::rerun-if-changed={}", source.display());
+    }
     let folder = repository.join("target/staticlib");
     for name in ["stephylax", "inner_rules"] {
-        archive::fresh(repository, &folder, name);
+        archive::fresh(repository, &sources, &folder, name);
     }
     println!("cargo::rustc-link-search=native={}", folder.display());
     println!("cargo::rustc-link-lib=static=stephylax");

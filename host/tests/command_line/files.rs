@@ -1,7 +1,9 @@
 //! Files that are read and written, and streams that fail.
 
 use crate::common::published;
-use crate::run::{command, fails, file, folder, names, printed, prints, published_file, run, run_with, scratch, text};
+use crate::run::{
+    command, fails, file, folder, names, printed, prints, published_file, run, run_with, scratch, text, Link,
+};
 use std::fs::File;
 use std::process::Stdio;
 
@@ -46,7 +48,7 @@ fn files_are_replaced_whole() {
     let folder = folder("replaced");
     let (target, link) = (folder.join("target"), folder.join("link"));
     std::fs::write(&target, "old").unwrap();
-    std::os::unix::fs::symlink("target", &link).unwrap();
+    let _link = Link::to("target", link.clone());
     let bad = file("bad.txt", b"05\n");
     fails(&["pack", &bad, link.to_str().unwrap()], 1, "refused 3 (1)");
     assert_eq!(std::fs::read(&target).unwrap(), b"old");

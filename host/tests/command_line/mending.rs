@@ -2,7 +2,7 @@
 
 use crate::common::published;
 use crate::run::{
-    command, fails, file, folder, names, printed, published_file, radial, run, run_with, says, scratch, text,
+    command, fails, file, folder, names, printed, published_file, radial, run, run_with, says, scratch, text, Link,
 };
 use reference::layout;
 use reference::plain::packed::parse;
@@ -202,10 +202,10 @@ fn planets() {
 fn the_input_is_not_overwritten() {
     let folder = folder_of("mend-over", &[("text", &damaged())]);
     let from = path(&folder, "text");
-    std::os::unix::fs::symlink("text", folder.join("link")).unwrap();
+    let _link = Link::to("text", folder.join("link"));
     std::fs::hard_link(&from, folder.join("hard")).unwrap();
-    std::os::unix::fs::symlink(&folder, folder.join("self")).unwrap();
-    std::os::unix::fs::symlink("nowhere", folder.join("dangling")).unwrap();
+    let _self = Link::to(&folder, folder.join("self"));
+    let _dangling = Link::to("nowhere", folder.join("dangling"));
     let there = names(&folder);
     let others = ["text", "link", "hard", "self/text", "self/link", "self/../mend-over/hard"];
     let read = |name: &str, from: &str| format!("{name} is the file that is read ({from}); it is never overwritten\n");

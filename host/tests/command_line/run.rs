@@ -108,6 +108,22 @@ pub fn folder(name: &str) -> PathBuf {
     folder
 }
 
+/// A symbolic link, which goes again with the test, also where that fails: the gate refuses one anywhere in the repository.
+pub struct Link(PathBuf);
+
+impl Link {
+    pub fn to(original: impl AsRef<Path>, link: PathBuf) -> Link {
+        std::os::unix::fs::symlink(original, &link).unwrap();
+        Link(link)
+    }
+}
+
+impl Drop for Link {
+    fn drop(&mut self) {
+        let _ = std::fs::remove_file(&self.0);
+    }
+}
+
 /// The names in a folder.
 pub fn names(folder: &Path) -> Vec<String> {
     let entries = std::fs::read_dir(folder).unwrap();
