@@ -80,7 +80,7 @@ fn run(repository: &Path, name: &str, said: &mut Vec<String>) -> std::io::Result
     for line in BufReader::new(lines).lines() {
         let line = line?;
         if let Some(news) = line.strip_prefix("rt: ") {
-            teller.tell(&of_crate(news).map_or(news.to_string(), |name| format!("{name} is proved")));
+            teller.tell(&of_crate(news).map_or(news.to_string(), |name| format!("proving {name}")));
         }
         said.push(line);
     }
