@@ -6,6 +6,7 @@ ghost use Rattle.command_line.specs.Clock.{ms_of_day, instant_of_clock, minute_o
 use arith::signed::{natural_or, wide};
 use calendar::{InstantAnswer, instant_of_date};
 use decimals::reading::{Read, number_of};
+use std::env::Env;
 use units::MINUTE_MS;
 
 // The hours of a day, the minutes of an hour, the seconds of a minute; specs/Clock.antt has the same constants under the same names.
@@ -23,11 +24,13 @@ const SECOND_MS: u64 = MINUTE_MS / SECONDS;
 // The bytes that the argument of a number may have; one that is longer is no number.
 const ARGUMENT_MOST: usize = 16;
 
-// Argument i.
-pub fn number_argument(i: usize) -> Read {
+// Argument i. One that is missing or too long is read as an empty one, which is no number.
+pub fn number_argument(rt: &impl Env, i: usize) -> Read {
     let mut text = [0u8; ARGUMENT_MOST];
-    let n = os::arg(i, &mut text);
-    number_of(&text[..n])
+    match rt.arg(i, &mut text) {
+        Ok(n) => number_of(&text[..n]),
+        Err(_) => number_of(b""),
+    }
 }
 
 // Three numbers in a row.
@@ -45,16 +48,16 @@ pub enum Three {
 }
 
 // Arguments i, i + 1 and i + 2.
-pub fn three_arguments(i: usize) -> Three
+pub fn three_arguments(rt: &impl Env, i: usize) -> Three
     requires { i ≤ argument_limit }
 {
-    let Read::Number(first) = number_argument(i) else {
+    let Read::Number(first) = number_argument(rt, i) else {
         return Three::Other;
     };
-    let Read::Number(second) = number_argument(i + 1) else {
+    let Read::Number(second) = number_argument(rt, i + 1) else {
         return Three::Other;
     };
-    let Read::Number(third) = number_argument(i + 2) else {
+    let Read::Number(third) = number_argument(rt, i + 2) else {
         return Three::Other;
     };
     Three::Numbers(Triple {

@@ -1,12 +1,44 @@
 // Files of packed series in, and bytes out. For the programs.
-ghost use Rattle.std.specs.Prelude.{◌≡◌, ◌≤◌, take};
+ghost use Rattle.std.specs.Prelude.{◌≡◌, ◌≤◌, length, take};
 ghost use Rattle.command_line.specs.Machine.Arguments.{argument_limit};
 
-use libc::{PATH_MAX, STDOUT_FILENO};
+use std::env::Env;
+use std::fs::{File, Files};
+use std::io::{Read, Write};
+use std::{io, str};
 use units::SERIES_LIMIT;
 
 // Room for any packed series: a term has at most 8, 6 and 9 packed bytes, and each of the 18 counts at most 2.
 pub const PACKED_ROOM: usize = 24 * SERIES_LIMIT as usize;
+
+// The bytes that a file's name may have; the system opens no file of a longer name.
+const NAME_MOST: usize = 4096;
+
+// Reads once, and answers how many bytes came at the start of the buffer: none where the input ended, or where the read failed, which counts as
+// its end.
+pub fn read_piece<R: Read>(from: &mut R, into: &mut [u8]) -> usize
+    ensures { result ≤ length into.new }
+{
+    match from.read(into) {
+        Ok(n) => n,
+        Err(_) => 0,
+    }
+}
+
+// Reads until the buffer is full or the input ends, and answers how many bytes came at its start.
+pub fn read_full<R: Read>(from: &mut R, into: &mut [u8]) -> usize
+    ensures { result ≤ length into.new }
+{
+    let mut done = 0;
+    while done < into.len() {
+        let n = read_piece(from, &mut into[done..]);
+        if n == 0 {
+            break;
+        }
+        done += n;
+    }
+    done
+}
 
 // How many bytes a file had; or that it was not read, which is then told on standard output.
 #[derive(Drop)]
@@ -15,31 +47,36 @@ enum Contents {
     Unread,
 }
 
-fn no_file(whose: &[u8]) -> Contents {
-    io::write_all(STDOUT_FILENO, b"no file for ");
-    io::write_all(STDOUT_FILENO, whose);
-    io::write_all(STDOUT_FILENO, b"\n");
-    Contents::Unread
+fn no_file(rt: &impl Print, whose: &[u8]) -> io::Result<Contents> {
+    rt.write_all(b"no file for ")?;
+    rt.write_all(whose)?;
+    rt.write_all(b"\n")?;
+    Ok(Contents::Unread)
 }
 
 // Reads the file that argument i names, the series of this body, into a buffer that is longer than any file that is taken.
-fn read_series(i: usize, whose: &[u8], into: &mut [u8]) -> Contents {
-    let mut path = [0u8; PATH_MAX];
-    let n = os::arg(i, &mut path);
-    if os::errno() != 0 {
-        return no_file(whose);
-    }
-    let fd = os::open_read(&path[..n]);
-    if fd < 0 {
-        return no_file(whose);
-    }
-    let got = io::read_full(fd, into);
-    libc::close(fd);
+fn read_series<R: Env + Files + Print>(
+    rt: &R,
+    i: usize,
+    whose: &[u8],
+    into: &mut [u8],
+) -> io::Result<Contents> {
+    let mut name = [0u8; NAME_MOST];
+    let Ok(n) = rt.arg(i, &mut name) else {
+        return no_file(rt, whose);
+    };
+    let Ok(path) = str::from_utf8(&name[..n]) else {
+        return no_file(rt, whose);
+    };
+    let Ok(mut file) = File::open(rt, path) else {
+        return no_file(rt, whose);
+    };
+    let got = read_full(&mut file, into);
     if into.len() <= got {
-        io::write_all(STDOUT_FILENO, b"too long\n");
-        return Contents::Unread;
+        rt.write_all(b"too long\n")?;
+        return Ok(Contents::Unread);
     }
-    Contents::Bytes(got)
+    Ok(Contents::Bytes(got))
 }
 
 // How many bytes the two files of a program had; or that one was not read.
@@ -49,17 +86,23 @@ pub enum Both {
     Unread,
 }
 
-// Reads the files that argument `first` and the next one name, the planet's series and Earth's.
-pub fn read_both(first: usize, planet: &mut [u8], earth: &mut [u8]) -> Both
+// Reads the files that argument `first` and the next one name, the planet's series and Earth's. It fails only where what is told cannot be
+// written.
+pub fn read_both<R: Env + Files + Print>(
+    rt: &R,
+    first: usize,
+    planet: &mut [u8],
+    earth: &mut [u8],
+) -> io::Result<Both>
     requires { first ≤ argument_limit }
 {
-    let Contents::Bytes(m) = read_series(first, b"the planet", planet) else {
-        return Both::Unread;
+    let Contents::Bytes(m) = read_series(rt, first, b"the planet", planet)? else {
+        return Ok(Both::Unread);
     };
-    let Contents::Bytes(n) = read_series(first + 1, b"Earth", earth) else {
-        return Both::Unread;
+    let Contents::Bytes(n) = read_series(rt, first + 1, b"Earth", earth)? else {
+        return Ok(Both::Unread);
     };
-    Both::Bytes(m, n)
+    Ok(Both::Bytes(m, n))
 }
 
 // The first n bytes; all, where there are no more.
@@ -72,7 +115,7 @@ pub fn first_bytes(bytes: &[u8], n: usize) -> &[u8]
     bytes
 }
 
-// Writes the first n bytes on standard output.
-pub fn write_first(bytes: &[u8], n: usize) {
-    io::write_all(STDOUT_FILENO, first_bytes(bytes, n));
+// Writes the first n bytes.
+pub fn write_first<W: Write>(to: &mut W, bytes: &[u8], n: usize) -> io::Result<()> {
+    to.write_all(first_bytes(bytes, n))
 }

@@ -1,10 +1,11 @@
-// A refusal on standard output or standard error, whichever descriptor is given; its line is written by `refusal_words`.
-use io::write_all;
+// A refusal on standard output or standard error, whichever is given; its line is written by `refusal_words`.
 use refusal_words::{REFUSAL_MOST, put_refusal};
+use std::io;
+use std::io::Write;
 use units::Refusal;
 
-pub fn write_refusal(to: i32, refusal: Refusal) {
+pub fn write_refusal<W: Write>(to: &mut W, refusal: Refusal) -> io::Result<()> {
     let mut line = [0u8; REFUSAL_MOST];
     let n = put_refusal(refusal, &mut line, 0);
-    write_all(to, &line[..n]);
+    to.write_all(&line[..n])
 }

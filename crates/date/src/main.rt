@@ -2,9 +2,12 @@
 // (RULES, "Programs").
 #![tactic(auto)]
 
+ghost use Rattle.std.specs.Prelude.{◌≤◌, length};
+
 use date_lines::reader::{Line, start};
 use date_lines::{answer_last, answer_piece};
-use libc::{STDIN_FILENO, STDOUT_FILENO};
+use std::io;
+use std::io::{Read, Write};
 
 // How much is read at once.
 const PIECE: usize = 512;
@@ -19,27 +22,35 @@ struct State {
     more: bool,
 }
 
-// Reads once and prints the replies to the lines that ended.
-fn step(line: Line) -> State {
-    let mut piece = [0u8; PIECE];
-    let mut out = [0u8; REPLY_LIMIT * PIECE];
-    let got = libc::read(STDIN_FILENO, &mut piece);
-    if got <= 0 {
-        return State { line, more: false };
-    }
-    let n = io::count(got, &piece);
-    let turn = answer_piece(line, &piece[..n], &mut out);
-    let at = turn.at;
-    let next = turn.line;
-    let printed = io::write_all(STDOUT_FILENO, &out[..at]);
-    State {
-        line: next,
-        more: printed,
+// Reads once, and answers how many bytes came: none where the input ended, or where the read failed, which counts as its end.
+fn read_piece<R: Read>(input: &mut R, piece: &mut [u8]) -> usize
+    ensures { result ≤ length piece.new }
+{
+    match input.read(piece) {
+        Ok(n) => n,
+        Err(_) => 0,
     }
 }
 
+// Reads once and prints the replies to the lines that ended.
+fn step<R: Read, W: Write>(input: &mut R, output: &mut W, line: Line) -> io::Result<State> {
+    let mut piece = [0u8; PIECE];
+    let mut out = [0u8; REPLY_LIMIT * PIECE];
+    let n = read_piece(input, &mut piece);
+    if n == 0 {
+        return Ok(State { line, more: false });
+    }
+    let turn = answer_piece(line, &piece[..n], &mut out);
+    let at = turn.at;
+    output.write_all(&out[..at])?;
+    Ok(State {
+        line: turn.line,
+        more: true,
+    })
+}
+
 // A proved loop has to end, and nothing says that the input does: the turns are counted down from a number that no input uses up.
-fn run() -> Line {
+fn run<R: Read, W: Write>(input: &mut R, output: &mut W) -> io::Result<Line> {
     let mut state = State {
         line: start(),
         more: true,
@@ -47,16 +58,17 @@ fn run() -> Line {
     let mut turns = u64::MAX;
     while turns > 0 && state.more {
         let line = state.line;
-        state = step(line);
+        state = step(input, output, line)?;
         turns -= 1;
     }
     let last = state.line;
-    last
+    Ok(last)
 }
 
-fn main() {
-    let last = run();
+fn main(rt: HostRuntime) -> io::Result<()> {
+    let mut output = rt.stdout();
+    let last = run(&mut rt.stdin(), &mut output)?;
     let mut out = [0u8; REPLY_LIMIT];
     let n = answer_last(last, &mut out);
-    io::write_all(STDOUT_FILENO, &out[..n]);
+    output.write_all(&out[..n])
 }

@@ -4,7 +4,8 @@
 #![tactic(auto)]
 
 use list_lines::list_of_arguments;
+use std::io;
 
-fn main() {
-    list_of_arguments(1);
+fn main(rt: HostRuntime) -> io::Result<()> {
+    list_of_arguments(&rt, 1)
 }

@@ -14,7 +14,9 @@ use crate::answer::{LIST_MOST, put_list};
 use command_line::arguments::{Three, Triple, number_argument, three_arguments};
 use command_line::files::{Both, first_bytes, read_both};
 use decimals::reading::Read;
-use libc::STDOUT_FILENO;
+use std::env::Env;
+use std::fs::Files;
+use std::io;
 
 // The longest file that is taken, and room for a byte more, by which a longer one is known.
 const FILE_MOST: usize = 24576;
@@ -29,59 +31,69 @@ enum Asked {
 }
 
 // The arguments from YEAR on, where PLANET is argument `first`.
-fn window_asked(first: usize) -> Asked
+fn window_asked(rt: &impl Env, first: usize) -> Asked
     requires { first ≤ first_limit }
 {
-    let Three::Numbers(date) = three_arguments(first + 2) else {
+    let Three::Numbers(date) = three_arguments(rt, first + 2) else {
         return Asked::Unclear;
     };
-    let Three::Numbers(window) = three_arguments(first + 5) else {
+    let Three::Numbers(window) = three_arguments(rt, first + 5) else {
         return Asked::Unclear;
     };
-    let Read::Number(keep_out) = number_argument(first + 8) else {
+    let Read::Number(keep_out) = number_argument(rt, first + 8) else {
         return Asked::Unclear;
     };
     Asked::For(date, window, keep_out)
 }
 
-fn print_list(planet: &[u8], earth: &[u8], date: Triple, window: Triple, keep_out: i64) {
+fn print_list(
+    rt: &impl Print,
+    planet: &[u8],
+    earth: &[u8],
+    date: Triple,
+    window: Triple,
+    keep_out: i64,
+) -> io::Result<()> {
     let mut text = [0u8; LIST_MOST];
     let n = put_list(planet, earth, date, window, keep_out, &mut text);
-    io::write_all(STDOUT_FILENO, &text[..n]);
+    rt.write_all(&text[..n])
 }
 
 // Reads both files into the rooms lent for them.
-fn list_of_files(
+fn list_of_files<R: Env + Files + Print>(
+    rt: &R,
     first: usize,
     planet: &mut [u8],
     earth: &mut [u8],
     date: Triple,
     window: Triple,
     keep_out: i64,
-)
+) -> io::Result<()>
     requires { first ≤ first_limit }
 {
-    let Both::Bytes(m, n) = read_both(first, planet, earth) else {
-        return;
+    let Both::Bytes(m, n) = read_both(rt, first, planet, earth)? else {
+        return Ok(());
     };
     print_list(
+        rt,
         first_bytes(planet, m),
         first_bytes(earth, n),
         date,
         window,
         keep_out,
-    );
+    )
 }
 
 // The nine arguments from `first` on, answered on standard output.
-pub fn list_of_arguments(first: usize)
+pub fn list_of_arguments<R: Env + Files + Print>(rt: &R, first: usize) -> io::Result<()>
     requires { first ≤ first_limit }
 {
     let mut planet = [0u8; ROOM];
     let mut earth = [0u8; ROOM];
-    let asked = window_asked(first);
+    let asked = window_asked(rt, first);
     match asked {
         Asked::For(date, window, keep_out) => list_of_files(
+            rt,
             first,
             &mut planet,
             &mut earth,
@@ -90,10 +102,7 @@ pub fn list_of_arguments(first: usize)
             keep_out,
         ),
         Asked::Unclear => {
-            io::write_all(
-                STDOUT_FILENO,
-                b"list PLANET EARTH YEAR MONTH DAY HOUR MINUTE MINUTES KEEP-OUT\n",
-            );
+            rt.write_all(b"list PLANET EARTH YEAR MONTH DAY HOUR MINUTE MINUTES KEEP-OUT\n")
         }
     }
 }

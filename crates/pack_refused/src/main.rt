@@ -3,7 +3,8 @@
 #![tactic(auto)]
 
 use packing::pack_input;
+use std::io;
 
-fn main() {
-    pack_input();
+fn main(rt: HostRuntime) -> io::Result<()> {
+    pack_input(&mut rt.stdin(), &mut rt.stdout(), &mut rt.stderr())
 }

@@ -2,13 +2,13 @@
 // error, in one line, why it is no series: the number of the refusal, what is wrong, and where. For the program pack and its further cases.
 #![tactic(auto)]
 
-use command_line::files::{PACKED_ROOM, write_first};
+use command_line::files::{PACKED_ROOM, read_piece, write_first};
 use command_line::words::write_refusal;
-use io::write_all;
-use libc::{STDERR_FILENO, STDIN_FILENO};
 use published::Published;
 use published_records::columns::COUNT_FIRST;
 use series_lines::{Outcome, Reader};
+use std::io;
+use std::io::{Read, Write};
 use units::Refusal;
 
 // How much is read at once.
@@ -23,17 +23,22 @@ struct State {
 }
 
 // Reads once and hands what came to both readers, each with a buffer of its own.
-fn step(reader: Reader, file: Published, text_out: &mut [u8], file_out: &mut [u8]) -> State {
+fn step<R: Read>(
+    input: &mut R,
+    reader: Reader,
+    file: Published,
+    text_out: &mut [u8],
+    file_out: &mut [u8],
+) -> State {
     let mut piece = [0u8; PIECE];
-    let got = libc::read(STDIN_FILENO, &mut piece);
-    if got <= 0 {
+    let n = read_piece(input, &mut piece);
+    if n == 0 {
         return State {
             reader,
             file,
             more: false,
         };
     }
-    let n = io::count(got, &piece);
     let next = text::piece(reader, &piece[..n], text_out);
     let further = published::piece(file, &piece[..n], file_out);
     State {
@@ -44,7 +49,7 @@ fn step(reader: Reader, file: Published, text_out: &mut [u8], file_out: &mut [u8
 }
 
 // A proved loop has to end, and nothing says that the input does: the turns are counted down from a number that no input uses up.
-fn read_all(text_out: &mut [u8], file_out: &mut [u8]) -> State {
+fn read_all<R: Read>(input: &mut R, text_out: &mut [u8], file_out: &mut [u8]) -> State {
     let mut state = State {
         reader: text::start(),
         file: published::start(),
@@ -54,7 +59,7 @@ fn read_all(text_out: &mut [u8], file_out: &mut [u8]) -> State {
     while turns > 0 && state.more {
         let reader = state.reader;
         let file = state.file;
-        state = step(reader, file, text_out, file_out);
+        state = step(input, reader, file, text_out, file_out);
         turns -= 1;
     }
     state
@@ -89,33 +94,45 @@ fn heading_came(p: Published) -> bool {
 }
 
 // The packed form, or why there is none.
-fn write_outcome(outcome: Outcome, packed: &[u8]) {
+fn write_outcome<W: Write, E: Write>(
+    output: &mut W,
+    errors: &mut E,
+    outcome: Outcome,
+    packed: &[u8],
+) -> io::Result<()> {
     match outcome {
-        Outcome::Accepted(n) => {
-            write_first(packed, n);
-        }
-        Outcome::Refused(refusal) => write_refusal(STDERR_FILENO, refusal),
-        Outcome::More(_) => {}
+        Outcome::Accepted(n) => write_first(output, packed, n),
+        Outcome::Refused(refusal) => write_refusal(errors, refusal),
+        Outcome::More(_) => Ok(()),
     }
 }
 
 // The whole input, by the reader of its kind.
-fn convert(text_out: &mut [u8], file_out: &mut [u8]) {
-    let state = read_all(text_out, file_out);
+fn convert<R: Read, W: Write, E: Write>(
+    input: &mut R,
+    output: &mut W,
+    errors: &mut E,
+    text_out: &mut [u8],
+    file_out: &mut [u8],
+) -> io::Result<()> {
+    let state = read_all(input, text_out, file_out);
     let file = state.file;
     if heading_came(file) {
-        write_all(STDERR_FILENO, b"read as a published file\n");
+        errors.write_all(b"read as a published file\n")?;
         let ended = published::end(file, file_out);
-        write_outcome(published::answer(ended), file_out);
-        return;
+        return write_outcome(output, errors, published::answer(ended), file_out);
     }
     let reader = text::end(state.reader, text_out);
-    write_outcome(series_lines::answer(reader), text_out);
+    write_outcome(output, errors, series_lines::answer(reader), text_out)
 }
 
 // There is room for every series: the theorems of proofs/Room.antt.
-pub fn pack_input() {
+pub fn pack_input<R: Read, W: Write, E: Write>(
+    input: &mut R,
+    output: &mut W,
+    errors: &mut E,
+) -> io::Result<()> {
     let mut text_out = [0u8; PACKED_ROOM];
     let mut file_out = [0u8; PACKED_ROOM];
-    convert(&mut text_out, &mut file_out);
+    convert(input, output, errors, &mut text_out, &mut file_out)
 }

@@ -4,7 +4,8 @@
 #![tactic(auto)]
 
 use position_lines::place_of_arguments;
+use std::io;
 
-fn main() {
-    place_of_arguments(1);
+fn main(rt: HostRuntime) -> io::Result<()> {
+    place_of_arguments(&rt, 1)
 }

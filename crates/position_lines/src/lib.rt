@@ -14,7 +14,9 @@ use crate::answer::put_position;
 use crate::lines::PLACE_MOST;
 use command_line::arguments::{Three, Triple, three_arguments};
 use command_line::files::{Both, PACKED_ROOM, first_bytes, read_both};
-use libc::STDOUT_FILENO;
+use std::env::Env;
+use std::fs::Files;
+use std::io;
 
 // What the arguments ask for: year, month and day, and hour, minute and second.
 #[derive(Clone, Copy)]
@@ -24,48 +26,71 @@ enum Asked {
 }
 
 // The arguments from YEAR on, where PLANET is argument `first`.
-fn time_asked(first: usize) -> Asked
+fn time_asked(rt: &impl Env, first: usize) -> Asked
     requires { first ≤ first_limit }
 {
-    let Three::Numbers(date) = three_arguments(first + 2) else {
+    let Three::Numbers(date) = three_arguments(rt, first + 2) else {
         return Asked::Unclear;
     };
-    let Three::Numbers(clock) = three_arguments(first + 5) else {
+    let Three::Numbers(clock) = three_arguments(rt, first + 5) else {
         return Asked::Unclear;
     };
     Asked::For(date, clock)
 }
 
-fn print_position(planet: &[u8], earth: &[u8], date: Triple, clock: Triple) {
+fn print_position(
+    rt: &impl Print,
+    planet: &[u8],
+    earth: &[u8],
+    date: Triple,
+    clock: Triple,
+) -> io::Result<()> {
     let mut text = [0u8; PLACE_MOST];
     let n = put_position(planet, earth, date, clock, &mut text);
-    io::write_all(STDOUT_FILENO, &text[..n]);
+    rt.write_all(&text[..n])
 }
 
 // Reads both files into the rooms lent for them.
-fn position_of_files(first: usize, planet: &mut [u8], earth: &mut [u8], date: Triple, clock: Triple)
+fn position_of_files<R: Env + Files + Print>(
+    rt: &R,
+    first: usize,
+    planet: &mut [u8],
+    earth: &mut [u8],
+    date: Triple,
+    clock: Triple,
+) -> io::Result<()>
     requires { first ≤ first_limit }
 {
-    let Both::Bytes(m, n) = read_both(first, planet, earth) else {
-        return;
+    let Both::Bytes(m, n) = read_both(rt, first, planet, earth)? else {
+        return Ok(());
     };
-    print_position(first_bytes(planet, m), first_bytes(earth, n), date, clock);
+    print_position(
+        rt,
+        first_bytes(planet, m),
+        first_bytes(earth, n),
+        date,
+        clock,
+    )
 }
 
 // The eight arguments from `first` on, answered on standard output.
-pub fn place_of_arguments(first: usize)
+pub fn place_of_arguments<R: Env + Files + Print>(rt: &R, first: usize) -> io::Result<()>
     requires { first ≤ first_limit }
 {
     let mut planet = [0u8; PACKED_ROOM];
     let mut earth = [0u8; PACKED_ROOM];
-    let asked = time_asked(first);
+    let asked = time_asked(rt, first);
     match asked {
-        Asked::For(date, clock) => position_of_files(first, &mut planet, &mut earth, date, clock),
-        Asked::Unclear => {
-            io::write_all(
-                STDOUT_FILENO,
-                b"position PLANET EARTH YEAR MONTH DAY HOUR MINUTE SECOND\n",
-            );
-        }
+        Asked::For(date, clock) => position_of_files(
+            rt,
+            first,
+            &mut planet,
+            &mut earth,
+            date,
+            clock,
+        ),
+        Asked::Unclear => rt.write_all(
+            b"position PLANET EARTH YEAR MONTH DAY HOUR MINUTE SECOND\n",
+        ),
     }
 }

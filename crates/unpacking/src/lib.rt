@@ -4,10 +4,11 @@
 
 ghost use Rattle.unpacking.specs.Input.{Roomy, AnswersAny};
 
-use command_line::files::{PACKED_ROOM, write_first};
+use command_line::files::{PACKED_ROOM, read_full, write_first};
 use command_line::words::write_refusal;
-use libc::{STDERR_FILENO, STDIN_FILENO};
 use printer::{Printed, TEXT_LIMIT};
+use std::io;
+use std::io::{Read, Write};
 
 // The text of the input, of which the first n packed bytes are all or, where they fill the buffer, the beginning: whatever follows,
 // the whole input is then refused as they are, by the theorem `decided` of packed_promises/proofs/Theorems.antt.
@@ -19,22 +20,30 @@ fn text_of(packed: &[u8], n: usize, text: &mut [u8]) -> Printed
 }
 
 // Writes the text of the input, or why there is none.
-fn convert(packed: &[u8], n: usize, text: &mut [u8])
+fn convert<W: Write, E: Write>(
+    output: &mut W,
+    errors: &mut E,
+    packed: &[u8],
+    n: usize,
+    text: &mut [u8],
+) -> io::Result<()>
     requires { Roomy n packed.now text.old }
 {
     let printed = text_of(packed, n, text);
     match printed {
-        Printed::Length(k) => {
-            write_first(text, k);
-        }
-        Printed::NoText(refusal) => write_refusal(STDERR_FILENO, refusal),
+        Printed::Length(k) => write_first(output, text, k),
+        Printed::NoText(refusal) => write_refusal(errors, refusal),
     }
 }
 
 // There is room for every series and its text.
-pub fn unpack_input() {
+pub fn unpack_input<R: Read, W: Write, E: Write>(
+    input: &mut R,
+    output: &mut W,
+    errors: &mut E,
+) -> io::Result<()> {
     let mut packed = [0u8; PACKED_ROOM];
     let mut text = [0u8; TEXT_LIMIT];
-    let n = io::read_full(STDIN_FILENO, &mut packed);
-    convert(&packed, n, &mut text);
+    let n = read_full(input, &mut packed);
+    convert(output, errors, &packed, n, &mut text)
 }
