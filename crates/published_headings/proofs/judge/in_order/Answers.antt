@@ -1,36 +1,34 @@
 -- `published_headings::judge::in_order` meets its contract. Assumes nothing.
 use native.Mathlib.Omega.{arith}
-use borrow.Author.Rules.{rules}
 use borrow.Author.Tests.{eq-eqb, ne_eqb, le-leb, lt-leb, lt-ltb, le-ltb}
 use Rattle.units.specs.Units.{powers}
 use Rattle.published_headings.specs.Judge.{theory_version, coordinate_count, in_order}
-use Rattle.published_headings.proofs.judge.in_order.Statement.{statement}
-use Rattle.published_headings.proofs.judge.in_order.Tie as tie
+use Rattle.published_headings.proofs.judge.in_order.Goals as goal
 
-returns : tie.Need-returns
+pub returns-then-version-ne-THEORY_VERSION : goal.returns-then-version-ne-THEORY_VERSION
 unfolding in_order
-returns c = let a = c.before.args in rw (ne_eqb a.version theory_version (λ e. omega (arith, e)))
+returns-then-version-ne-THEORY_VERSION c = let a = c.args in rw (ne_eqb a.version theory_version (λ e. omega (arith, e)))
 
-returns-2 : tie.Need-returns-2
+pub returns-then-coordinate-eq0 : goal.returns-then-coordinate-eq0
 unfolding in_order
-returns-2 c =
-    let a = c.before.before.args in
+returns-then-coordinate-eq0 c =
+    let a = c.args in
     rw (eq-eqb a.version theory_version (omega arith), lt-leb 1 a.coordinate (omega arith))
 
-returns-3 : tie.Need-returns-3
+pub returns-then-coordinate-gt-COORDINATE_COUNT : goal.returns-then-coordinate-gt-COORDINATE_COUNT
 unfolding in_order
-returns-3 c =
-    let a = c.before.before.before.args in
+returns-then-coordinate-gt-COORDINATE_COUNT c =
+    let a = c.args in
     rw (
       eq-eqb a.version theory_version (omega arith),
       le-leb 1 a.coordinate (omega arith),
       lt-leb a.coordinate coordinate_count (omega arith),
     )
 
-returns-4 : tie.Need-returns-4
+pub returns-then-power-ge-POWERS : goal.returns-then-power-ge-POWERS
 unfolding in_order
-returns-4 c =
-    let a = c.before.before.before.before.args in
+returns-then-power-ge-POWERS c =
+    let a = c.args in
     rw (
       eq-eqb a.version theory_version (omega arith),
       le-leb 1 a.coordinate (omega arith),
@@ -38,13 +36,10 @@ returns-4 c =
       le-ltb a.power powers (omega arith),
     )
 
-block-of-requires : tie.Need-block-of-requires
-block-of-requires c κs = search rules
-
-returns-5 : tie.Need-returns-5
+pub returns : goal.returns
 unfolding in_order
-returns-5 c =
-    let a = c.before.before.before.before.before.args in
+returns c =
+    let a = c.args in
     rw (
       eq-eqb a.version theory_version (omega arith),
       le-leb 1 a.coordinate (omega arith),
@@ -52,7 +47,3 @@ returns-5 c =
       lt-ltb a.power powers (omega arith),
       c.block_of.ensures,
     )
-
-pub in-order-spec : {M : Type 1} → statement M
-in-order-spec =
-    tie.close (tie.spec returns returns-2 returns-3 returns-4 block-of-requires returns-5)
