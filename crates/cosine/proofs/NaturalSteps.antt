@@ -7,8 +7,7 @@ use native.Mathlib.Nat.{mul-le-mul, mul-le-mul_right, div-div-eq-div-mul, div-le
 use lib.IntN.{ℤ, pos, neg_ℤ, ◌+ℤ◌, ◌-ℤ◌, ◌*ℤ◌}
 use Rattle.integers.specs.Order.{◌≼◌}
 use Rattle.integers.specs.Division.{floor, rounded}
-use Rattle.integers.proofs.Order.{fits}
-use Rattle.integers.proofs.Pairs.{nat, same, less, less⁻¹, ◌+ᵢ◌, ◌-ᵢ◌, ◌*ᵢ◌}
+use Rattle.integers.proofs.Pairs.{nat, same, less⁻¹, ◌+ᵢ◌, ◌-ᵢ◌, ◌*ᵢ◌}
 use Rattle.integers.proofs.Auto.{polys, ring!, cert!, sqr}
 use Rattle.integers.proofs.Division.{rounded_add}
 use Rattle.integers.proofs.Rounding.{rounded_scale}

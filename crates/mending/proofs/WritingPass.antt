@@ -12,7 +12,7 @@ use lib.Seq.{sets, length-sets, slice, slice_empty, slice-cons}
 use Rattle.buffers.proofs.Sets.{sets_append}
 use Rattle.series_lines.specs.Grammar.{feed, space}
 use Rattle.mending.specs.declared.writing.Writing.{Writing}
-use Rattle.mending.specs.Rule.{tab, blank, stays, dropped, left, mended_from, drop_kind, space_kind, listed, changes_from, changes, numbers}
+use Rattle.mending.specs.Rule.{tab, blank, stays, dropped, left, mended_from, drop_kind, space_kind, listed, changes_from, numbers}
 use Rattle.mending.specs.Machine.Runs.{spared, spared_run, tab_changes, drops, Room, Wrote, run_bytes, run_numbers}
 use Rattle.mending.specs.Machine.Passes.{bytes_left, numbers_left, plain_left, Ready, Rest, Copied, Came}
 use Rattle.mending.proofs.Runs.{bytes_at_feed, changes_at_feed, bytes_at_other, changes_at_other, bytes_at_end, changes_at_end}

@@ -9,7 +9,7 @@ use lib.Dec.{ltb, lit≤}
 use lib.ListN.{length}
 use Rattle.integers.proofs.Tests.{by_cases}
 use Rattle.series_lines.specs.declared.Line.{Line}
-use Rattle.series_lines.specs.Grammar.{spaces, count, count_bytes}
+use Rattle.series_lines.specs.Grammar.{spaces, count_bytes}
 use Rattle.series_lines.specs.Lexer.{spot_bad, fresh}
 use Rattle.published_records.specs.declared.Column.TheVariants.{Filler, Count}
 use Rattle.published_records.specs.Layout.{NoFeed, heading_bytes}

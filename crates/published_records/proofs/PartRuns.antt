@@ -200,7 +200,7 @@ parted_more r text from value i stop a t p d =
 no_feed : (heading : Bool) (r : Row) (bytes : List ℕ) → RunsOn heading r bytes → NoFeed bytes
 unfolding RunsOn NoFeed
 no_feed heading r [] g = tt
-no_feed heading r (byte ∷ bytes) g = (g.0, no_feed heading _ bytes g.1.1)
+no_feed heading r (byte ∷ bytes) g = (g.0, no_feed heading (lex_row heading r byte) bytes g.1.1)
 
 pub skips_parts : (r s : Row) (text : List ℕ) (from next : ℕ) → Takes false r text from s next → Skips false r text from s next
 skips_parts r s text from next t =

@@ -1,6 +1,6 @@
 -- C(x) and S(x) for a fraction x = n/N, and by the quarter. Their Lipschitz bound, 61/50. Assumes nothing.
 use mathlib.Core.List.{List, [], ◌∷◌}
-use Prim.Native.Nat.{ℕ, zero, suc, ◌*◌, ◌<◌}
+use Prim.Native.Nat.{ℕ, zero, suc}
 use native.Mathlib.Omega.{arith}
 use lib.IntN.{ℤ, pos, ◌-ℤ◌, ◌*ℤ◌, neg_ℤ}
 use Rattle.integers.specs.Order.{◌≼◌, ◌≺◌}

@@ -1,7 +1,7 @@
 -- The reference cosine and sine lie from −1 to 1, the working ones from −U to U, and the working even part is at least 0.69·U. Assumes nothing.
 use mathlib.Core.Path.{subst}
 use mathlib.Core.List.{[], ◌∷◌}
-use Prim.Native.Nat.{ℕ, zero, suc, ◌*◌, ◌+◌, ◌≤◌, ◌<◌}
+use Prim.Native.Nat.{ℕ, zero, suc, ◌*◌, ◌≤◌, ◌<◌}
 use native.Mathlib.Omega.{arith}
 use lib.IntN.{ℤ, pos, nat_abs, ◌+ℤ◌, ◌*ℤ◌, neg_ℤ}
 use Rattle.integers.specs.Order.{◌≼◌, ◌≺◌}

@@ -1,0 +1,12 @@
+-- `mending::writing::put_plain` meets its contract: what is written and what is left are all. Assumes nothing.
+use mathlib.Core.Path.{◌≡◌}
+use Prim.Native.Nat.{◌+◌, ◌-◌}
+use lib.ListN.{length}
+use Rattle.mending.specs.Machine.Passes.{Copied}
+use Rattle.mending.proofs.writing.put_plain.Given as goal
+
+abbrev pub invariant-loop-j : goal.invariant-loop-j
+invariant-loop-j l = Copied l.text l.i l.at l.initial.out l.j l.p l.out × (l.p ≡ l.at + (l.j - l.i))
+
+abbrev pub decreases-loop-j : goal.decreases-loop-j
+decreases-loop-j l = length l.text - l.j

@@ -1,0 +1,5 @@
+-- `published::steps::halt` meets its contract. Assumes nothing.
+use Rattle.published.proofs.steps.halt.Goals as goal
+
+pub returns : goal.returns
+returns c = rw c.stop-reader.ensures
