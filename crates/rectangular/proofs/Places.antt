@@ -81,7 +81,8 @@ module _ (r : ℤ) (b l : ℕ) (hr : nat_abs r < 2 ^ 63) (cb sb cl sl flat x y z
         let q : Cell y ≡ rounded (rounded (r *ℤ cosine (pos b)) U *ℤ sine (pos l)) U = product y sl sl_in ey
         ∙ ap (λ (t : ℤ). rounded (rounded (r *ℤ cosine (pos b)) U *ℤ t) U) e₄ in
         let w : z ≡ rounded (r *ℤ sine (pos b)) U = ez ∙ ap₂ (λ (s t : ℤ). rounded (s *ℤ t) U) (cell r hr) (cell sb (let h = sb_in in omega arith) ∙ e₂) in
-        let g : nat_abs z < 2 ^ 63 = let h = subst (λ (t : ℤ). nat_abs t ≤ nat_abs r) (sym w) (scaled_size r (sine (pos b)) (sine_size (pos b))) in omega arith in
+        let g : nat_abs z < 2 ^ 63 =
+        let h = subst (λ (t : ℤ). nat_abs t ≤ nat_abs r) (sym w) (scaled_size r (sine (pos b)) (sine_size (pos b))) in omega arith in
         rw (p, q, cell z g ∙ w)
 
 -- ---- place: an angle reduced by the turn has the same cosine and sine
