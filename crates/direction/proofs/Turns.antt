@@ -72,7 +72,8 @@ by_one (pos m) y e f h = absurd (subst T (sym e) tt)
 by_one (negsuc m) (pos n) e f h = sym (one_turn (suc m) n h)
 by_one (negsuc m) (negsuc n) e f h = absurd (subst T f tt)
 
-pub by_one_up : (x y : ℤ) → nat_abs x ≡ 0 → negative y ≡ false → 0 < nat_abs y → 1 * quarter_steps + in_quarter (pos (nat_abs y)) (pos (nat_abs x)) ≡ direction x y
+pub by_one_up : (x y : ℤ) → nat_abs x ≡ 0 → negative y ≡ false → 0 < nat_abs y
+    → 1 * quarter_steps + in_quarter (pos (nat_abs y)) (pos (nat_abs x)) ≡ direction x y
 unfolding negative sgn
 by_one_up (pos zero) (pos n) e f h = sym (one_turn 0 n h)
 by_one_up (pos zero) (negsuc n) e f h = absurd (subst T f tt)
