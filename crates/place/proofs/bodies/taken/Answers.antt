@@ -1,0 +1,55 @@
+-- `place::bodies::taken` meets its contract. Assumes nothing.
+use mathlib.Core.Path.{sym, ◌∙◌}
+use Rattle.units.specs.Units.{t_limit}
+use Rattle.units.proofs.Limit.{told_size}
+use Rattle.place.proofs.Sights.{at_clear}
+use Rattle.place.proofs.Sightings.{told_asked, first_far, first_unusable, first_usable, earlier_past, earlier_far, second_is}
+use mathlib.Core.Path.{ap}
+use mathlib.Core.Bool.{not}
+use Rattle.place.proofs.bodies.taken.Goals as goal
+
+pub returns-then-not-may_ask : goal.returns-then-not-may_ask
+returns-then-not-may_ask c = first_far _ _ _ c.requires.3 _ c.may_ask.result c.may_ask.ensures (ap not c.if-not-may_ask.true)
+
+pub both_at-first-requires : goal.both_at-first-requires
+both_at-first-requires c = (
+  c.requires.0,
+  c.requires.1,
+  c.requires.2,
+  told_asked _ _ _ c.requires.3 _ c.may_ask.result c.may_ask.ensures (ap not c.if-not-may_ask.false),
+)
+
+pub earlier-before-requires : goal.earlier-before-requires
+earlier-before-requires c = (c.requires.0, (at_clear _ _ _ _ (sym c.both_at-first.ensures ∙ c.in-Usable.is)).distance_in)
+
+pub returns-then-not-in_limit : goal.returns-then-not-in_limit
+returns-then-not-in_limit c =
+    first_usable _ _ _ c.requires.3 _ c.may_ask.result c.may_ask.ensures (ap not c.if-not-may_ask.false) c.both_at-first.result
+    c.both_at-first.ensures _ c.in-Usable.is c.earlier-before.result c.earlier-before.ensures _
+    (earlier_past _ _ _ c.requires.3 _ c.earlier-before.result c.in_limit.result c.in_limit.ensures (ap not c.if-not-in_limit.true))
+
+pub returns-then-not-may_ask-2 : goal.returns-then-not-may_ask-2
+returns-then-not-may_ask-2 c =
+    first_usable _ _ _ c.requires.3 _ c.may_ask.result c.may_ask.ensures (ap not c.if-not-may_ask.false) c.both_at-first.result
+    c.both_at-first.ensures _ c.in-Usable.is c.earlier-before.result c.earlier-before.ensures _
+    (earlier_far _ _ _ c.requires.3 _ c.earlier-before.result c.in_limit.result c.in_limit.ensures (ap not c.if-not-in_limit.false) c.may_ask-in-Usable.result
+    c.may_ask-in-Usable.ensures (ap not c.if-not-may_ask-2.true))
+
+pub both_at-second-requires : goal.both_at-second-requires
+both_at-second-requires c =
+    let inside = told_size t_limit _ c.in_limit.result c.in_limit.ensures (ap not c.if-not-in_limit.false) in
+    let asked = told_asked _ _ _ c.requires.3 c.earlier-before.result c.may_ask-in-Usable.result c.may_ask-in-Usable.ensures
+    (ap not c.if-not-may_ask-2.false) in
+    (inside, c.requires.1, c.requires.2, asked)
+
+pub returns-in-Unusable : goal.returns-in-Unusable
+returns-in-Unusable c =
+    first_unusable _ _ _ c.requires.3 _ c.may_ask.result c.may_ask.ensures (ap not c.if-not-may_ask.false) c.both_at-first.result c.both_at-first.ensures
+    c.in-Unusable.is
+
+pub returns-else-not-may_ask-2 : goal.returns-else-not-may_ask-2
+returns-else-not-may_ask-2 c =
+    first_usable _ _ _ c.requires.3 _ c.may_ask.result c.may_ask.ensures (ap not c.if-not-may_ask.false) c.both_at-first.result
+    c.both_at-first.ensures _ c.in-Usable.is c.earlier-before.result c.earlier-before.ensures _
+    (second_is _ _ _ c.requires.3 _ c.earlier-before.result c.in_limit.result c.in_limit.ensures (ap not c.if-not-in_limit.false) c.may_ask-in-Usable.result
+    c.may_ask-in-Usable.ensures (ap not c.if-not-may_ask-2.false) c.both_at-second.result c.again.result c.both_at-second.ensures c.again.ensures)

@@ -1,0 +1,9 @@
+-- `place::steps::earlier` meets its contract. Assumes nothing.
+use Rattle.place.proofs.Light.{earlier_asks, earlier_is}
+use Rattle.place.proofs.steps.earlier.Goals as goal
+
+pub sub-ms-requires : goal.sub-ms-requires
+sub-ms-requires c = earlier_asks c.args.t c.args.distance c.requires.0 c.requires.1 c.light.result c.light.ensures
+
+pub returns : goal.returns
+returns c = earlier_is c.args.t c.args.distance c.requires.0 c.requires.1 c.light.result c.light.ensures c.sub-ms.result c.sub-ms.ensures
