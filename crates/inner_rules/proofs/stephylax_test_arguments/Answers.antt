@@ -4,23 +4,13 @@ use borrow.Author.Rules.{rules}
 use Rattle.arith.proofs.Cells.{Cell}
 use Rattle.arith.proofs.Signs.{back, ok}
 use Rattle.nutation.specs.Nutation.{mean_elongation, sun_anomaly, moon_anomaly, latitude_argument, moon_node}
-use Rattle.inner_rules.proofs.stephylax_test_arguments.Statement.{statement}
-use Rattle.inner_rules.proofs.stephylax_test_arguments.Tie as tie
+use Rattle.inner_rules.proofs.stephylax_test_arguments.Goals as goal
 
-held-requires : tie.Need-held-requires
-held-requires c κs = search rules
-
-arguments-with-turns-requires : tie.Need-arguments-with-turns-requires
-arguments-with-turns-requires c κs = search rules
-
-returns : tie.Need-returns
+pub returns : goal.returns
 returns c =
-    let w = c.before in
-    let a = w.before in
-    let s = a.before in
-    let t = back a.held.result (ok a.held.type-inv) ∙ (rw (back s.args.t s.ranges.t) at a.held.ensures.0) in
-    let f = w.arguments-with-turns.result in
-    let r = w.arguments-with-turns.ensures in
+    let t = back c.held.result (ok c.held.type_inv) ∙ (rw (back c.args.t c.ranges.t) at c.held.ensures.0) in
+    let f = c.arguments_with_turns-a.result in
+    let r = c.arguments_with_turns-a.ensures in
     let e1 : Cell f.elongation ≡ f.elongation = search rules in
     let e2 : Cell f.sun ≡ f.sun = search rules in
     let e3 : Cell f.moon ≡ f.moon = search rules in
@@ -32,6 +22,3 @@ returns c =
       e4 ∙ r.3 ∙ ap latitude_argument t,
       e5 ∙ r.4 ∙ ap moon_node t,
     )
-
-pub stephylax-test-arguments-spec : {M : Type 1} → statement M
-stephylax-test-arguments-spec = tie.close (tie.spec held-requires arguments-with-turns-requires returns)
