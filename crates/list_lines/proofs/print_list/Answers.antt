@@ -23,6 +23,6 @@ slice_bounds-write_all-end g c =
     let start = minute_of_day w.first w.second in
     let p = rw (back _ c.ranges.keep_out) at c.put_list-n.ensures.0 in
     let h : c.put_list-n.result ≤ length c.put_list-n.new.out =
-        omega (arith, p, c.put_list-n.auto.out, list_length c.args.planet.now c.args.earth.now from start w.third c.args.keep_out)
+    omega (arith, p, c.put_list-n.auto.out, list_length c.args.planet.now c.args.earth.now from start w.third c.args.keep_out)
     in
     sym (length-take-le _ _ h)

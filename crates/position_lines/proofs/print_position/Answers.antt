@@ -18,6 +18,6 @@ slice_bounds-write_all-end g c =
     let k = c.args.clock in
     let w = instant_of_clock d.first d.second d.third k.first k.second k.third in
     let h : c.put_position-n.result ≤ length c.put_position-n.new.out =
-        omega (arith, c.put_position-n.ensures.0, c.put_position-n.auto.out, position_length c.args.planet.now c.args.earth.now w)
+    omega (arith, c.put_position-n.ensures.0, c.put_position-n.auto.out, position_length c.args.planet.now c.args.earth.now w)
     in
     sym (length-take-le _ _ h)
