@@ -1,2 +1,3 @@
 -- Laws and theorems on what the programs share.
 pub mod Clocks
+pub mod Written

@@ -1,5 +1,6 @@
 // Files of packed series in, and bytes out. For the programs.
-ghost use Rattle.std.specs.Prelude.{◌≡◌, ◌≤◌, length, take};
+ghost use Rattle.std.specs.Prelude.{◌≡◌, ◌≤◌, length, take, OnOk};
+ghost use Rattle.std.specs.Io.KnownBytes.{Appends};
 ghost use Rattle.command_line.specs.Machine.Arguments.{argument_limit};
 
 use std::env::Env;
@@ -116,6 +117,8 @@ pub fn first_bytes(bytes: &[u8], n: usize) -> &[u8]
 }
 
 // Writes the first n bytes.
-pub fn write_first<W: Write>(to: &mut W, bytes: &[u8], n: usize) -> io::Result<()> {
+pub fn write_first<W: Write>(to: &mut W, bytes: &[u8], n: usize) -> io::Result<()>
+    ensures { OnOk result (Appends (W.contents to.old) (W.contents to.new) (take n bytes.now)) }
+{
     to.write_all(first_bytes(bytes, n))
 }

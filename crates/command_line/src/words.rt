@@ -1,10 +1,16 @@
 // A refusal on standard output or standard error, whichever is given; its line is written by `refusal_words`.
+ghost use Rattle.std.specs.Prelude.{OnOk};
+ghost use Rattle.std.specs.Io.KnownBytes.{Appends};
+ghost use Rattle.refusal_words.specs.Words.{refusal_text};
+
 use refusal_words::{REFUSAL_MOST, put_refusal};
 use std::io;
 use std::io::Write;
 use units::Refusal;
 
-pub fn write_refusal<W: Write>(to: &mut W, refusal: Refusal) -> io::Result<()> {
+pub fn write_refusal<W: Write>(to: &mut W, refusal: Refusal) -> io::Result<()>
+    ensures { OnOk result (Appends (W.contents to.old) (W.contents to.new) (refusal_text refusal)) }
+{
     let mut line = [0u8; REFUSAL_MOST];
     let n = put_refusal(refusal, &mut line, 0);
     to.write_all(&line[..n])
