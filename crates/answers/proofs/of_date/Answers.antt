@@ -1,0 +1,17 @@
+-- `answers::of_date` meets its contract. Assumes nothing.
+use mathlib.Core.Path.{sym, ap, ◌∙◌}
+use lib.IntN.{pos}
+use Rattle.answers.specs.Answers.{date_shown}
+use Rattle.answers.proofs.Held.{moment_held}
+use borrow.Author.Rules.{rules}
+use Rattle.answers.proofs.of_date.Goals as goal
+
+pub returns-in-On : goal.returns-in-On
+unfolding date_shown
+returns-in-On c =
+    let d = c.in-On.d in
+    moment_held d.year d.month d.day (pos 0) (search rules) (search rules) (search rules) (search rules) ∙ ap date_shown (sym c.in-On.is)
+
+pub returns-in-NoDate : goal.returns-in-NoDate
+unfolding date_shown
+returns-in-NoDate c = c.refused_moment.ensures ∙ ap date_shown (sym c.in-NoDate.is)
