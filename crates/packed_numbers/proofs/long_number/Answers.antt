@@ -26,12 +26,14 @@ returns-then-b-eq0 c =
 
 pub overflow_mul-result : goal.overflow_mul-result
 overflow_mul-result c =
-    let fits : (x : ℕ) → x ≤ 127 → c.loop-i.acc + x * c.loop-i.scale < 2 ^ 63 = λ x h. let l = c.loop-i in group_fits l.k l.scale l.acc x l.invariant.0 l.invariant.1 l.invariant.2 h in
+    let fits : (x : ℕ) → x ≤ 127 → c.loop-i.acc + x * c.loop-i.scale < 2 ^ 63 = λ x h. let l =
+    c.loop-i in group_fits l.k l.scale l.acc x l.invariant.0 l.invariant.1 l.invariant.2 h in
     omega (arith, fits c.wide-b.result (omega (arith, c.if-b-lt-GROUP.true)))
 
 pub overflow_add-result : goal.overflow_add-result
 overflow_add-result c =
-    let fits : (x : ℕ) → x ≤ 127 → c.loop-i.acc + x * c.loop-i.scale < 2 ^ 63 = λ x h. let l = c.loop-i in group_fits l.k l.scale l.acc x l.invariant.0 l.invariant.1 l.invariant.2 h in
+    let fits : (x : ℕ) → x ≤ 127 → c.loop-i.acc + x * c.loop-i.scale < 2 ^ 63 = λ x h. let l =
+    c.loop-i in group_fits l.k l.scale l.acc x l.invariant.0 l.invariant.1 l.invariant.2 h in
     omega (arith, fits c.wide-b.result (omega (arith, c.if-b-lt-GROUP.true)))
 
 pub overflow_add-result-then-b-lt-GROUP : goal.overflow_add-result-then-b-lt-GROUP
@@ -54,13 +56,15 @@ returns-then-k-ge-EARLIER_LIMIT c =
 pub overflow_mul-acc : goal.overflow_mul-acc
 overflow_mul-acc c =
     let low_bits : c.wide-b.result - group ≤ 127 = byte c.wide-b.ensures (c.shared_slice_known-in-loop-i-1.given c.loop-i.i).fits in
-    let fits : (x : ℕ) → x ≤ 127 → c.loop-i.acc + x * c.loop-i.scale < 2 ^ 63 = λ x h. let l = c.loop-i in group_fits l.k l.scale l.acc x l.invariant.0 l.invariant.1 l.invariant.2 h in
+    let fits : (x : ℕ) → x ≤ 127 → c.loop-i.acc + x * c.loop-i.scale < 2 ^ 63 = λ x h. let l =
+    c.loop-i in group_fits l.k l.scale l.acc x l.invariant.0 l.invariant.1 l.invariant.2 h in
     omega (arith, fits (c.wide-b.result - group) (low_bits))
 
 pub overflow_add-acc : goal.overflow_add-acc
 overflow_add-acc c =
     let low_bits : c.wide-b.result - group ≤ 127 = byte c.wide-b.ensures (c.shared_slice_known-in-loop-i-1.given c.loop-i.i).fits in
-    let fits : (x : ℕ) → x ≤ 127 → c.loop-i.acc + x * c.loop-i.scale < 2 ^ 63 = λ x h. let l = c.loop-i in group_fits l.k l.scale l.acc x l.invariant.0 l.invariant.1 l.invariant.2 h in
+    let fits : (x : ℕ) → x ≤ 127 → c.loop-i.acc + x * c.loop-i.scale < 2 ^ 63 = λ x h. let l =
+    c.loop-i in group_fits l.k l.scale l.acc x l.invariant.0 l.invariant.1 l.invariant.2 h in
     omega (arith, fits (c.wide-b.result - group) (low_bits))
 
 pub overflow_mul-scale : goal.overflow_mul-scale

@@ -6,7 +6,8 @@ use Rattle.packed_numbers.specs.Numbers.{group, groups_from}
 use Rattle.packed_numbers.proofs.long_number.Given as goal
 
 abbrev pub invariant-loop-i : goal.invariant-loop-i
-invariant-loop-i l = (l.scale ≡ group ^ l.k) × (l.k ≤ 8) × (l.acc < group ^ l.k) × (0 < l.k) × (groups_from 1 l.low l.from (drop l.from l.s) ≡ groups_from l.k l.acc l.i (drop l.i l.s))
+invariant-loop-i l = (l.scale ≡ group ^ l.k) × (l.k ≤ 8) × (l.acc < group ^ l.k) × (0 < l.k)
+    × (groups_from 1 l.low l.from (drop l.from l.s) ≡ groups_from l.k l.acc l.i (drop l.i l.s))
 
 abbrev pub decreases-loop-i : goal.decreases-loop-i
 decreases-loop-i l = length l.s - l.i

@@ -11,17 +11,32 @@ overflow_add-rest c = omega (arith, rest_small c.requires.0)
 
 pub overflow_add-result : goal.overflow_add-result
 overflow_add-result c =
-    let chosen : Chosen c.args.w c.args.pair c.if-trial-rest.bit c.if-trial-rest.growth = let w = c.args.w in let small : w.rest ≤ 2 * w.root = rest_small c.requires.0 in elim c.if-trial-rest.branch [ then-trial-rest k ↦ one (omega (arith, k.if-trial-rest.true)) k.bit-is (k.growth-is ∙ omega arith) | else-trial-rest k ↦ nought (omega (arith, k.if-trial-rest.false)) k.bit-is k.growth-is ] in
+    let chosen : Chosen c.args.w c.args.pair c.if-trial-rest.bit c.if-trial-rest.growth = let w = c.args.w in let small : w.rest ≤ 2 * w.root =
+    rest_small c.requires.0 in elim c.if-trial-rest.branch [
+      | then-trial-rest k ↦ one (omega (arith, k.if-trial-rest.true)) k.bit-is (k.growth-is ∙ omega arith)
+      | else-trial-rest k ↦ nought
+          (omega (arith, k.if-trial-rest.false)) k.bit-is k.growth-is
+    ] in
     omega (arith, bit_small (chosen))
 
 pub overflow_sub-result : goal.overflow_sub-result
 overflow_sub-result c =
-    let chosen : Chosen c.args.w c.args.pair c.if-trial-rest.bit c.if-trial-rest.growth = let w = c.args.w in let small : w.rest ≤ 2 * w.root = rest_small c.requires.0 in elim c.if-trial-rest.branch [ then-trial-rest k ↦ one (omega (arith, k.if-trial-rest.true)) k.bit-is (k.growth-is ∙ omega arith) | else-trial-rest k ↦ nought (omega (arith, k.if-trial-rest.false)) k.bit-is k.growth-is ] in
+    let chosen : Chosen c.args.w c.args.pair c.if-trial-rest.bit c.if-trial-rest.growth = let w = c.args.w in let small : w.rest ≤ 2 * w.root =
+    rest_small c.requires.0 in elim c.if-trial-rest.branch [
+      | then-trial-rest k ↦ one (omega (arith, k.if-trial-rest.true)) k.bit-is (k.growth-is ∙ omega arith)
+      | else-trial-rest k ↦ nought
+          (omega (arith, k.if-trial-rest.false)) k.bit-is k.growth-is
+    ] in
     omega (arith, growth_fits (chosen), rest_small c.requires.0)
 
 pub returns : goal.returns
 returns c =
-    let chosen : Chosen c.args.w c.args.pair c.if-trial-rest.bit c.if-trial-rest.growth = let w = c.args.w in let small : w.rest ≤ 2 * w.root = rest_small c.requires.0 in elim c.if-trial-rest.branch [ then-trial-rest k ↦ one (omega (arith, k.if-trial-rest.true)) k.bit-is (k.growth-is ∙ omega arith) | else-trial-rest k ↦ nought (omega (arith, k.if-trial-rest.false)) k.bit-is k.growth-is ] in
+    let chosen : Chosen c.args.w c.args.pair c.if-trial-rest.bit c.if-trial-rest.growth = let w = c.args.w in let small : w.rest ≤ 2 * w.root =
+    rest_small c.requires.0 in elim c.if-trial-rest.branch [
+      | then-trial-rest k ↦ one (omega (arith, k.if-trial-rest.true)) k.bit-is (k.growth-is ∙ omega arith)
+      | else-trial-rest k ↦ nought
+          (omega (arith, k.if-trial-rest.false)) k.bit-is k.growth-is
+    ] in
     let w = c.args.w in
     let small : w.rest ≤ 2 * w.root = rest_small c.requires.0 in
     let fits : c.if-trial-rest.growth ≤ 4 * w.rest + c.args.pair = growth_fits (chosen) in

@@ -11,13 +11,16 @@ step-s3-requires c = (c.requires.0, c.requires.1, c.requires.2, top_digit c.args
 
 pub step-s2-requires : goal.step-s2-requires
 step-s2-requires c =
-    let one : c.step-s3.result.q * c.args.d + c.step-s3.result.r ≡ c.args.a / (base * base * base) * c.args.b = (divided _ _ _ _ c.requires.0 c.step-s3.ensures).whole ∙ omega arith in
+    let one : c.step-s3.result.q * c.args.d + c.step-s3.result.r ≡ c.args.a / (base * base * base) * c.args.b =
+    (divided _ _ _ _ c.requires.0 c.step-s3.ensures).whole ∙ omega arith in
     ((divided _ _ _ _ c.requires.0 c.step-s3.ensures).rest, c.requires.1, c.requires.2, omega arith, next_fits _ _ _ _ _ _ (one) (omega arith) c.requires.3)
 
 pub step-s1-requires : goal.step-s1-requires
 step-s1-requires c =
-    let one : c.step-s3.result.q * c.args.d + c.step-s3.result.r ≡ c.args.a / (base * base * base) * c.args.b = (divided _ _ _ _ c.requires.0 c.step-s3.ensures).whole ∙ omega arith in
-    let two : c.step-s2.result.q * c.args.d + c.step-s2.result.r ≡ c.args.a / (base * base) * c.args.b = next_is _ _ _ _ _ _ (one) (divided _ _ _ _ c.requires.0 c.step-s2.ensures).whole (omega arith) in (
+    let one : c.step-s3.result.q * c.args.d + c.step-s3.result.r ≡ c.args.a / (base * base * base) * c.args.b =
+    (divided _ _ _ _ c.requires.0 c.step-s3.ensures).whole ∙ omega arith in
+    let two : c.step-s2.result.q * c.args.d + c.step-s2.result.r ≡ c.args.a / (base * base) * c.args.b =
+    next_is _ _ _ _ _ _ (one) (divided _ _ _ _ c.requires.0 c.step-s2.ensures).whole (omega arith) in (
       (divided _ _ _ _ c.requires.0 c.step-s2.ensures).rest,
       c.requires.1,
       c.requires.2,
@@ -27,9 +30,12 @@ step-s1-requires c =
 
 pub step-requires : goal.step-requires
 step-requires c =
-    let one : c.step-s3.result.q * c.args.d + c.step-s3.result.r ≡ c.args.a / (base * base * base) * c.args.b = (divided _ _ _ _ c.requires.0 c.step-s3.ensures).whole ∙ omega arith in
-    let two : c.step-s2.result.q * c.args.d + c.step-s2.result.r ≡ c.args.a / (base * base) * c.args.b = next_is _ _ _ _ _ _ (one) (divided _ _ _ _ c.requires.0 c.step-s2.ensures).whole (omega arith) in
-    let three : c.step-s1.result.q * c.args.d + c.step-s1.result.r ≡ c.args.a / base * c.args.b = next_is _ _ _ _ _ _ (two) (divided _ _ _ _ c.requires.0 c.step-s1.ensures).whole (omega arith) in (
+    let one : c.step-s3.result.q * c.args.d + c.step-s3.result.r ≡ c.args.a / (base * base * base) * c.args.b =
+    (divided _ _ _ _ c.requires.0 c.step-s3.ensures).whole ∙ omega arith in
+    let two : c.step-s2.result.q * c.args.d + c.step-s2.result.r ≡ c.args.a / (base * base) * c.args.b =
+    next_is _ _ _ _ _ _ (one) (divided _ _ _ _ c.requires.0 c.step-s2.ensures).whole (omega arith) in
+    let three : c.step-s1.result.q * c.args.d + c.step-s1.result.r ≡ c.args.a / base * c.args.b =
+    next_is _ _ _ _ _ _ (two) (divided _ _ _ _ c.requires.0 c.step-s1.ensures).whole (omega arith) in (
       (divided _ _ _ _ c.requires.0 c.step-s1.ensures).rest,
       c.requires.1,
       c.requires.2,
@@ -39,8 +45,11 @@ step-requires c =
 
 pub returns : goal.returns
 returns c =
-    let one : c.step-s3.result.q * c.args.d + c.step-s3.result.r ≡ c.args.a / (base * base * base) * c.args.b = (divided _ _ _ _ c.requires.0 c.step-s3.ensures).whole ∙ omega arith in
-    let two : c.step-s2.result.q * c.args.d + c.step-s2.result.r ≡ c.args.a / (base * base) * c.args.b = next_is _ _ _ _ _ _ (one) (divided _ _ _ _ c.requires.0 c.step-s2.ensures).whole (omega arith) in
-    let three : c.step-s1.result.q * c.args.d + c.step-s1.result.r ≡ c.args.a / base * c.args.b = next_is _ _ _ _ _ _ (two) (divided _ _ _ _ c.requires.0 c.step-s1.ensures).whole (omega arith) in
+    let one : c.step-s3.result.q * c.args.d + c.step-s3.result.r ≡ c.args.a / (base * base * base) * c.args.b =
+    (divided _ _ _ _ c.requires.0 c.step-s3.ensures).whole ∙ omega arith in
+    let two : c.step-s2.result.q * c.args.d + c.step-s2.result.r ≡ c.args.a / (base * base) * c.args.b =
+    next_is _ _ _ _ _ _ (one) (divided _ _ _ _ c.requires.0 c.step-s2.ensures).whole (omega arith) in
+    let three : c.step-s1.result.q * c.args.d + c.step-s1.result.r ≡ c.args.a / base * c.args.b =
+    next_is _ _ _ _ _ _ (two) (divided _ _ _ _ c.requires.0 c.step-s1.ensures).whole (omega arith) in
     let l = divided _ _ _ _ c.requires.0 c.step.ensures in
     quotient _ _ _ _ (record { rest = l.rest; whole = next_is _ _ _ _ _ _ (three) l.whole (omega arith) })

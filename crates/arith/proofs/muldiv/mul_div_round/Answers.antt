@@ -16,7 +16,8 @@ mul_div-z-requires c =
 
 pub nearest-requires : goal.nearest-requires
 nearest-requires c =
-    let product : Divided (c.abs.result * c.abs-2.result) c.args.d c.mul_div-z.result.q c.mul_div-z.result.r = divided _ _ _ _ c.requires.0 c.mul_div-z.ensures in
+    let product : Divided (c.abs.result * c.abs-2.result) c.args.d c.mul_div-z.result.q c.mul_div-z.result.r =
+    divided _ _ _ _ c.requires.0 c.mul_div-z.ensures in
     let at_a : c.abs.result ≡ nat_abs c.args.a = rw (back c.args.a c.ranges.a) at c.abs.ensures in
     let at_b : c.abs-2.result ≡ nat_abs c.args.b = rw (back c.args.b c.ranges.b) at c.abs-2.ensures in
     let small : c.abs.result * c.abs-2.result < c.args.d * (2 ^ 63 - 1) = rw (at_a, at_b) c.requires.3 in
@@ -25,7 +26,8 @@ nearest-requires c =
 
 pub of_parts-requires : goal.of_parts-requires
 of_parts-requires c =
-    let product : Divided (c.abs.result * c.abs-2.result) c.args.d c.mul_div-z.result.q c.mul_div-z.result.r = divided _ _ _ _ c.requires.0 c.mul_div-z.ensures in
+    let product : Divided (c.abs.result * c.abs-2.result) c.args.d c.mul_div-z.result.q c.mul_div-z.result.r =
+    divided _ _ _ _ c.requires.0 c.mul_div-z.ensures in
     let at_a : c.abs.result ≡ nat_abs c.args.a = rw (back c.args.a c.ranges.a) at c.abs.ensures in
     let at_b : c.abs-2.result ≡ nat_abs c.args.b = rw (back c.args.b c.ranges.b) at c.abs-2.ensures in
     let small : c.abs.result * c.abs-2.result < c.args.d * (2 ^ 63 - 1) = rw (at_a, at_b) c.requires.3 in
@@ -38,7 +40,8 @@ pub returns : goal.returns
 returns c =
     let at_a : c.abs.result ≡ nat_abs c.args.a = rw (back c.args.a c.ranges.a) at c.abs.ensures in
     let at_b : c.abs-2.result ≡ nat_abs c.args.b = rw (back c.args.b c.ranges.b) at c.abs-2.ensures in
-    let product : Divided (c.abs.result * c.abs-2.result) c.args.d c.mul_div-z.result.q c.mul_div-z.result.r = divided _ _ _ _ c.requires.0 c.mul_div-z.ensures in
+    let product : Divided (c.abs.result * c.abs-2.result) c.args.d c.mul_div-z.result.q c.mul_div-z.result.r =
+    divided _ _ _ _ c.requires.0 c.mul_div-z.ensures in
     back c.of_parts.result (ok c.of_parts.type_inv) ∙ c.of_parts.ensures
     ∙ rounded_mul c.args.a c.args.b c.args.d c.mul_div-z.result.q c.mul_div-z.result.r c.nearest.result
     c.signs_differ-neg.result c.requires.0

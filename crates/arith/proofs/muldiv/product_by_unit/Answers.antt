@@ -12,12 +12,14 @@ overflow_mul-p c = record { fits = low_factor c.args.m c.args.k U _ (lit< tt) (l
 
 pub overflow_mul-result : goal.overflow_mul-result
 overflow_mul-result c =
-    let whole : c.args.m / U * c.args.k + c.args.m % U * c.args.k / U < 2 ^ 64 = split_below c.args.m c.args.k U _ (lit< tt) (small_factor c.args.m c.args.k U _ (lit< tt) c.requires c.ranges.m.fits) in
+    let whole : c.args.m / U * c.args.k + c.args.m % U * c.args.k / U < 2 ^ 64 =
+    split_below c.args.m c.args.k U _ (lit< tt) (small_factor c.args.m c.args.k U _ (lit< tt) c.requires c.ranges.m.fits) in
     record { fits = le_left _ _ (whole) }
 
 pub overflow_add-result : goal.overflow_add-result
 overflow_add-result c =
-    let whole : c.args.m / U * c.args.k + c.args.m % U * c.args.k / U < 2 ^ 64 = split_below c.args.m c.args.k U _ (lit< tt) (small_factor c.args.m c.args.k U _ (lit< tt) c.requires c.ranges.m.fits) in
+    let whole : c.args.m / U * c.args.k + c.args.m % U * c.args.k / U < 2 ^ 64 =
+    split_below c.args.m c.args.k U _ (lit< tt) (small_factor c.args.m c.args.k U _ (lit< tt) c.requires c.ranges.m.fits) in
     record { fits = whole }
 
 pub returns : goal.returns

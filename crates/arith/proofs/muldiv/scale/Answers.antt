@@ -18,7 +18,8 @@ product_by_unit-z-requires c =
 
 pub nearest-requires : goal.nearest-requires
 nearest-requires c =
-    let product : Divided (c.abs.result * c.abs-2.result) U c.product_by_unit-z.result.q c.product_by_unit-z.result.r = divided _ _ _ _ (lit< tt) c.product_by_unit-z.ensures in
+    let product : Divided (c.abs.result * c.abs-2.result) U c.product_by_unit-z.result.q c.product_by_unit-z.result.r =
+    divided _ _ _ _ (lit< tt) c.product_by_unit-z.ensures in
     let at_a : c.abs.result ≡ nat_abs c.args.a = rw (back c.args.a c.ranges.a) at c.abs.ensures in
     let at_c : c.abs-2.result ≡ nat_abs c.args.c = rw (back c.args.c c.ranges.c) at c.abs-2.ensures in
     let most : c.abs.result * c.abs-2.result ≤ nat_abs c.args.a * U = rw (at_a, at_c) (mul-le-mul_left (nat_abs c.args.a) c.requires.1) in
@@ -29,7 +30,8 @@ nearest-requires c =
 
 pub of_parts-requires : goal.of_parts-requires
 of_parts-requires c =
-    let product : Divided (c.abs.result * c.abs-2.result) U c.product_by_unit-z.result.q c.product_by_unit-z.result.r = divided _ _ _ _ (lit< tt) c.product_by_unit-z.ensures in
+    let product : Divided (c.abs.result * c.abs-2.result) U c.product_by_unit-z.result.q c.product_by_unit-z.result.r =
+    divided _ _ _ _ (lit< tt) c.product_by_unit-z.ensures in
     let at_a : c.abs.result ≡ nat_abs c.args.a = rw (back c.args.a c.ranges.a) at c.abs.ensures in
     let at_c : c.abs-2.result ≡ nat_abs c.args.c = rw (back c.args.c c.ranges.c) at c.abs-2.ensures in
     let most : c.abs.result * c.abs-2.result ≤ nat_abs c.args.a * U = rw (at_a, at_c) (mul-le-mul_left (nat_abs c.args.a) c.requires.1) in
@@ -43,7 +45,8 @@ pub returns : goal.returns
 returns c =
     let at_a : c.abs.result ≡ nat_abs c.args.a = rw (back c.args.a c.ranges.a) at c.abs.ensures in
     let at_c : c.abs-2.result ≡ nat_abs c.args.c = rw (back c.args.c c.ranges.c) at c.abs-2.ensures in
-    let product : Divided (c.abs.result * c.abs-2.result) U c.product_by_unit-z.result.q c.product_by_unit-z.result.r = divided _ _ _ _ (lit< tt) c.product_by_unit-z.ensures in
+    let product : Divided (c.abs.result * c.abs-2.result) U c.product_by_unit-z.result.q c.product_by_unit-z.result.r =
+    divided _ _ _ _ (lit< tt) c.product_by_unit-z.ensures in
     back c.of_parts.result (ok c.of_parts.type_inv) ∙ c.of_parts.ensures
     ∙ rounded_mul c.args.a c.args.c U c.product_by_unit-z.result.q c.product_by_unit-z.result.r c.nearest.result
     c.signs_differ-neg.result (lit< tt)

@@ -9,12 +9,14 @@ overflow_mul-x c = record { fits = times_base c.requires.0 c.requires.1 }
 
 pub overflow_mul-x-2 : goal.overflow_mul-x-2
 overflow_mul-x-2 c =
-    let sum : c.args.r * base + c.args.g * c.args.b < 2 ^ 64 = sum_fits c.args.r c.args.g c.args.b c.args.d c.requires.0 c.requires.1 c.requires.2 c.requires.3 in
+    let sum : c.args.r * base + c.args.g * c.args.b < 2 ^ 64 =
+    sum_fits c.args.r c.args.g c.args.b c.args.d c.requires.0 c.requires.1 c.requires.2 c.requires.3 in
     record { fits = le_right _ _ (sum) }
 
 pub overflow_add-x : goal.overflow_add-x
 overflow_add-x c =
-    let sum : c.args.r * base + c.args.g * c.args.b < 2 ^ 64 = sum_fits c.args.r c.args.g c.args.b c.args.d c.requires.0 c.requires.1 c.requires.2 c.requires.3 in
+    let sum : c.args.r * base + c.args.g * c.args.b < 2 ^ 64 =
+    sum_fits c.args.r c.args.g c.args.b c.args.d c.requires.0 c.requires.1 c.requires.2 c.requires.3 in
     record { fits = sum }
 
 pub overflow_mul-result : goal.overflow_mul-result

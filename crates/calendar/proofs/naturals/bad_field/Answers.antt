@@ -38,14 +38,37 @@ overflow_add-key-2 c = let s = c.args in omega (arith, month_le s.index s.month,
 pub returns-then-key-lt-SKIPPED_KEY : goal.returns-then-key-lt-SKIPPED_KEY
 unfolding bad_field
 returns-then-key-lt-SKIPPED_KEY c =
-    simp (ne_eqb _ _ c.if-index-eq0.false, ne_eqb _ _ c.if-month-eq0.false, le-ltb _ _ c.if-month-gt12.false, ne_eqb _ _ c.if-day-eq0.false, le-ltb _ _ (rw c.month_length.ensures at c.if-month_length-day.false), lt-ltb _ _ c.if-key-lt-SKIPPED_KEY.true)
+    simp (
+      ne_eqb _ _ c.if-index-eq0.false,
+      ne_eqb _ _ c.if-month-eq0.false,
+      le-ltb _ _ c.if-month-gt12.false,
+      ne_eqb _ _ c.if-day-eq0.false,
+      le-ltb _ _ (rw c.month_length.ensures at c.if-month_length-day.false),
+      lt-ltb _ _ c.if-key-lt-SKIPPED_KEY.true,
+    )
 
 pub returns-then-key-lt-GREGORIAN_KEY : goal.returns-then-key-lt-GREGORIAN_KEY
 unfolding bad_field
 returns-then-key-lt-GREGORIAN_KEY c =
-    simp (ne_eqb _ _ c.if-index-eq0.false, ne_eqb _ _ c.if-month-eq0.false, le-ltb _ _ c.if-month-gt12.false, ne_eqb _ _ c.if-day-eq0.false, le-ltb _ _ (rw c.month_length.ensures at c.if-month_length-day.false), le-ltb _ _ c.if-key-lt-SKIPPED_KEY.false, lt-ltb _ _ c.if-key-lt-GREGORIAN_KEY.true)
+    simp (
+      ne_eqb _ _ c.if-index-eq0.false,
+      ne_eqb _ _ c.if-month-eq0.false,
+      le-ltb _ _ c.if-month-gt12.false,
+      ne_eqb _ _ c.if-day-eq0.false,
+      le-ltb _ _ (rw c.month_length.ensures at c.if-month_length-day.false),
+      le-ltb _ _ c.if-key-lt-SKIPPED_KEY.false,
+      lt-ltb _ _ c.if-key-lt-GREGORIAN_KEY.true,
+    )
 
 pub returns : goal.returns
 unfolding bad_field
 returns c =
-    simp (ne_eqb _ _ c.if-index-eq0.false, ne_eqb _ _ c.if-month-eq0.false, le-ltb _ _ c.if-month-gt12.false, ne_eqb _ _ c.if-day-eq0.false, le-ltb _ _ (rw c.month_length.ensures at c.if-month_length-day.false), le-ltb _ _ c.if-key-lt-SKIPPED_KEY.false, le-ltb _ _ c.if-key-lt-GREGORIAN_KEY.false)
+    simp (
+      ne_eqb _ _ c.if-index-eq0.false,
+      ne_eqb _ _ c.if-month-eq0.false,
+      le-ltb _ _ c.if-month-gt12.false,
+      ne_eqb _ _ c.if-day-eq0.false,
+      le-ltb _ _ (rw c.month_length.ensures at c.if-month_length-day.false),
+      le-ltb _ _ c.if-key-lt-SKIPPED_KEY.false,
+      le-ltb _ _ c.if-key-lt-GREGORIAN_KEY.false,
+    )

@@ -17,8 +17,14 @@ returns-then-index-ne0-2 c = simp (eq-eqb _ _ c.if-index-ne0.false, lt-leb _ _ c
 
 pub returns-then-index-ne0-3 : goal.returns-then-index-ne0-3
 unfolding leap_day
-returns-then-index-ne0-3 c = simp (eq-eqb _ _ c.if-index-ne0.false, lt-leb _ _ c.if-index-le-REFORM_INDEX.false, eq-eqb _ _ c.if-index-ne0-2.false, ne_eqb _ _ c.if-index-ne0-3.true)
+returns-then-index-ne0-3 c =
+    simp (eq-eqb _ _ c.if-index-ne0.false, lt-leb _ _ c.if-index-le-REFORM_INDEX.false, eq-eqb _ _ c.if-index-ne0-2.false, ne_eqb _ _ c.if-index-ne0-3.true)
 
 pub returns : goal.returns
 unfolding leap_day
-returns c = simp (eq-eqb _ _ c.if-index-ne0.false, lt-leb _ _ c.if-index-le-REFORM_INDEX.false, eq-eqb _ _ c.if-index-ne0-2.false, eq-eqb _ _ c.if-index-ne0-3.false)
+returns c = simp (
+  eq-eqb _ _ c.if-index-ne0.false,
+  lt-leb _ _ c.if-index-le-REFORM_INDEX.false,
+  eq-eqb _ _ c.if-index-ne0-2.false,
+  eq-eqb _ _ c.if-index-ne0-3.false,
+)

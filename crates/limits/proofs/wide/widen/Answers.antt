@@ -14,12 +14,14 @@ returns-then-not-w c = let a = c.args in rw (not-true a.w.good c.if-not-w.true)
 
 pub overflow_mul-f : goal.overflow_mul-f
 overflow_mul-f c =
-    let added-small : c.block_factor-f.result * (c.args.after.coarse - c.begin-from.result) ≤ factor_limit * coarse_limit = grown_small _ _ _ c.block_factor-f.ensures.1 c.requires.within in
+    let added-small : c.block_factor-f.result * (c.args.after.coarse - c.begin-from.result) ≤ factor_limit * coarse_limit =
+    grown_small _ _ _ c.block_factor-f.ensures.1 c.requires.within in
     omega (arith, added-small)
 
 pub overflow_add-held : goal.overflow_add-held
 overflow_add-held c =
-    let added-small : c.block_factor-f.result * (c.args.after.coarse - c.begin-from.result) ≤ factor_limit * coarse_limit = grown_small _ _ _ c.block_factor-f.ensures.1 c.requires.within in
+    let added-small : c.block_factor-f.result * (c.args.after.coarse - c.begin-from.result) ≤ factor_limit * coarse_limit =
+    grown_small _ _ _ c.block_factor-f.ensures.1 c.requires.within in
     let b = c.begin-held in
     let g = not-false c.args.w.good c.if-not-w.false in
     let h = held_small c.args.k c.args.w.sum b.result b.ensures (c.requires.small g) in

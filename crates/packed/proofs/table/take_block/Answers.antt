@@ -15,13 +15,13 @@ use Rattle.packed.proofs.table.take_block.Goals as goal
 pub overflow_sub-result : goal.overflow_sub-result
 overflow_sub-result c =
     let read : Got c.args.bytes.now (c.args.at + 1) (number c.args.at (drop c.args.at c.args.bytes.now)) c.in-Value.count c.in-Value.to =
-        got_plain _ _ (number_after c.args.bytes.now c.args.at) (sym c.number_at-n.ensures ∙ c.in-Value.is) in
+    got_plain _ _ (number_after c.args.bytes.now c.args.at) (sym c.number_at-n.ensures ∙ c.in-Value.is) in
     omega (arith, (read).forward)
 
 pub returns-then-not-count_fits : goal.returns-then-not-count_fits
 returns-then-not-count_fits c =
     let read : Got c.args.bytes.now (c.args.at + 1) (number c.args.at (drop c.args.at c.args.bytes.now)) c.in-Value.count c.in-Value.to =
-        got_plain _ _ (number_after c.args.bytes.now c.args.at) (sym c.number_at-n.ensures ∙ c.in-Value.is) in
+    got_plain _ _ (number_after c.args.bytes.now c.args.at) (sym c.number_at-n.ensures ∙ c.in-Value.is) in
     let a = c.args in
     let n = sym c.count_fits.ensures ∙ c.if-not-count_fits.true in
     let e = block_over a.k a.tally a.at _ _ _ _ (read).is n in
@@ -54,7 +54,7 @@ returns-in-Bad c =
 pub returns-else-not-count_fits : goal.returns-else-not-count_fits
 returns-else-not-count_fits c =
     let read : Got c.args.bytes.now (c.args.at + 1) (number c.args.at (drop c.args.at c.args.bytes.now)) c.in-Value.count c.in-Value.to =
-        got_plain _ _ (number_after c.args.bytes.now c.args.at) (sym c.number_at-n.ensures ∙ c.in-Value.is) in
+    got_plain _ _ (number_after c.args.bytes.now c.args.at) (sym c.number_at-n.ensures ∙ c.in-Value.is) in
     let fits : count_fits c.args.tally c.in-Value.count ≡ true = sym c.count_fits.ensures ∙ c.if-not-count_fits.false in
     let a = c.args in
     let n = c.in-Value in

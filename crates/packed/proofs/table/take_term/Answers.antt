@@ -14,8 +14,8 @@ use Rattle.packed.proofs.table.take_term.Goals as goal
 pub add_term-requires : goal.add_term-requires
 add_term-requires c =
     let found : read_term c.args.f c.args.tally c.args.at (drop c.args.at c.args.bytes.now) ≡
-        got (term_of c.in-Found.a c.in-Found.b c.in-Found.c) c.in-Found.to (drop c.in-Found.to c.args.bytes.now) =
-        was_found _ _ _ _ (term_after c.args.bytes.now c.args.f c.args.tally c.args.at) (sym c.read_term_at-t.ensures ∙ c.in-Found.is) in
+    got (term_of c.in-Found.a c.in-Found.b c.in-Found.c) c.in-Found.to (drop c.in-Found.to c.args.bytes.now) =
+    was_found _ _ _ _ (term_after c.args.bytes.now c.args.f c.args.tally c.args.at) (sym c.read_term_at-t.ensures ∙ c.in-Found.is) in
     let m = c.magnitude.ensures in
     let n = c.magnitude-in-Found.ensures in
     let p = all_pass _ _ (term_of _ _ _) (term_accepted _ _ _ _ (found)).passes in
@@ -29,8 +29,8 @@ returns-in-Wrong c =
 pub returns-in-Found : goal.returns-in-Found
 returns-in-Found c =
     let found : read_term c.args.f c.args.tally c.args.at (drop c.args.at c.args.bytes.now) ≡
-        got (term_of c.in-Found.a c.in-Found.b c.in-Found.c) c.in-Found.to (drop c.in-Found.to c.args.bytes.now) =
-        was_found _ _ _ _ (term_after c.args.bytes.now c.args.f c.args.tally c.args.at) (sym c.read_term_at-t.ensures ∙ c.in-Found.is) in
+    got (term_of c.in-Found.a c.in-Found.b c.in-Found.c) c.in-Found.to (drop c.in-Found.to c.args.bytes.now) =
+    was_found _ _ _ _ (term_after c.args.bytes.now c.args.f c.args.tally c.args.at) (sym c.read_term_at-t.ensures ∙ c.in-Found.is) in
     let e = found in
     let m = c.magnitude.ensures in
     let n = c.magnitude-in-Found.ensures in

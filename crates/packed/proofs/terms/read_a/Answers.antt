@@ -15,13 +15,13 @@ use Rattle.packed.proofs.terms.read_a.Goals as goal
 pub overflow_sub-result : goal.overflow_sub-result
 overflow_sub-result c =
     let read : Got c.args.bytes.now (c.args.at + 1) (number c.args.at (drop c.args.at c.args.bytes.now)) c.in-Value.v c.in-Value.to =
-        got_plain _ _ (number_after c.args.bytes.now c.args.at) (sym c.number_at-n.ensures ∙ c.in-Value.is) in
+    got_plain _ _ (number_after c.args.bytes.now c.args.at) (sym c.number_at-n.ensures ∙ c.in-Value.is) in
     omega (arith, (read).forward)
 
 pub returns-then-not-a_fits : goal.returns-then-not-a_fits
 returns-then-not-a_fits c =
     let read : Got c.args.bytes.now (c.args.at + 1) (number c.args.at (drop c.args.at c.args.bytes.now)) c.in-Value.v c.in-Value.to =
-        got_plain _ _ (number_after c.args.bytes.now c.args.at) (sym c.number_at-n.ensures ∙ c.in-Value.is) in
+    got_plain _ _ (number_after c.args.bytes.now c.args.at) (sym c.number_at-n.ensures ∙ c.in-Value.is) in
     show_bad folded
     (a_over _ _ _ _ _ _ (read).is
     (sym (a_size _ c.magnitude-m.ensures) ∙ (sym c.a_fits.ensures ∙ c.if-not-a_fits.true)))
@@ -29,13 +29,13 @@ returns-then-not-a_fits c =
 pub overflow_sub-result-then-not-total_fits : goal.overflow_sub-result-then-not-total_fits
 overflow_sub-result-then-not-total_fits c =
     let read : Got c.args.bytes.now (c.args.at + 1) (number c.args.at (drop c.args.at c.args.bytes.now)) c.in-Value.v c.in-Value.to =
-        got_plain _ _ (number_after c.args.bytes.now c.args.at) (sym c.number_at-n.ensures ∙ c.in-Value.is) in
+    got_plain _ _ (number_after c.args.bytes.now c.args.at) (sym c.number_at-n.ensures ∙ c.in-Value.is) in
     omega (arith, (read).forward)
 
 pub returns-then-not-total_fits : goal.returns-then-not-total_fits
 returns-then-not-total_fits c =
     let read : Got c.args.bytes.now (c.args.at + 1) (number c.args.at (drop c.args.at c.args.bytes.now)) c.in-Value.v c.in-Value.to =
-        got_plain _ _ (number_after c.args.bytes.now c.args.at) (sym c.number_at-n.ensures ∙ c.in-Value.is) in
+    got_plain _ _ (number_after c.args.bytes.now c.args.at) (sym c.number_at-n.ensures ∙ c.in-Value.is) in
     let a-passed : a_fits (unfolded c.in-Value.v) ≡ true = sym (a_size _ c.magnitude-m.ensures) ∙ (sym c.a_fits.ensures ∙ c.if-not-a_fits.false) in
     let m = c.magnitude-m.ensures in
     show_bad folded
@@ -50,7 +50,7 @@ returns-in-Bad c =
 pub returns-else-not-total_fits : goal.returns-else-not-total_fits
 returns-else-not-total_fits c =
     let read : Got c.args.bytes.now (c.args.at + 1) (number c.args.at (drop c.args.at c.args.bytes.now)) c.in-Value.v c.in-Value.to =
-        got_plain _ _ (number_after c.args.bytes.now c.args.at) (sym c.number_at-n.ensures ∙ c.in-Value.is) in
+    got_plain _ _ (number_after c.args.bytes.now c.args.at) (sym c.number_at-n.ensures ∙ c.in-Value.is) in
     let a-passed : a_fits (unfolded c.in-Value.v) ≡ true = sym (a_size _ c.magnitude-m.ensures) ∙ (sym c.a_fits.ensures ∙ c.if-not-a_fits.false) in
     let m = c.magnitude-m.ensures in
     show_folded

@@ -12,13 +12,13 @@ use Rattle.packed.proofs.terms.read_b.Goals as goal
 pub overflow_sub-result : goal.overflow_sub-result
 overflow_sub-result c =
     let read : Got c.args.bytes.now (c.args.at + 1) (number c.args.at (drop c.args.at c.args.bytes.now)) c.in-Value.v c.in-Value.to =
-        got_plain _ _ (number_after c.args.bytes.now c.args.at) (sym c.number_at-n.ensures ∙ c.in-Value.is) in
+    got_plain _ _ (number_after c.args.bytes.now c.args.at) (sym c.number_at-n.ensures ∙ c.in-Value.is) in
     omega (arith, (read).forward)
 
 pub returns-then-not-b_fits : goal.returns-then-not-b_fits
 returns-then-not-b_fits c =
     let read : Got c.args.bytes.now (c.args.at + 1) (number c.args.at (drop c.args.at c.args.bytes.now)) c.in-Value.v c.in-Value.to =
-        got_plain _ _ (number_after c.args.bytes.now c.args.at) (sym c.number_at-n.ensures ∙ c.in-Value.is) in
+    got_plain _ _ (number_after c.args.bytes.now c.args.at) (sym c.number_at-n.ensures ∙ c.in-Value.is) in
     show_bad plain (b_over _ _ _ _ _ (read).is (sym c.b_fits.ensures ∙ c.if-not-b_fits.true))
 
 pub returns-in-Bad : goal.returns-in-Bad
@@ -29,5 +29,5 @@ returns-in-Bad c =
 pub returns-else-not-b_fits : goal.returns-else-not-b_fits
 returns-else-not-b_fits c =
     let read : Got c.args.bytes.now (c.args.at + 1) (number c.args.at (drop c.args.at c.args.bytes.now)) c.in-Value.v c.in-Value.to =
-        got_plain _ _ (number_after c.args.bytes.now c.args.at) (sym c.number_at-n.ensures ∙ c.in-Value.is) in
+    got_plain _ _ (number_after c.args.bytes.now c.args.at) (sym c.number_at-n.ensures ∙ c.in-Value.is) in
     show_plain (b_got _ _ _ _ _ (read).is (sym c.b_fits.ensures ∙ c.if-not-b_fits.false))

@@ -16,13 +16,13 @@ use Rattle.packed.proofs.terms.read_c.Goals as goal
 pub overflow_sub-result : goal.overflow_sub-result
 overflow_sub-result c =
     let read : Got c.args.bytes.now (c.args.at + 1) (number c.args.at (drop c.args.at c.args.bytes.now)) c.in-Value.v c.in-Value.to =
-        got_plain _ _ (number_after c.args.bytes.now c.args.at) (sym c.number_at-n.ensures ∙ c.in-Value.is) in
+    got_plain _ _ (number_after c.args.bytes.now c.args.at) (sym c.number_at-n.ensures ∙ c.in-Value.is) in
     omega (arith, (read).forward)
 
 pub returns-then-not-c_fits : goal.returns-then-not-c_fits
 returns-then-not-c_fits c =
     let read : Got c.args.bytes.now (c.args.at + 1) (number c.args.at (drop c.args.at c.args.bytes.now)) c.in-Value.v c.in-Value.to =
-        got_plain _ _ (number_after c.args.bytes.now c.args.at) (sym c.number_at-n.ensures ∙ c.in-Value.is) in
+    got_plain _ _ (number_after c.args.bytes.now c.args.at) (sym c.number_at-n.ensures ∙ c.in-Value.is) in
     show_bad folded
     (c_over _ _ _ _ _ _ _ _ _ (read).is
     (sym (c_size _ c.magnitude-size.ensures) ∙ (sym c.c_fits.ensures ∙ c.if-not-c_fits.true)))
@@ -34,13 +34,13 @@ coarse_fits-requires c = (c.requires.0, rw c.magnitude.ensures (ltb-true _ _ c.r
 pub overflow_sub-result-then-not-coarse_fits : goal.overflow_sub-result-then-not-coarse_fits
 overflow_sub-result-then-not-coarse_fits c =
     let read : Got c.args.bytes.now (c.args.at + 1) (number c.args.at (drop c.args.at c.args.bytes.now)) c.in-Value.v c.in-Value.to =
-        got_plain _ _ (number_after c.args.bytes.now c.args.at) (sym c.number_at-n.ensures ∙ c.in-Value.is) in
+    got_plain _ _ (number_after c.args.bytes.now c.args.at) (sym c.number_at-n.ensures ∙ c.in-Value.is) in
     omega (arith, (read).forward)
 
 pub returns-then-not-coarse_fits : goal.returns-then-not-coarse_fits
 returns-then-not-coarse_fits c =
     let read : Got c.args.bytes.now (c.args.at + 1) (number c.args.at (drop c.args.at c.args.bytes.now)) c.in-Value.v c.in-Value.to =
-        got_plain _ _ (number_after c.args.bytes.now c.args.at) (sym c.number_at-n.ensures ∙ c.in-Value.is) in
+    got_plain _ _ (number_after c.args.bytes.now c.args.at) (sym c.number_at-n.ensures ∙ c.in-Value.is) in
     let c-passed : c_fits (unfolded c.in-Value.v) ≡ true = sym (c_size _ c.magnitude-size.ensures) ∙ (sym c.c_fits.ensures ∙ c.if-not-c_fits.false) in
     let m = c.magnitude.ensures in
     let n = c.magnitude-size.ensures in
@@ -56,7 +56,7 @@ returns-in-Bad c =
 pub returns-else-not-coarse_fits : goal.returns-else-not-coarse_fits
 returns-else-not-coarse_fits c =
     let read : Got c.args.bytes.now (c.args.at + 1) (number c.args.at (drop c.args.at c.args.bytes.now)) c.in-Value.v c.in-Value.to =
-        got_plain _ _ (number_after c.args.bytes.now c.args.at) (sym c.number_at-n.ensures ∙ c.in-Value.is) in
+    got_plain _ _ (number_after c.args.bytes.now c.args.at) (sym c.number_at-n.ensures ∙ c.in-Value.is) in
     let c-passed : c_fits (unfolded c.in-Value.v) ≡ true = sym (c_size _ c.magnitude-size.ensures) ∙ (sym c.c_fits.ensures ∙ c.if-not-c_fits.false) in
     let m = c.magnitude.ensures in
     let n = c.magnitude-size.ensures in

@@ -13,7 +13,7 @@ use Rattle.packed.proofs.terms.read_term_slowly.Goals as goal
 pub read_c-rc-requires : goal.read_c-rc-requires
 read_c-rc-requires c =
     let got-a : Got c.args.bytes.now (c.args.at + 1) (read_a c.args.tally c.args.at (drop c.args.at c.args.bytes.now)) (unfolded c.in-Value.a) c.in-Value.at_b =
-        got_folded _ _ (a_after c.args.bytes.now c.args.at c.args.tally) (sym c.read_a-ra.ensures ∙ c.in-Value.is) in
+    got_folded _ _ (a_after c.args.bytes.now c.args.at c.args.tally) (sym c.read_a-ra.ensures ∙ c.in-Value.is) in
     (c.requires, (a_accepted _ _ _ (got-a).is).good.fits)
 
 pub returns-in-Bad : goal.returns-in-Bad
@@ -24,25 +24,25 @@ returns-in-Bad c =
 pub returns-in-Bad-rb : goal.returns-in-Bad-rb
 returns-in-Bad-rb c =
     let got-a : Got c.args.bytes.now (c.args.at + 1) (read_a c.args.tally c.args.at (drop c.args.at c.args.bytes.now)) (unfolded c.in-Value.a) c.in-Value.at_b =
-        got_folded _ _ (a_after c.args.bytes.now c.args.at c.args.tally) (sym c.read_a-ra.ensures ∙ c.in-Value.is) in
+    got_folded _ _ (a_after c.args.bytes.now c.args.at c.args.tally) (sym c.read_a-ra.ensures ∙ c.in-Value.is) in
     let e = sym c.read_b-rb.ensures ∙ c.in-Bad-rb.is in
     show_wrong (term_bad_b _ _ _ _ _ _ _ (got-a).is _ (was_bad plain _ _ e))
 
 pub returns-in-Bad-rc : goal.returns-in-Bad-rc
 returns-in-Bad-rc c =
     let got-a : Got c.args.bytes.now (c.args.at + 1) (read_a c.args.tally c.args.at (drop c.args.at c.args.bytes.now)) (unfolded c.in-Value.a) c.in-Value.at_b =
-        got_folded _ _ (a_after c.args.bytes.now c.args.at c.args.tally) (sym c.read_a-ra.ensures ∙ c.in-Value.is) in
+    got_folded _ _ (a_after c.args.bytes.now c.args.at c.args.tally) (sym c.read_a-ra.ensures ∙ c.in-Value.is) in
     let got-b : Got c.args.bytes.now (c.in-Value.at_b + 1) (read_b c.in-Value.at_b (drop c.in-Value.at_b c.args.bytes.now)) c.in-Value-rb.b c.in-Value-rb.at_c =
-        let a = c.args in let at = c.in-Value.at_b in got_plain _ _ (b_after a.bytes.now at) (sym c.read_b-rb.ensures ∙ c.in-Value-rb.is) in
+    let a = c.args in let at = c.in-Value.at_b in got_plain _ _ (b_after a.bytes.now at) (sym c.read_b-rb.ensures ∙ c.in-Value-rb.is) in
     let e = sym c.read_c-rc.ensures ∙ c.in-Bad-rc.is in
     show_wrong (term_bad_c _ _ _ _ _ _ _ (got-a).is _ _ _ (got-b).is _ (was_bad folded _ _ e))
 
 pub returns-in-Value-rc : goal.returns-in-Value-rc
 returns-in-Value-rc c =
     let got-a : Got c.args.bytes.now (c.args.at + 1) (read_a c.args.tally c.args.at (drop c.args.at c.args.bytes.now)) (unfolded c.in-Value.a) c.in-Value.at_b =
-        got_folded _ _ (a_after c.args.bytes.now c.args.at c.args.tally) (sym c.read_a-ra.ensures ∙ c.in-Value.is) in
+    got_folded _ _ (a_after c.args.bytes.now c.args.at c.args.tally) (sym c.read_a-ra.ensures ∙ c.in-Value.is) in
     let got-b : Got c.args.bytes.now (c.in-Value.at_b + 1) (read_b c.in-Value.at_b (drop c.in-Value.at_b c.args.bytes.now)) c.in-Value-rb.b c.in-Value-rb.at_c =
-        let a = c.args in let at = c.in-Value.at_b in got_plain _ _ (b_after a.bytes.now at) (sym c.read_b-rb.ensures ∙ c.in-Value-rb.is) in
+    let a = c.args in let at = c.in-Value.at_b in got_plain _ _ (b_after a.bytes.now at) (sym c.read_b-rb.ensures ∙ c.in-Value-rb.is) in
     let s = c.args in
     let n = c.in-Value-rb in
     let l = c_after s.bytes.now s.f s.tally (unfolded c.in-Value.a) n.b n.at_c in
