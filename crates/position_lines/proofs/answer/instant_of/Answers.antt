@@ -2,15 +2,11 @@
 use mathlib.Core.Path.{◌≡◌}
 use borrow.Author.Rules.{rules}
 use Rattle.arith.proofs.Cells.{Cell}
-use Rattle.position_lines.proofs.answer.instant_of.Statement.{statement}
-use Rattle.position_lines.proofs.answer.instant_of.Tie as tie
+use Rattle.position_lines.proofs.answer.instant_of.Goals as goal
 
-instant-of-clock-requires : tie.Need-instant-of-clock-requires
-instant-of-clock-requires c κs = search rules
-
-returns : tie.Need-returns
+pub returns : goal.returns
 returns c =
-    let a = c.before.before.before.before.before.before.before.args in
+    let a = c.args in
     let d1 : Cell a.date.first ≡ a.date.first = search rules in
     let d2 : Cell a.date.second ≡ a.date.second = search rules in
     let d3 : Cell a.date.third ≡ a.date.third = search rules in
@@ -18,6 +14,3 @@ returns c =
     let c2 : Cell a.clock.second ≡ a.clock.second = search rules in
     let c3 : Cell a.clock.third ≡ a.clock.third = search rules in
     simp (d1, d2, d3, c1, c2, c3) at c.instant_of_clock.ensures
-
-pub instant-of-spec : {M : Type 1} → statement M
-instant-of-spec = tie.close (tie.spec instant-of-clock-requires returns)

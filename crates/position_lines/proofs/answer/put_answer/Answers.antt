@@ -1,0 +1,15 @@
+-- `put_answer` meets its contract. Assumes nothing.
+use Rattle.place.proofs.Answers.{figures_ask}
+use Rattle.position_lines.proofs.WrittenPosition.{place_answered, refusal_answered}
+use Rattle.position_lines.proofs.answer.put_answer.Goals as goal
+
+pub put_place-requires : goal.put_place-requires
+put_place-requires c =
+    let a = c.args in
+    (figures_ask a.planet.now a.earth.now a.t c.apparent_place-a.result c.apparent_place-a.ensures _ c.in-Place.is, c.requires)
+
+pub returns-in-NoPlace : goal.returns-in-NoPlace
+returns-in-NoPlace c = refusal_answered _ _ _ _ _ _ c.apparent_place-a.ensures c.in-NoPlace.is c.put_refusal.ensures
+
+pub returns-in-Place : goal.returns-in-Place
+returns-in-Place c = place_answered _ _ _ _ _ _ c.apparent_place-a.ensures c.in-Place.is c.put_place.ensures
