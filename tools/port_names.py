@@ -132,11 +132,11 @@ def main(argv):
     constants = {w for path in files("crates/units/specs/*.antt") for w in WORD.findall(read(path))}
     bare = {n: new for n, new in rows.items() if (n[0].isupper() and len(n) > 4) or n in constants}
     for path in files("crates/*/specs/**/*.antt", "crates/*/proofs/**/*.antt"):
-        put(path, in_antt(read(path), rows, bare).replace(".specs.machine.", ".specs.Machine.").replace("pub mod machine", "pub mod Machine"))
+        put(path, left_over(in_antt(read(path), rows, bare).replace(".specs.machine.", ".specs.Machine.").replace("pub mod machine", "pub mod Machine")))
     for path in files("crates/*/src/**/*.rt"):
-        put(path, in_rt(read(path), rows, bare).replace(".specs.machine.", ".specs.Machine."))
+        put(path, left_over(in_rt(read(path), rows, bare).replace(".specs.machine.", ".specs.Machine.")))
     for path in files("crates/*/must-fail/*.edit"):
-        put(path, "\n".join(words(l, rows) if l.startswith(("old:", "new:")) else l.replace("specs/machine", "specs/Machine") for l in read(path).split("\n")))
+        put(path, "\n".join(left_over(words(l, rows)) if l.startswith(("old:", "new:")) else l.replace("specs/machine", "specs/Machine") for l in read(path).split("\n")))
     known = set(definitions())
     for path in files("README.md", "CONTRIBUTING.md", "docs/*.md", "docs/changes/*.md"):
         if path != "docs/PORT.md":
@@ -154,6 +154,21 @@ def put(path, text):
 
 # Where the plain turn of a name meets another name.
 OTHER = {}
+
+# What the rows above leave: names that port.py turned in part, one alias of a type, names that end in a sign, and parameters.
+PARAMETERS = (
+    "planet-bytes earth-bytes list-after list-run list-then out-after out-then slot-after text-left line-b past-a past-b past-c is-missing dropped-run "
+    "near-stay⁻ near-up⁻ not-far⁻ odd-rises⁻ within-law⁻ boundary-angle⁻"
+).split()
+LEFT = {"Goes_on": "GoesOn", "Right_date": "RightDate", "is_Block": "is_block"} | {n: n.replace("-", "_") for n in PARAMETERS}
+
+
+def left_over(text):
+    """Whole words, also in comments; and the library's older names of |z| and -z inside names of ours."""
+    text = re.sub(r"[^\s(){}\[\].;,@\"«»`]+", lambda m: LEFT.get(m[0], m[0]), text)
+    text = re.sub(r"(?<![A-Za-z])(\w*)natAbs", r"\1nat_abs", text)
+    return text.replace("negℤ-*ℤ", "neg_ℤ-*ℤ")
+
 
 if __name__ == "__main__":
     raise SystemExit(main(sys.argv[1:]))

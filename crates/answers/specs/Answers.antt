@@ -116,7 +116,7 @@ standing_shown o =
     record { refusal = w.refusal; figure = w.figure; length = w.value; accepted = accepted o }
 
 -- RULES, "Mending": stephylax_mended. The verdict is 0 with the packed length, or the number of the reader's refusal with its figure; it is of
--- a text that has ended, so More is never shown (text_promises/proofs/Judgement.antt: never-more).
+-- a text that has ended, so More is never shown (text_promises/proofs/Judgement.antt: never_more).
 unfoldable pub mended_refused : Refusal → Mended
 mended_refused r = record { refusal = number r; figure = clipped (figure r); length = pos 0; changes = pos 0; verdict = 0; place = pos 0 }
 

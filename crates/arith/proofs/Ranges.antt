@@ -8,19 +8,19 @@ use lib.IntN.{ℤ, nat_abs, ◌*ℤ◌}
 use Rattle.integers.specs.Division.{rounded}
 use Rattle.integers.specs.Signs.{negative, near}
 use Rattle.integers.proofs.Division.{rounded_by, near_most}
-use Rattle.integers.proofs.Order.{natAbs-*, natAbs_sgn}
+use Rattle.integers.proofs.Order.{nat_abs-*, nat_abs_sgn}
 
-natAbs_rounded : (n : ℤ) (d : ℕ) → 0 < d → nat_abs (rounded n d) ≡ near (negative n) (nat_abs n) d
-natAbs_rounded n d h = ap nat_abs (rounded_by n d h) ∙ natAbs_sgn (negative n) (near (negative n) (nat_abs n) d)
+nat_abs_rounded : (n : ℤ) (d : ℕ) → 0 < d → nat_abs (rounded n d) ≡ near (negative n) (nat_abs n) d
+nat_abs_rounded n d h = ap nat_abs (rounded_by n d h) ∙ nat_abs_sgn (negative n) (near (negative n) (nat_abs n) d)
 
 -- |n| ≤ k·d gives |rounded n d| ≤ k
 pub rounded_within : (n : ℤ) (d k : ℕ) → 0 < d → nat_abs n ≤ k * d → nat_abs (rounded n d) ≤ k
-rounded_within n d k h l = subst (λ (t : ℕ). t ≤ k) (sym (natAbs_rounded n d h)) (near_most (negative n) k (nat_abs n) d h l)
+rounded_within n d k h l = subst (λ (t : ℕ). t ≤ k) (sym (nat_abs_rounded n d h)) (near_most (negative n) k (nat_abs n) d h l)
 
 -- it is at most half a unit larger than the quotient
 pub rounded_half : (n : ℤ) (d : ℕ) → 0 < d → 2 * d * nat_abs (rounded n d) ≤ 2 * nat_abs n + d
 unfolding near
-rounded_half n d h = subst (λ (t : ℕ). 2 * d * t ≤ 2 * nat_abs n + d) (sym (natAbs_rounded n d h)) (twice (negative n) (nat_abs n))
+rounded_half n d h = subst (λ (t : ℕ). 2 * d * t ≤ 2 * nat_abs n + d) (sym (nat_abs_rounded n d h)) (twice (negative n) (nat_abs n))
   where
     twice : (s : Bool) (m : ℕ) → 2 * d * near s m d ≤ 2 * m + d
     twice false m = omega (arith, div-add-mod (2 * m + d) (2 * d))
@@ -28,4 +28,4 @@ rounded_half n d h = subst (λ (t : ℕ). 2 * d * t ≤ 2 * nat_abs n + d) (sym 
 
 -- a product by no more than the divisor
 pub scaled_within : (a c : ℤ) (d k : ℕ) → 0 < d → nat_abs a ≤ k → nat_abs c ≤ d → nat_abs (rounded (a *ℤ c) d) ≤ k
-scaled_within a c d k h l m = rounded_within (a *ℤ c) d k h (subst (λ (t : ℕ). t ≤ k * d) (sym (natAbs-* a c)) (mul-le-mul l m))
+scaled_within a c d k h l m = rounded_within (a *ℤ c) d k h (subst (λ (t : ℕ). t ≤ k * d) (sym (nat_abs-* a c)) (mul-le-mul l m))

@@ -45,9 +45,9 @@ pub is_nonNeg : (z : ℤ) → pos 0 ≤ℤ z → T (non_neg z)
 is_nonNeg (pos n) h = tt
 is_nonNeg (negsuc n) h = h.le
 
-pub natAbs_fits : (z : ℤ) → SFits w64 z → nat_abs z < 2 ^ 64
-natAbs_fits (pos n) h = let k : n < 2 ^ 63 = h.sfits in omega arith
-natAbs_fits (negsuc n) h = let k : n < 2 ^ 63 = h.sfits in omega arith
+pub nat_abs_fits : (z : ℤ) → SFits w64 z → nat_abs z < 2 ^ 64
+nat_abs_fits (pos n) h = let k : n < 2 ^ 63 = h.sfits in omega arith
+nat_abs_fits (negsuc n) h = let k : n < 2 ^ 63 = h.sfits in omega arith
 
 -- 0 − m
 pub minus : (m : ℕ) → pos 0 -ℤ pos m ≡ sgn true m

@@ -145,7 +145,7 @@ unfoldable pub date_below : ℕ → ℤ → Date
 date_below zero n = written_as 0
 date_below (suc k) n = cond (has_number n (written_as k)) (written_as k) (date_below k n)
 
--- The date with the day number n, looked for among all; each n from 0 to last-day has one, and no other (`OneDate` in specs/Promises).
+-- The date with the day number n, looked for among all; each n from 0 to last_day has one, and no other (`OneDate` in specs/Promises).
 unfoldable pub date_numbered : ℤ → Date
 date_numbered n = date_below (10000 * (years_before_zero + last_year + 1)) n
 

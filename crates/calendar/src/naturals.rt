@@ -9,7 +9,7 @@ use crate::{
     RATE_SCALE, REFORM_YEAR, Shifted, YEAR_FIELD, YEAR_SHIFT,
 };
 
-// specs/machine/Shifted.antt has the same constants under the same names.
+// specs/Machine/Shifted.antt has the same constants under the same names.
 
 // The index of the last year that had the Julian leap rule, and the keys of the first skipped and the first Gregorian day.
 const REFORM_INDEX: u64 = REFORM_YEAR + YEAR_SHIFT;

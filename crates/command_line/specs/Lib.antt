@@ -1,3 +1,3 @@
--- RULES, "Programs": what the arguments of a program mean. machine: how far they are counted.
+-- RULES, "Programs": what the arguments of a program mean. Machine: how far they are counted.
 pub mod Clock
 pub mod Machine

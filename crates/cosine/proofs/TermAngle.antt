@@ -11,7 +11,7 @@ use Rattle.integers.specs.Order.{◌≼◌}
 use Rattle.integers.specs.Division.{rounded, modulo}
 use Rattle.integers.proofs.Auto.{polys, ring!, cert!, gap}
 use Rattle.integers.proofs.Division.{rounded_add}
-use Rattle.integers.proofs.Order.{natAbs_low, natAbs-+, fits}
+use Rattle.integers.proofs.Order.{nat_abs_low, nat_abs-+, fits}
 use Rattle.units.specs.Units.{U, turn as P, tau_limit, t_limit, a_limit, angle_per_part}
 use Rattle.cosine.specs.declared.term.Prepared.{Prepared}
 use Rattle.cosine.specs.declared.term.ByTick.{ByTick}
@@ -26,10 +26,10 @@ use Rattle.cosine.proofs.Residues.{in_turn, in_tick, less_cuts, in_cuts, angle_o
 -- ---- x + k
 
 pub biased_fits : (x : ℤ) (k : ℕ) → nat_abs x ≤ k → k < 2 ^ 62 → SFits w64 (x +ℤ pos k)
-biased_fits x k h l = let m = natAbs-+ x (pos k) in fits (x +ℤ pos k) (omega arith)
+biased_fits x k h l = let m = nat_abs-+ x (pos k) in fits (x +ℤ pos k) (omega arith)
 
 pub biased_low : (x : ℤ) (k : ℕ) → nat_abs x ≤ k → pos 0 ≼ x +ℤ pos k
-biased_low x k h = cert! (x ∷ pos k ∷ []) 0 (gap (natAbs_low x k h)) (search polys depth 60 fits 100000) tt
+biased_low x k h = cert! (x ∷ pos k ∷ []) 0 (gap (nat_abs_low x k h)) (search polys depth 60 fits 100000) tt
 
 -- ---- what is prepared
 
@@ -128,7 +128,7 @@ pub product_most : (g x G X : ℕ) → g ≤ G → x < suc X → g * x ≤ G * X
 product_most g x G X h k = mul-le-mul h (omega arith)
 
 pub biased_most : (x : ℤ) (k d : ℕ) → pos d ≡ x +ℤ pos k → d ≤ nat_abs x + k
-biased_most x k d e = subst (λ n. n ≤ nat_abs x + k) (sym (ap nat_abs e)) (natAbs-+ x (pos k))
+biased_most x k d e = subst (λ n. n ≤ nat_abs x + k) (sym (ap nat_abs e)) (nat_abs-+ x (pos k))
 
 -- ---- the value
 

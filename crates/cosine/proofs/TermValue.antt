@@ -8,7 +8,7 @@ use mir.Syntax.{w64}
 use mir.Val.{SFits}
 use Rattle.integers.specs.Division.{rounded, modulo}
 use Rattle.integers.proofs.Auto.{ring!, polys}
-use Rattle.integers.proofs.Order.{natAbs_sub, fits}
+use Rattle.integers.proofs.Order.{nat_abs_sub, fits}
 use Rattle.units.specs.Units.{U, turn, quarter, angle_step, a_limit}
 use Rattle.cosine.specs.Cosine.{q_of, w_of, even_part, odd_part, cosine_by}
 use Rattle.cosine.specs.Terms.{term_angle, term_value}
@@ -18,7 +18,7 @@ use Rattle.cosine.proofs.TermAngle.{value_is}
 
 -- the amplitude turned about
 pub minus_fits : (a : ℤ) → nat_abs a < a_limit → SFits w64 (pos 0 -ℤ a)
-minus_fits a h = let m = natAbs_sub (pos 0) a in fits (pos 0 -ℤ a) (omega arith)
+minus_fits a h = let m = nat_abs_sub (pos 0) a in fits (pos 0 -ℤ a) (omega arith)
 
 pub minus_is : (a : ℤ) → pos 0 -ℤ a ≡ neg_ℤ a
 minus_is a = +ℤ_idl (neg_ℤ a)

@@ -11,7 +11,7 @@ use crate::working::{HALF_UNIT, biased_angle, difference, quarters};
 use arith::signed::{add, low, sub, wide};
 use units::{A_LIMIT, ANGLE_PER_PART, Instant, MILLENNIUM, T_LIMIT, TAU_LIMIT, TURN, U};
 
-// A millennium by the units of angle in a part, and half of that: specs/machine/Prepared.antt has these, and all down to BIAS_STEP.
+// A millennium by the units of angle in a part, and half of that: specs/Machine/Prepared.antt has these, and all down to BIAS_STEP.
 const TICK: u64 = MILLENNIUM / ANGLE_PER_PART;
 
 const HALF_TICK: u64 = TICK / 2;
@@ -48,7 +48,7 @@ const REST_R: u64 = TICK + HALF_TICK;
 // An amplitude is raised by A_LIMIT; its quotient by U is so much too great.
 const A_BIAS: u64 = A_LIMIT / U;
 
-// specs/machine/Prepared.antt says what the figures are.
+// specs/Machine/Prepared.antt says what the figures are.
 #[derive(Clone, Copy)]
 pub struct Prepared {
     pub t: i64,
@@ -70,7 +70,7 @@ struct ByTick {
     pub r: u64,
 }
 
-// specs/machine/Parity.antt says what a term's value is of these.
+// specs/Machine/Parity.antt says what a term's value is of these.
 #[derive(Clone, Copy)]
 pub struct ReducedTerm {
     pub a: i64,

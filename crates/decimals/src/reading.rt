@@ -13,7 +13,7 @@ pub enum Read {
     Other,
 }
 
-// Past every number that is read; specs/machine/Reading.antt has the same name.
+// Past every number that is read; specs/Machine/Reading.antt has the same name.
 const TOO_GREAT: u64 = 1000000000;
 
 // The value of the digits from a place on; `TOO_GREAT` for anything else.

@@ -16,7 +16,7 @@ use Rattle.integers.proofs.Rounding.{rounded_mono}
 use Rattle.units.specs.Units.{quarter, angle_step}
 use Rattle.cosine.specs.Cosine.{horner, evens, y_of, even_part, odd_part, q_of, r_of, w_of, cosine_by, sine_by, working_cosine, working_sine, cosine, sine}
 use Rattle.direction.specs.Promises.{Opens}
-use Rattle.direction.proofs.Rising.{y_neg, even_falls, odd_rises, odd-rises⁻, w_most}
+use Rattle.direction.proofs.Rising.{y_neg, even_falls, odd_rises, odd_rises⁻, w_most}
 
 -- ---- in the lower half of the quarter q is 0, in the upper half 1
 
@@ -145,7 +145,7 @@ both_lower x x' w w' a b l = record {
 both_upper : (x x' w w' : ℤ) → Upper x w → Upper x' w' → w' ≼ w → Opens x x'
 both_upper x x' w w' a b l = record {
   sine_rises = by_parts a.sin b.sin (even_falls w' w b.least l a.most);
-  cosine_falls = by_parts b.cos a.cos (neg_le _ _ (odd-rises⁻ w' w b.least l a.most));
+  cosine_falls = by_parts b.cos a.cos (neg_le _ _ (odd_rises⁻ w' w b.least l a.most));
 }
 
 across : (x x' w w' : ℤ) → Lower x w → Upper x' w' → Opens x x'
@@ -156,7 +156,7 @@ across x x' w w' a b =
       sine_rises = by_parts a.sin b.sin
           (≤ℤ-trans (odd_rises w m a.least a.most here) (≤ℤ-trans meet_sine (even_falls w' m b.least b.most here)));
       cosine_falls = by_parts b.cos a.cos
-          (≤ℤ-trans (neg_le _ _ (odd-rises⁻ w' m b.least b.most here)) (≤ℤ-trans meet_cosine (even_falls w m a.least a.most here)));
+          (≤ℤ-trans (neg_le _ _ (odd_rises⁻ w' m b.least b.most here)) (≤ℤ-trans meet_cosine (even_falls w m a.least a.most here)));
     }
 
 pub quarter_opens : (x x' : ℤ) → pos 0 ≼ x → x ≼ x' → x' ≼ pos quarter → Opens x x'

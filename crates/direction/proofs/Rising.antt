@@ -23,7 +23,7 @@ pub record Falls (y y' h h' : ℤ) : Type 0 where
   pub least : y' ≼ h'
   pub most : h ≼ pos U
 
--- no y is greater: w-most·w-most/U is 616,850,275, here rounded up
+-- no y is greater: w_most·w_most/U is 616,850,275, here rounded up
 abbrev y_most : ℕ
 y_most = 620000000
 
@@ -161,8 +161,8 @@ module _ (w w' : ℤ) (hw : pos 0 ≼ w) (le : w ≼ w') (hw' : w' ≼ pos w_mos
   unfolding odd_part
   odd_rises = rounded_mono _ _ U (lit< tt) odd_product
 
-  pub odd-rises⁻ : odd_part (neg_ℤ w') ≼ odd_part (neg_ℤ w)
+  pub odd_rises⁻ : odd_part (neg_ℤ w') ≼ odd_part (neg_ℤ w)
   unfolding odd_part
-  odd-rises⁻ =
+  odd_rises⁻ =
       rounded_mono _ _ U (lit< tt)
       (rw (y_neg w, y_neg w') (cert! (w ∷ w' ∷ horner (y_of w) odds ∷ horner (y_of w') odds ∷ []) 0 (gap odd_product) (search polys depth 60 fits 100000) tt))

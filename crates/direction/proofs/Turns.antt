@@ -7,7 +7,7 @@ use borrow.Author.Tests.{lt-ltb, le-leb, ne_eqb, eq-eqb}
 use lib.Dec.{T}
 use lib.IntN.{ℤ, pos, negsuc, neg_ℤ, nat_abs}
 use Rattle.integers.specs.Signs.{negative, sgn}
-use Rattle.integers.proofs.Order.{natAbs_neg}
+use Rattle.integers.proofs.Order.{nat_abs_neg}
 use Rattle.direction.specs.Direction.{quarter_steps, in_quarter, first_quarter, within_turns, direction}
 
 -- ---- one step of the definition
@@ -47,7 +47,7 @@ one_turn x y h = no_origin (neg_ℤ (pos x)) (pos y) (omega arith) ∙ turn_neg 
 pub two_turns : (x y : ℕ) → 0 < x → direction (sgn true x) (sgn true y) ≡ 2 * quarter_steps + in_quarter (pos x) (pos y)
 unfolding sgn
 two_turns x y h =
-    no_origin (neg_ℤ (pos x)) (neg_ℤ (pos y)) (omega (arith, natAbs_neg (pos x))) ∙ turn_neg 2 x (neg_ℤ (pos y))
+    no_origin (neg_ℤ (pos x)) (neg_ℤ (pos y)) (omega (arith, nat_abs_neg (pos x))) ∙ turn_neg 2 x (neg_ℤ (pos y))
     ∙ omega (arith, turn_neg 1 y (pos x), stop 1 x y h)
 
 three_turns : (x y : ℕ) → 0 < y → direction (sgn false x) (sgn true y) ≡ 3 * quarter_steps + in_quarter (pos y) (pos x)

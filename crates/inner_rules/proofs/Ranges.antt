@@ -7,7 +7,7 @@ use native.Mathlib.Nat.{mul-le-mul}
 use borrow.Author.Tests.{le-leb, lt-leb}
 use lib.Dec.{leb}
 use lib.IntN.{ℤ, pos, nat_abs, ◌+ℤ◌, ◌*ℤ◌}
-use Rattle.integers.proofs.Order.{natAbs-+, natAbs-*}
+use Rattle.integers.proofs.Order.{nat_abs-+, nat_abs-*}
 use Rattle.units.specs.Units.{a_limit, b_limit, c_limit, t_limit}
 use Rattle.cosine.specs.Terms.{term_angle, term_value}
 use Rattle.rectangular.specs.declared.Vector.{Vector}
@@ -43,9 +43,9 @@ direction_asks x y h g = (rw (cell x (omega arith)) (omega arith), rw (cell y (o
 
 flat_size : (x y : ℤ) → nat_abs x ≤ reach → nat_abs y ≤ reach → nat_abs (x *ℤ x +ℤ y *ℤ y) < 2 ^ 92
 flat_size x y h g =
-    let s = natAbs-+ (x *ℤ x) (y *ℤ y) in
-    let a = natAbs-* x x in
-    let b = natAbs-* y y in
+    let s = nat_abs-+ (x *ℤ x) (y *ℤ y) in
+    let a = nat_abs-* x x in
+    let b = nat_abs-* y y in
     let p = mul-le-mul h h in
     let q = mul-le-mul g g in
     omega arith

@@ -90,23 +90,23 @@ pub near_stay : (q r d : ℕ) → 2 * r < d → near false (q * d + r) d ≡ q
 unfolding near
 near_stay q r d k = div_is (2 * (q * d + r) + d) (2 * d) q (omega arith) (omega arith)
 
-pub near-up⁻ : (q r d : ℕ) → r < d → d < 2 * r → near true (q * d + r) d ≡ q + 1
+pub near_up⁻ : (q r d : ℕ) → r < d → d < 2 * r → near true (q * d + r) d ≡ q + 1
 unfolding near
-near-up⁻ q r d h k = div_is (2 * (q * d + r) + (d - 1)) (2 * d) (q + 1) (omega arith) (omega arith)
+near_up⁻ q r d h k = div_is (2 * (q * d + r) + (d - 1)) (2 * d) (q + 1) (omega arith) (omega arith)
 
-pub near-stay⁻ : (q r d : ℕ) → 0 < d → 2 * r ≤ d → near true (q * d + r) d ≡ q
+pub near_stay⁻ : (q r d : ℕ) → 0 < d → 2 * r ≤ d → near true (q * d + r) d ≡ q
 unfolding near
-near-stay⁻ q r d h k = div_is (2 * (q * d + r) + (d - 1)) (2 * d) q (omega arith) (omega arith)
+near_stay⁻ q r d h k = div_is (2 * (q * d + r) + (d - 1)) (2 * d) q (omega arith) (omega arith)
 
 -- ---- the sign and the magnitude of an integer
 
-pub sgn_natAbs : (z : ℤ) → sgn (negative z) (nat_abs z) ≡ z
+pub sgn_nat_abs : (z : ℤ) → sgn (negative z) (nat_abs z) ≡ z
 unfolding sgn negative
-sgn_natAbs (pos n) = refl
-sgn_natAbs (negsuc n) = refl
+sgn_nat_abs (pos n) = refl
+sgn_nat_abs (negsuc n) = refl
 
 pub rounded_by : (z : ℤ) (d : ℕ) → 0 < d → rounded z d ≡ sgn (negative z) (near (negative z) (nat_abs z) d)
-rounded_by z d h = ap (λ t. rounded t d) (sym (sgn_natAbs z)) ∙ rounded_near (negative z) (nat_abs z) d h
+rounded_by z d h = ap (λ t. rounded t d) (sym (sgn_nat_abs z)) ∙ rounded_near (negative z) (nat_abs z) d h
 
 div_below : (n d k : ℕ) → n < d * (k + 1) → n / d ≤ k
 div_below n d k u =

@@ -73,50 +73,50 @@ pub ≼-nat : (m n : ℕ) → m ≤ n → pos m ≼ pos n
 pub ≺-nat : (n : ℕ) → 0 < n → pos 0 ≺ pos n
 ≺-nat n h = record { lt = le→leb 1 n h }
 
-pub natAbs_neg : (x : ℤ) → nat_abs (neg_ℤ x) ≡ nat_abs x
-natAbs_neg (pos zero) = refl
-natAbs_neg (pos (suc n)) = refl
-natAbs_neg (negsuc n) = refl
+pub nat_abs_neg : (x : ℤ) → nat_abs (neg_ℤ x) ≡ nat_abs x
+nat_abs_neg (pos zero) = refl
+nat_abs_neg (pos (suc n)) = refl
+nat_abs_neg (negsuc n) = refl
 
-pub natAbs-* : (x y : ℤ) → nat_abs (x *ℤ y) ≡ nat_abs x * nat_abs y
-natAbs-* (pos a) (pos b) = refl
-natAbs-* (pos a) (negsuc b) = natAbs_neg (pos (a * suc b))
-natAbs-* (negsuc a) (pos b) = natAbs_neg (pos (suc a * b))
-natAbs-* (negsuc a) (negsuc b) = refl
+pub nat_abs-* : (x y : ℤ) → nat_abs (x *ℤ y) ≡ nat_abs x * nat_abs y
+nat_abs-* (pos a) (pos b) = refl
+nat_abs-* (pos a) (negsuc b) = nat_abs_neg (pos (a * suc b))
+nat_abs-* (negsuc a) (pos b) = nat_abs_neg (pos (suc a * b))
+nat_abs-* (negsuc a) (negsuc b) = refl
 
-pub square_natAbs : (x : ℤ) → x *ℤ x ≡ pos (nat_abs x * nat_abs x)
-square_natAbs (pos n) = refl
-square_natAbs (negsuc n) = refl
+pub square_nat_abs : (x : ℤ) → x *ℤ x ≡ pos (nat_abs x * nat_abs x)
+square_nat_abs (pos n) = refl
+square_nat_abs (negsuc n) = refl
 
-pub natAbs_sgn : (s : Bool) (m : ℕ) → nat_abs (sgn s m) ≡ m
+pub nat_abs_sgn : (s : Bool) (m : ℕ) → nat_abs (sgn s m) ≡ m
 unfolding sgn
-natAbs_sgn false m = refl
-natAbs_sgn true zero = refl
-natAbs_sgn true (suc m) = refl
+nat_abs_sgn false m = refl
+nat_abs_sgn true zero = refl
+nat_abs_sgn true (suc m) = refl
 
 -- |x| ≤ b is −b ≼ x ≼ b
-pub natAbs_low : (x : ℤ) (b : ℕ) → nat_abs x ≤ b → neg_ℤ (pos b) ≼ x
-natAbs_low (pos n) b h = less (negᵢ (nat b)) (nat n) (omega arith)
-natAbs_low (negsuc n) b h = less (negᵢ (nat b)) (int (negsuc n)) (omega arith)
+pub nat_abs_low : (x : ℤ) (b : ℕ) → nat_abs x ≤ b → neg_ℤ (pos b) ≼ x
+nat_abs_low (pos n) b h = less (negᵢ (nat b)) (nat n) (omega arith)
+nat_abs_low (negsuc n) b h = less (negᵢ (nat b)) (int (negsuc n)) (omega arith)
 
-pub natAbs_high : (x : ℤ) (b : ℕ) → nat_abs x ≤ b → x ≼ pos b
-natAbs_high (pos n) b h = less (nat n) (nat b) (omega arith)
-natAbs_high (negsuc n) b h = less (int (negsuc n)) (nat b) (omega arith)
+pub nat_abs_high : (x : ℤ) (b : ℕ) → nat_abs x ≤ b → x ≼ pos b
+nat_abs_high (pos n) b h = less (nat n) (nat b) (omega arith)
+nat_abs_high (negsuc n) b h = less (int (negsuc n)) (nat b) (omega arith)
 
 pub nat_abs_le : (x : ℤ) (b : ℕ) → neg_ℤ (pos b) ≼ x → x ≼ pos b → nat_abs x ≤ b
 nat_abs_le (pos n) b h k = let l = less⁻¹ (nat n) (nat b) k in omega arith
 nat_abs_le (negsuc n) b h k = let l = less⁻¹ (negᵢ (nat b)) (int (negsuc n)) h in omega arith
 
-pub natAbs-+ : (x y : ℤ) → nat_abs (x +ℤ y) ≤ nat_abs x + nat_abs y
-natAbs-+ x y =
+pub nat_abs-+ : (x y : ℤ) → nat_abs (x +ℤ y) ≤ nat_abs x + nat_abs y
+nat_abs-+ x y =
     nat_abs_le (x +ℤ y) (nat_abs x + nat_abs y)
-    (let a = natAbs_low x (nat_abs x) (omega arith) in let b = natAbs_low y (nat_abs y) (omega arith) in
+    (let a = nat_abs_low x (nat_abs x) (omega arith) in let b = nat_abs_low y (nat_abs y) (omega arith) in
     cert! (x ∷ y ∷ pos (nat_abs x) ∷ pos (nat_abs y) ∷ []) 0 (gap a ⊞ gap b) (search polys depth 30) tt)
-    (let a = natAbs_high x (nat_abs x) (omega arith) in let b = natAbs_high y (nat_abs y) (omega arith) in
+    (let a = nat_abs_high x (nat_abs x) (omega arith) in let b = nat_abs_high y (nat_abs y) (omega arith) in
     cert! (x ∷ y ∷ pos (nat_abs x) ∷ pos (nat_abs y) ∷ []) 0 (gap a ⊞ gap b) (search polys depth 30) tt)
 
-pub natAbs_sub : (x y : ℤ) → nat_abs (x -ℤ y) ≤ nat_abs x + nat_abs y
-natAbs_sub x y = subst (λ (n : ℕ). nat_abs (x -ℤ y) ≤ nat_abs x + n) (natAbs_neg y) (natAbs-+ x (neg_ℤ y))
+pub nat_abs_sub : (x y : ℤ) → nat_abs (x -ℤ y) ≤ nat_abs x + nat_abs y
+nat_abs_sub x y = subst (λ (n : ℕ). nat_abs (x -ℤ y) ≤ nat_abs x + n) (nat_abs_neg y) (nat_abs-+ x (neg_ℤ y))
 
 -- ---- the range of an i64
 

@@ -196,8 +196,8 @@ pub *ℤ-+ℤ : (x y z : ℤ) → x *ℤ (y +ℤ z) ≡ x *ℤ y +ℤ x *ℤ z
 pub +ℤ-*ℤ : (x y z : ℤ) → (x +ℤ y) *ℤ z ≡ x *ℤ z +ℤ y *ℤ z
 +ℤ-*ℤ x y z = same ((int x +ᵢ int y) *ᵢ int z) (int x *ᵢ int z +ᵢ int y *ᵢ int z) (omega arith)
 
-pub negℤ-*ℤ : (x y : ℤ) → neg_ℤ x *ℤ y ≡ neg_ℤ (x *ℤ y)
-negℤ-*ℤ x y = same (negᵢ (int x) *ᵢ int y) (negᵢ (int x *ᵢ int y)) (omega arith)
+pub neg_ℤ-*ℤ : (x y : ℤ) → neg_ℤ x *ℤ y ≡ neg_ℤ (x *ℤ y)
+neg_ℤ-*ℤ x y = same (negᵢ (int x) *ᵢ int y) (negᵢ (int x *ᵢ int y)) (omega arith)
 
 pub one-*ℤ : (x : ℤ) → pos 1 *ℤ x ≡ x
 one-*ℤ x = same (nat 1 *ᵢ int x) (int x) (omega arith)

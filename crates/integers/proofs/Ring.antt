@@ -7,7 +7,7 @@ use Prim.Native.Nat.{ℕ, zero, suc}
 use lib.Dec.{T, eqb, eqb→eq}
 use lib.IntN.{ℤ, pos, negsuc, neg_ℤ, ◌+ℤ◌, ◌-ℤ◌, ◌*ℤ◌, +ℤ_assoc, +ℤ_comm, +ℤ_idl, +ℤ_idr, *ℤ_comm, zero-*ℤ, neg_ℤ-+ℤ, -ℤ-+ℤ_cancel}
 use lib.Signed.{◌≤ℤ◌, ◌<ℤ◌, non_neg}
-use Rattle.integers.proofs.Pairs.{*ℤ-assoc, *ℤ-+ℤ, +ℤ-*ℤ, negℤ-*ℤ, one-*ℤ, swapℤ, ≤ℤ-of-diff, diff-of-≤ℤ, nonneg, nonneg-+, nonneg-*, nonneg_sq}
+use Rattle.integers.proofs.Pairs.{*ℤ-assoc, *ℤ-+ℤ, +ℤ-*ℤ, neg_ℤ-*ℤ, one-*ℤ, swapℤ, ≤ℤ-of-diff, diff-of-≤ℤ, nonneg, nonneg-+, nonneg-*, nonneg_sq}
 use Rattle.integers.proofs.Pairs.{≤ℤ-trans, divided, <ℤ-suc, suc-<ℤ}
 
 infixl 6 ◌⊕◌ ◌⊖◌
@@ -107,7 +107,7 @@ ev_plus (hor p q) (hor p' q') ρ =
 ev_neg : (p : P) (ρ : List ℤ) → ev (neg p) ρ ≡ neg_ℤ (ev p ρ)
 ev_neg (con c) ρ = refl
 ev_neg (hor p q) ρ =
-    ap₂ ◌+ℤ◌ (ap (λ t. t *ℤ hd ρ) (ev_neg p ρ) ∙ negℤ-*ℤ (ev p ρ) (hd ρ)) (ev_neg q (tl ρ))
+    ap₂ ◌+ℤ◌ (ap (λ t. t *ℤ hd ρ) (ev_neg p ρ) ∙ neg_ℤ-*ℤ (ev p ρ) (hd ρ)) (ev_neg q (tl ρ))
     ∙ sym (neg_ℤ-+ℤ (ev p ρ *ℤ hd ρ) (ev q (tl ρ)))
 
 ev_scl : (c : ℤ) (p : P) (ρ : List ℤ) → ev (scl c p) ρ ≡ c *ℤ ev p ρ

@@ -1,4 +1,4 @@
--- RULES, "Programs": what the program `list` prints for two packed series, a time, how many minutes, and a keep_out.
+-- RULES, "Programs": what the program `list` prints for two packed series, a time, how many minutes, and a keep-out.
 use Rattle.std.specs.Prelude.{List, [], ◌++◌, ℕ, zero, suc, ◌*◌, ◌/◌, ℤ, length, replicate}
 use Rattle.calendar.specs.declared.InstantAnswer.{InstantAnswer}
 use Rattle.calendar.specs.declared.InstantAnswer.TheVariants.{At, NoInstant}

@@ -38,13 +38,13 @@ module _ (text out list : List ℕ) (n m : ℕ) (bytes : n ≡ length (mended te
       pub both_room : Room (mended text) 0 out × Room (numbers (changes text)) 0 list
       both_room = (omega arith, omega (arith, length_numbers (changes text)))
 
-      pub both_fit : (out-after list-after : List ℕ) (o : Outcome) → out-after ≡ sets out 0 (mended text)
-          → list-after ≡ sets list 0 (numbers (changes text)) → o ≡ judgement (take n out-after)
-          → (Mended (record { length = n; changes = m; verdict = o }) ≡ mending text out list) × (out-after ≡ mending_out text out list)
-          × (list-after ≡ mending_list text out list)
+      pub both_fit : (out_after list_after : List ℕ) (o : Outcome) → out_after ≡ sets out 0 (mended text)
+          → list_after ≡ sets list 0 (numbers (changes text)) → o ≡ judgement (take n out_after)
+          → (Mended (record { length = n; changes = m; verdict = o }) ≡ mending text out list) × (out_after ≡ mending_out text out list)
+          × (list_after ≡ mending_list text out list)
       unfolding mending mending_out mending_list text_fits list_fits
-      both_fit out-after list-after o a b v =
+      both_fit out_after list_after o a b v =
           let t = le-leb (length (mended text)) (length out) (omega arith) in
           let u = le-leb (length (changes text)) (length list / 2) (omega arith) in
-          let w = v ∙ ap judgement (written_first (mended text) out out-after n (omega arith) bytes a) in
+          let w = v ∙ ap judgement (written_first (mended text) out out_after n (omega arith) bytes a) in
           (rw (t, u, w, bytes, count), rw (t, u) a, rw (t, u) b)

@@ -144,29 +144,29 @@ module _ (text : List ℕ) (w : Writing) (i : ℕ) (out list : List ℕ) (r : Re
         (rest_is numbers_other (rest_start {start = list}))
         r.list_room
 
-    module _ (at slot : ℕ) (out-then list-then : List ℕ) (bytes_run : Wrote (run_bytes text w.from i) w.at out at out-then)
-        (list-run : Wrote (run_numbers text w.from i) w.slot list slot list-then) where
-      bytes_then : Rest (bytes_left text w) w.at out (get_or text i 0 ∷ mended_from true (drop (i + 1) text)) at out-then
+    module _ (at slot : ℕ) (out_then list_then : List ℕ) (bytes_run : Wrote (run_bytes text w.from i) w.at out at out_then)
+        (list_run : Wrote (run_numbers text w.from i) w.slot list slot list_then) where
+      bytes_then : Rest (bytes_left text w) w.at out (get_or text i 0 ∷ mended_from true (drop (i + 1) text)) at out_then
       bytes_then = rest_more (rest_is bytes_other rest_start) bytes_run
 
-      pub byte_room : at < length out-then
+      pub byte_room : at < length out_then
       byte_room = let m = bytes_then.count in let s = bytes_then.same in omega (arith, r.room)
 
       pub came_other : Came text w out list (record { begun = true; from = i + 1; at = at + 1; slot = slot }) (i + 1)
-          (set out-then at (get_or text i 0)) list-then
+          (set out_then at (get_or text i 0)) list_then
       came_other = record {
         run = pending_none text (i + 1) (omega arith);
-        bytes = rest_more {ys = get_or text i 0 ∷ []} bytes_then (wrote_one (get_or text i 0) at out-then);
-        changes = rest_more (rest_is numbers_other rest_start) list-run;
+        bytes = rest_more {ys = get_or text i 0 ∷ []} bytes_then (wrote_one (get_or text i 0) at out_then);
+        changes = rest_more (rest_is numbers_other rest_start) list_run;
       }
 
       -- The rest of a word, after its first byte.
-      pub word_room : Room (plain_left text (i + 1)) (at + 1) (set out-then at (get_or text i 0))
+      pub word_room : Room (plain_left text (i + 1)) (at + 1) (set out_then at (get_or text i 0))
       word_room = omega (arith, came_other.bytes.count, came_other.bytes.same, r.room)
 
       pub came_word : (next : ℕ) (after : List ℕ)
-          → Copied text (i + 1) (at + 1) (set out-then at (get_or text i 0)) next (at + 1 + (next - (i + 1))) after
-          → Came text w out list (record { begun = true; from = next; at = at + (next - i); slot = slot }) next after list-then
+          → Copied text (i + 1) (at + 1) (set out_then at (get_or text i 0)) next (at + 1 + (next - (i + 1))) after
+          → Came text w out list (record { begun = true; from = next; at = at + (next - i); slot = slot }) next after list_then
       came_word next after c =
           let e : at + 1 + (next - (i + 1)) ≡ at + (next - i) = omega (arith, c.plain.onward) in
           record {
@@ -198,28 +198,28 @@ module _ (text : List ℕ) (w : Writing) (i : ℕ) (out list : List ℕ) (r : Re
     unfolding left
     feed_room s = omega (arith, r.room, ap length (bytes_feed true s))
 
-    module _ (slot : ℕ) (list-then : List ℕ) (dropped-run : Wrote (numbers (drops w.from (i - w.from))) w.slot list slot list-then) where
+    module _ (slot : ℕ) (list_then : List ℕ) (dropped_run : Wrote (numbers (drops w.from (i - w.from))) w.slot list slot list_then) where
       pub came_feed : w.begun ≡ true
-          → Came text w out list (record { begun = false; from = i + 1; at = w.at + 1; slot = slot }) (i + 1) (set out w.at (get_or text i 0)) list-then
+          → Came text w out list (record { begun = false; from = i + 1; at = w.at + 1; slot = slot }) (i + 1) (set out w.at (get_or text i 0)) list_then
       unfolding left listed numbers
       came_feed s = record {
         run = pending_none text (i + 1) (omega arith);
         bytes = rest_more {ys = get_or text i 0 ∷ []} (rest_is (bytes_feed true s) rest_start) (wrote_one (get_or text i 0) w.at out);
-        changes = rest_more (rest_is (numbers_feed true s) rest_start) dropped-run;
+        changes = rest_more (rest_is (numbers_feed true s) rest_start) dropped_run;
       }
 
       list_left : w.begun ≡ false
-          → Rest (numbers_left text w) w.slot list ((i ∷ drop_kind ∷ []) ++ numbers (changes_from false (i + 1) (drop (i + 1) text))) slot list-then
+          → Rest (numbers_left text w) w.slot list ((i ∷ drop_kind ∷ []) ++ numbers (changes_from false (i + 1) (drop (i + 1) text))) slot list_then
       unfolding listed numbers
-      list_left s = rest_more (rest_is (numbers_feed false s) rest_start) dropped-run
+      list_left s = rest_more (rest_is (numbers_feed false s) rest_start) dropped_run
 
-      pub change_room : w.begun ≡ false → Room (i ∷ drop_kind ∷ []) slot list-then
+      pub change_room : w.begun ≡ false → Room (i ∷ drop_kind ∷ []) slot list_then
       change_room s = rest_room (i ∷ drop_kind ∷ []) (numbers (changes_from false (i + 1) (drop (i + 1) text))) (list_left s) r.list_room
 
-      pub came_blank_line : w.begun ≡ false → (slot-after : ℕ) (list-after : List ℕ) → Wrote (i ∷ drop_kind ∷ []) slot list-then slot-after list-after
-          → Came text w out list (record { begun = false; from = i + 1; at = w.at; slot = slot-after }) (i + 1) out list-after
+      pub came_blank_line : w.begun ≡ false → (slot_after : ℕ) (list_after : List ℕ) → Wrote (i ∷ drop_kind ∷ []) slot list_then slot_after list_after
+          → Came text w out list (record { begun = false; from = i + 1; at = w.at; slot = slot_after }) (i + 1) out list_after
       unfolding left
-      came_blank_line s slot-after list-after change = record {
+      came_blank_line s slot_after list_after change = record {
         run = pending_none text (i + 1) (omega arith);
         bytes = rest_is (bytes_feed false s) rest_start;
         changes = rest_more (list_left s) change;
@@ -233,17 +233,17 @@ unwritten = record { begun = false; from = 0; at = 0; slot = 0 }
 pub came_none : (text out list : List ℕ) → Came text unwritten out list unwritten 0 out list
 came_none text out list = record { run = pending_none text 0 (omega arith); bytes = rest_start; changes = rest_start }
 
-module _ {text : List ℕ} {w : Writing} {out list : List ℕ} {v : Writing} {i : ℕ} {out-then list-then : List ℕ}
-    (c : Came text w out list v i out-then list-then) where
-  pub came_ready : Room (bytes_left text w) w.at out → Room (numbers_left text w) w.slot list → Ready text v i out-then list-then
+module _ {text : List ℕ} {w : Writing} {out list : List ℕ} {v : Writing} {i : ℕ} {out_then list_then : List ℕ}
+    (c : Came text w out list v i out_then list_then) where
+  pub came_ready : Room (bytes_left text w) w.at out → Room (numbers_left text w) w.slot list → Ready text v i out_then list_then
   came_ready a b = record {
     run = c.run;
     room = omega (arith, c.bytes.count, c.bytes.same);
     list_room = omega (arith, c.changes.count, c.changes.same);
   }
 
-  pub came_further : {u : Writing} {j : ℕ} {out-after list-after : List ℕ} → Came text v out-then list-then u j out-after list-after
-      → Came text w out list u j out-after list-after
+  pub came_further : {u : Writing} {j : ℕ} {out_after list_after : List ℕ} → Came text v out_then list_then u j out_after list_after
+      → Came text w out list u j out_after list_after
   came_further d = record { run = d.run; bytes = rest_then c.bytes d.bytes; changes = rest_then c.changes d.changes }
 
   module _ (h : length text ≤ i) where
@@ -253,15 +253,15 @@ module _ {text : List ℕ} {w : Writing} {out list : List ℕ} {v : Writing} {i 
     pub end_numbers : numbers_left text v ≡ run_numbers text v.from i
     end_numbers = ap numbers (changes_at_end text v.from i c.run h v.begun)
 
-    pub end_room : Room (bytes_left text w) w.at out → Room (run_bytes text v.from i) v.at out-then
+    pub end_room : Room (bytes_left text w) w.at out → Room (run_bytes text v.from i) v.at out_then
     end_room a = omega (arith, c.bytes.count, c.bytes.same, ap length end_bytes)
 
-    pub end_list_room : Room (numbers_left text w) w.slot list → Room (run_numbers text v.from i) v.slot list-then
+    pub end_list_room : Room (numbers_left text w) w.slot list → Room (run_numbers text v.from i) v.slot list_then
     end_list_room a = omega (arith, c.changes.count, c.changes.same, ap length end_numbers)
 
-    pub end_out : {to : ℕ} {after : List ℕ} → Wrote (run_bytes text v.from i) v.at out-then to after → after ≡ sets out w.at (bytes_left text w)
+    pub end_out : {to : ℕ} {after : List ℕ} → Wrote (run_bytes text v.from i) v.at out_then to after → after ≡ sets out w.at (bytes_left text w)
     end_out p = (rest_over (rest_more (rest_is (end_bytes ∙ sym (append-nil _)) c.bytes) p)).holds
 
-    pub end_list : {to : ℕ} {after : List ℕ} → Wrote (run_numbers text v.from i) v.slot list-then to after
+    pub end_list : {to : ℕ} {after : List ℕ} → Wrote (run_numbers text v.from i) v.slot list_then to after
         → after ≡ sets list w.slot (numbers_left text w)
     end_list p = (rest_over (rest_more (rest_is (end_numbers ∙ sym (append-nil _)) c.changes) p)).holds

@@ -7,7 +7,7 @@ ghost use Rattle.mending.specs.Machine.Passes.{plain_left, Ready, Stays, Feeds, 
 
 use crate::{CHANGE_NUMBERS, is_blank, next_byte};
 
-// The kinds of a change; specs/Rule.antt has both as drop-kind and space-kind.
+// The kinds of a change; specs/Rule.antt has both as drop_kind and space_kind.
 const DROPPED: u64 = 0;
 
 const SPACED: u64 = 1;

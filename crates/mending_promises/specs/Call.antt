@@ -15,26 +15,26 @@ use Rattle.mending_promises.specs.Promises.{Mends}
 
 -- The bytes of the answered length at the beginning of a buffer.
 abbrev pub clean_text : Clean → List ℕ → List ℕ
-clean_text c out-after = take c.length out-after
+clean_text c out_after = take c.length out_after
 
-pub record Answered (text out list : List ℕ) (c : Clean) (out-after list-after : List ℕ) : Type 0 where
+pub record Answered (text out list : List ℕ) (c : Clean) (out_after list_after : List ℕ) : Type 0 where
   -- The output begins with the mended text, of the answered length; what lies past it is as it was lent.
-  pub text_there : clean_text c out-after ≡ mended text
-  pub text_rest : drop c.length out-after ≡ drop c.length out
-  pub text_room : (length out-after ≡ length out) × (c.length ≤ length out)
+  pub text_there : clean_text c out_after ≡ mended text
+  pub text_rest : drop c.length out_after ≡ drop c.length out
+  pub text_room : (length out_after ≡ length out) × (c.length ≤ length out)
   -- The list begins with two numbers for each change; what lies past them is as it was lent.
-  pub list_there : take (2 * c.changes) list-after ≡ numbers (changes text)
-  pub list_rest : drop (2 * c.changes) list-after ≡ drop (2 * c.changes) list
-  pub list_room : (length list-after ≡ length list) × (2 * c.changes ≤ length list)
+  pub list_there : take (2 * c.changes) list_after ≡ numbers (changes text)
+  pub list_rest : drop (2 * c.changes) list_after ≡ drop (2 * c.changes) list
+  pub list_room : (length list_after ≡ length list) × (2 * c.changes ≤ length list)
   -- These numbers, read as changes and made to the input, give the bytes in the output exactly; and they are the changes of the rule.
-  pub gives : made (read_off (take (2 * c.changes) list-after)) text ≡ clean_text c out-after
-  pub are : read_off (take (2 * c.changes) list-after) ≡ changes text
+  pub gives : made (read_off (take (2 * c.changes) list_after)) text ≡ clean_text c out_after
+  pub are : read_off (take (2 * c.changes) list_after) ≡ changes text
   -- Of which all this holds.
   pub mends : Mends text
   -- The verdict is the reader's answer for the bytes in the output, whatever buffer with room for the longest series it packs them into; and if
   -- they are accepted, any buffer with room for their packed form does.
-  pub verdict : (buffer : List ℕ) → packed_limit ≤ length buffer → told (whole (clean_text c out-after) buffer).reader ≡ c.verdict
-  pub accepted : (buffer : List ℕ) (n : ℕ) → c.verdict ≡ Accepted n → n ≤ length buffer → told (whole (clean_text c out-after) buffer).reader ≡ Accepted n
+  pub verdict : (buffer : List ℕ) → packed_limit ≤ length buffer → told (whole (clean_text c out_after) buffer).reader ≡ c.verdict
+  pub accepted : (buffer : List ℕ) (n : ℕ) → c.verdict ≡ Accepted n → n ≤ length buffer → told (whole (clean_text c out_after) buffer).reader ≡ Accepted n
   -- It is never for want of room, and never that more may come.
   pub never_seven : (p : ℕ) → c.verdict ≡ Refused (NoRoom p) → ⊥
   pub never_more : (n : ℕ) → c.verdict ≡ More n → ⊥
@@ -44,7 +44,7 @@ pub data RefusedFor (text out list : List ℕ) : Refusal → Type 0 where
   text_long : length out < length (mended text) → RefusedFor text out list (NoRoom (length (mended text)))
   list_long : length (mended text) ≤ length out → length list / 2 < length (changes text) → RefusedFor text out list (NoRoom (length (changes text)))
 
-pub record RefusedCall (text out list : List ℕ) (f : Refusal) (out-after list-after : List ℕ) : Type 0 where
+pub record RefusedCall (text out list : List ℕ) (f : Refusal) (out_after list_after : List ℕ) : Type 0 where
   pub why : RefusedFor text out list f
-  pub text_lent : out-after ≡ out
-  pub list_lent : list-after ≡ list
+  pub text_lent : out_after ≡ out
+  pub list_lent : list_after ≡ list

@@ -11,7 +11,7 @@ use mir.Syntax.{w64}
 use mir.Val.{SFits}
 use Rattle.integers.specs.Division.{rounded}
 use Rattle.integers.proofs.Auto.{ring!, polys}
-use Rattle.integers.proofs.Order.{natAbs-*, natAbs-+, fits}
+use Rattle.integers.proofs.Order.{nat_abs-*, nat_abs-+, fits}
 use Rattle.integers.proofs.Rounding.{rounded_scale}
 use Rattle.arith.proofs.Ranges.{rounded_within}
 use Rattle.nutation.specs.Nutation.{polynomial}
@@ -23,12 +23,12 @@ room v n d w h k l = omega (arith, mul-le-mul_left v k, mul-le-mul_left d l)
 
 pub step_bound : (k : ℕ) (c v n : ℤ) (d : ℕ) → 0 < d → nat_abs n ≤ d * k → nat_abs (c +ℤ rounded (v *ℤ n) d) ≤ nat_abs c + k * nat_abs v
 step_bound k c v n d h l =
-    let a = natAbs-+ c (rounded (v *ℤ n) d) in
+    let a = nat_abs-+ c (rounded (v *ℤ n) d) in
     let p = rounded_within (v *ℤ n) d (k * nat_abs v) h product in
     omega arith
   where
     product : nat_abs (v *ℤ n) ≤ k * nat_abs v * d
-    product = omega (arith, natAbs-* v n, mul-le-mul_left (nat_abs v) l)
+    product = omega (arith, nat_abs-* v n, mul-le-mul_left (nat_abs v) l)
 
 pub step_fits : (c v n : ℤ) (d : ℕ) → By n d → nat_abs c + centuries * nat_abs v < 2 ^ 63 - 1 → SFits w64 (c +ℤ rounded (v *ℤ n) d)
 step_fits c v n d b h = fits (c +ℤ rounded (v *ℤ n) d) (omega (arith, step_bound centuries c v n d b.positive b.ratio))

@@ -7,7 +7,7 @@ use native.Mathlib.Nat.{mul-le-mul}
 use lib.Dec.{lit<}
 use lib.IntN.{ℤ, pos, nat_abs, ◌+ℤ◌, ◌*ℤ◌}
 use Rattle.integers.proofs.Auto.{ring!, polys}
-use Rattle.integers.proofs.Order.{natAbs-*, natAbs-+}
+use Rattle.integers.proofs.Order.{nat_abs-*, nat_abs-+}
 use Rattle.integers.proofs.Division.{modulo_lt}
 use Rattle.arith.proofs.Cells.{Cell, held_le}
 use Rattle.nutation_table.specs.declared.Row.{Row}
@@ -34,10 +34,10 @@ at_small t a h = (
 )
 
 pub product_small : (m a : ℤ) → nat_abs m ≤ multiplier_limit → nat_abs a ≤ 2 ^ 47 → nat_abs (m *ℤ a) ≤ 2 ^ 49
-product_small m a h k = subst (λ (n : ℕ). n ≤ 2 ^ 49) (sym (natAbs-* m a)) (mul-le-mul h k)
+product_small m a h k = subst (λ (n : ℕ). n ≤ 2 ^ 49) (sym (nat_abs-* m a)) (mul-le-mul h k)
 
 pub sum_small : (s m a r : ℤ) → nat_abs m ≤ multiplier_limit → nat_abs a ≤ 2 ^ 47 → r ≡ s +ℤ m *ℤ a → nat_abs r ≤ nat_abs s + 2 ^ 49
-sum_small s m a r h k e = subst (λ t. nat_abs t ≤ nat_abs s + 2 ^ 49) (sym e) (omega (arith, natAbs-+ s (m *ℤ a), product_small m a h k))
+sum_small s m a r h k e = subst (λ t. nat_abs t ≤ nat_abs s + 2 ^ 49) (sym e) (omega (arith, nat_abs-+ s (m *ℤ a), product_small m a h k))
 
 -- ---- the sum s of k products, and the next one, m times a
 module _ (k : ℕ) (s m a : ℤ) (few : k < 5) (sum : nat_abs s ≤ k * 2 ^ 49) (by : nat_abs m ≤ multiplier_limit) (one : nat_abs a ≤ 2 ^ 47) where

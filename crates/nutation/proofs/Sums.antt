@@ -8,7 +8,7 @@ use lib.Dec.{lit≤}
 use lib.IntN.{ℤ, pos, nat_abs, ◌+ℤ◌}
 use lib.ListN.{get_or, drop, length}
 use lib.Seq.{drop-cons}
-use Rattle.integers.proofs.Order.{natAbs-+}
+use Rattle.integers.proofs.Order.{nat_abs-+}
 use Rattle.units.specs.Units.{t_limit}
 use Rattle.nutation_table.specs.declared.Row.{Row}
 use Rattle.nutation_table.specs.Table.{rows, no_row}
@@ -43,7 +43,7 @@ add_next term s s' i r h e f =
     sym (ap (λ l. add_up term s l) (next_row i h) ∙ ap (λ z. add_up term z (drop (i + 1) rows)) (ap (λ (q : Row). s +ℤ term q) (sym e) ∙ sym f))
 
 size_next : (s s' x : ℤ) (i : ℕ) → nat_abs s ≤ i * coefficient_limit → nat_abs x ≤ coefficient_limit → s' ≡ s +ℤ x → nat_abs s' ≤ (i + 1) * coefficient_limit
-size_next s s' x i h k e = subst (λ z. nat_abs z ≤ (i + 1) * coefficient_limit) (sym e) (omega (arith, natAbs-+ s x))
+size_next s s' x i h k e = subst (λ z. nat_abs z ≤ (i + 1) * coefficient_limit) (sym e) (omega (arith, nat_abs-+ s x))
 
 pub summed_more : (t : ℤ) (sum sum' : Nutation) (i : ℕ) (r : Row) → nat_abs t ≤ t_limit → Summed t sum i → i < row_count → r ≡ get_or rows i no_row → Small r
     → sum'.longitude ≡ sum.longitude +ℤ longitude_term t r → sum'.obliquity ≡ sum.obliquity +ℤ obliquity_term t r → Summed t sum' (i + 1)

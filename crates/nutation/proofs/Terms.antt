@@ -11,7 +11,7 @@ use Rattle.integers.specs.Order.{◌≼◌}
 use Rattle.integers.specs.Division.{floor, rounded}
 use Rattle.integers.proofs.Pairs.{nonneg}
 use Rattle.integers.proofs.Auto.{ring!, polys}
-use Rattle.integers.proofs.Order.{natAbs-*, natAbs-+, fits}
+use Rattle.integers.proofs.Order.{nat_abs-*, nat_abs-+, fits}
 use Rattle.integers.proofs.Division.{floor_modulo, rounded_add}
 use Rattle.integers.proofs.Rounding.{rounded_mono, rounded_zero, rounded_scale}
 use Rattle.arith.proofs.Ranges.{scaled_within}
@@ -116,7 +116,7 @@ coefficient_is t first rate r e =
     ∙ rounded_scale 10 (rate *ℤ t) century (lit< tt) (lit< tt)))
 
 pub ten_times : (first : ℤ) → nat_abs first ≤ figure_limit → nat_abs (pos 10 *ℤ first) ≤ 10 * figure_limit
-ten_times first h = omega (arith, natAbs-* (pos 10) first)
+ten_times first h = omega (arith, nat_abs-* (pos 10) first)
 
 pub coefficient_small : (t first rate : ℤ) → nat_abs t ≤ t_limit → nat_abs first ≤ figure_limit → nat_abs rate ≤ rate_limit
     → nat_abs (pos 10 *ℤ first +ℤ rounded (rate *ℤ t) century) ≤ coefficient_limit
@@ -144,7 +144,7 @@ pub same_small : (z w : ℤ) (k : ℕ) → z ≡ w → nat_abs w ≤ k → nat_a
 same_small z w k e h = subst (λ t. nat_abs t ≤ k) (sym e) h
 
 pub sum_fits : (a b : ℤ) → nat_abs a ≤ 2 ^ 60 → nat_abs b ≤ 2 ^ 60 → SFits w64 (a +ℤ b)
-sum_fits a b h k = fits (a +ℤ b) (omega (arith, natAbs-+ a b))
+sum_fits a b h k = fits (a +ℤ b) (omega (arith, nat_abs-+ a b))
 
 pub kept : (z : ℤ) (k : ℕ) → k < 2 ^ 63 → nat_abs z ≤ k → Cell z ≡ z
 kept z k l h = cell z (omega arith)

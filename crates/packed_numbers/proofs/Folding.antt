@@ -36,13 +36,13 @@ unfolding folded
 unfolded_folded (pos n) = even (2 * n) (omega arith) ∙ ap pos (omega arith)
 unfolded_folded (negsuc n) = odd (2 * n + 1) (λ (h : (2 * n + 1) % 2 ≡ 0). omega (arith, h)) ∙ ap negsuc (omega arith)
 
-pub natAbs_unfolded : (v : ℕ) → nat_abs (unfolded v) ≡ v / 2 + v % 2
-natAbs_unfolded = by_parity (λ (z : ℤ) (v : ℕ). nat_abs z ≡ v / 2 + v % 2) (λ v h. omega arith) (λ v h. omega arith)
+pub nat_abs_unfolded : (v : ℕ) → nat_abs (unfolded v) ≡ v / 2 + v % 2
+nat_abs_unfolded = by_parity (λ (z : ℤ) (v : ℕ). nat_abs z ≡ v / 2 + v % 2) (λ v h. omega arith) (λ v h. omega arith)
 
-pub folded_natAbs : (z : ℤ) → folded z ≤ 2 * nat_abs z
+pub folded_nat_abs : (z : ℤ) → folded z ≤ 2 * nat_abs z
 unfolding folded
-folded_natAbs (pos n) = omega arith
-folded_natAbs (negsuc n) = omega arith
+folded_nat_abs (pos n) = omega arith
+folded_nat_abs (negsuc n) = omega arith
 
 -- A small natural number as a signed one of 64 bits, and -1 less it.
 pub small : (n : ℕ) → n < 2 ^ 63 → to_z w64 n ≡ pos n

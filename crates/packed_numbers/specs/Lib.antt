@@ -1,3 +1,3 @@
--- Packed numbers: what they are (Numbers), and what only the code needs (machine).
+-- Packed numbers: what they are (Numbers), and what only the code needs (Machine).
 pub mod Numbers
 pub mod Machine

@@ -15,7 +15,7 @@ use Rattle.units.specs.declared.Refusal.TheVariants.{OverLimit, TotalOverLimit, 
 use Rattle.units.specs.declared.Refusal.TheVariants.{EndedEarly, NotShortest}
 use Rattle.units.specs.Units.{a_limit, b_limit, c_limit, series_limit, block_count}
 use Rattle.packed_numbers.specs.Numbers.{group, Read, got, bad, next, closed, groups_from, number, unfolded}
-use Rattle.packed_numbers.proofs.Folding.{natAbs_unfolded}
+use Rattle.packed_numbers.proofs.Folding.{nat_abs_unfolded}
 use Rattle.limits.specs.declared.Term.{Term}
 use Rattle.limits.specs.declared.Tally.{Tally}
 use Rattle.limits.specs.Limits.{no_tally, opened, added, after_block, factor, count_fits, a_fits, b_fits, c_fits, total_fits, coarse_fits}
@@ -125,7 +125,7 @@ abbrev pub By : {A : Type 0} → ℕ → A → ℕ → Type 0
 By limit x to = to ≤ limit
 
 halves : (v limit : ℕ) → nat_abs (unfolded v) < limit → v < 2 * limit
-halves v limit h = omega (arith, natAbs_unfolded v)
+halves v limit h = omega (arith, nat_abs_unfolded v)
 
 a_bounded : (s : Tally) (at : ℕ) (x : List ℕ) → Bounded (By (at + a_bytes)) (at + 8) (read_a s at x)
 unfolding read_a a_fits

@@ -8,7 +8,7 @@ use lib.IntN.{ℤ, nat_abs}
 use lib.ListN.{length}
 use Rattle.units.specs.Units.{c_limit}
 use Rattle.packed_numbers.specs.Numbers.{Read, got, next, number, encode, folded}
-use Rattle.packed_numbers.proofs.Folding.{folded_natAbs}
+use Rattle.packed_numbers.proofs.Folding.{folded_nat_abs}
 use Rattle.packed_numbers.proofs.Shortest.{AllBytes, bytes_append, encode_bytes, number_encoded, number_encodes}
 use Rattle.limits.specs.declared.Term.{Term}
 use Rattle.limits.specs.declared.Tally.{Tally}
@@ -94,7 +94,7 @@ blocks_begin (suc n) k s at x bs to rest a e =
 
 -- The packed form is read.
 small : (v : ℕ) (z : ℤ) → nat_abs z < c_limit → folded z < 2 ^ 63
-small v z h = omega (arith, folded_natAbs z)
+small v z h = omega (arith, folded_nat_abs z)
 
 term_packed : (f : ℕ) (s : Tally) (at : ℕ) (t : Term) (rest : List ℕ) → GoodTerm f s t
     → read_term f s at (pack_term t ++ rest) ≡ got t (at + length (encode (folded t.a)) + length (encode t.b) + length (encode (folded t.c))) rest

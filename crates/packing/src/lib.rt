@@ -118,7 +118,11 @@ fn convert<R: Read, W: Write, E: Write>(
     let state = read_all(input, text_out, file_out);
     let file = state.file;
     if heading_came(file) {
-        errors.write_all(b"read as a published file\n")?;
+        // A remark that cannot be told does not keep the packed form from coming.
+        match errors.write_all(b"read as a published file\n") {
+            Ok(()) => {}
+            Err(_) => {}
+        }
         let ended = published::end(file, file_out);
         return write_outcome(output, errors, published::answer(ended), file_out);
     }

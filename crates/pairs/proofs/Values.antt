@@ -7,7 +7,7 @@ use mir.Syntax.{w64}
 use mir.Val.{SFits}
 use Rattle.integers.specs.Division.{rounded}
 use Rattle.integers.proofs.Pairs.{nat, negᵢ, ◌-ᵢ◌, less}
-use Rattle.integers.proofs.Order.{nat_abs_le, natAbs-+, fits}
+use Rattle.integers.proofs.Order.{nat_abs_le, nat_abs-+, fits}
 use Rattle.arith.proofs.Signs.{back}
 use Rattle.arith.proofs.Cells.{Cell}
 use Rattle.arith.proofs.Ranges.{scaled_within}
@@ -21,7 +21,7 @@ value_small a c h k = scaled_within a (pos c -ℤ pos U) U a_limit (omega arith)
 pub two_fit : (a b : ℤ) (c d : ℕ) → nat_abs a < a_limit → nat_abs b < a_limit → c ≤ 2 * U → d ≤ 2 * U
     → SFits w64 (rounded (a *ℤ (pos c -ℤ pos U)) U +ℤ rounded (b *ℤ (pos d -ℤ pos U)) U)
 two_fit a b c d ha hb hc hd =
-    let m = natAbs-+ (rounded (a *ℤ (pos c -ℤ pos U)) U) (rounded (b *ℤ (pos d -ℤ pos U)) U) in
+    let m = nat_abs-+ (rounded (a *ℤ (pos c -ℤ pos U)) U) (rounded (b *ℤ (pos d -ℤ pos U)) U) in
     let i = value_small a c ha hc in
     let j = value_small b d hb hd in
     fits _ (omega arith)

@@ -10,7 +10,7 @@ use lib.ListN.{length, get_or, set, length-set}
 use lib.Seq.{get_or-set_same, get_or-set_other}
 use mir.Syntax.{w64}
 use mir.Val.{SFits}
-use Rattle.integers.proofs.Order.{natAbs-+}
+use Rattle.integers.proofs.Order.{nat_abs-+}
 use Rattle.arith.proofs.Cells.{Cell, cell}
 use Rattle.units.specs.Units.{a_limit}
 use Rattle.cosine.specs.Machine.Parity.{InRange}
@@ -97,7 +97,7 @@ module _ (f : ℤ → ℕ → ℤ) where
   half_size la lv (suc n) p =
       let s = half_size la lv n (half_less la lv n (suc n) (omega arith) p) in
       let v = (p.each n (omega arith)).value_below in
-      omega (arith, natAbs-+ (half_sum f la lv n) (f (get_or la n (pos 0)) (get_or lv n 0)))
+      omega (arith, nat_abs-+ (half_sum f la lv n) (f (get_or la n (pos 0)) (get_or lv n 0)))
 
   pub half_below : (la : List ℤ) (lv : List ℕ) (n : ℕ) → Half f la lv n → (sum : ℤ) → sum ≡ half_sum f la lv n → nat_abs sum ≤ room * a_limit
   half_below la lv n p sum e = subst (λ (x : ℤ). nat_abs x ≤ room * a_limit) (sym e) (let s = half_size la lv n p in let l = p.few in omega arith)
@@ -150,7 +150,7 @@ module _ (f : ℤ → ℕ → ℤ) (la : List ℤ) (lv : List ℕ) (i : ℕ) (p 
 
     z_size : nat_abs z < 2 * a_limit
     z_size = subst (λ (x : ℤ). nat_abs x < 2 * a_limit) (sym z_is)
-        (let s = first.value_below in let t = second.value_below in omega (arith, natAbs-+ (f a v) (f b w)))
+        (let s = first.value_below in let t = second.value_below in omega (arith, nat_abs-+ (f a v) (f b w)))
 
     sum_size : nat_abs sum ≤ room * a_limit
     sum_size = half_below f la lv i (half_less f la lv i (i + 2) (omega arith) p) sum es

@@ -6,7 +6,7 @@ use native.Mathlib.Omega.{arith}
 use lib.IntN.{ℤ, pos, nat_abs, ◌*ℤ◌, zero-*ℤ}
 use Rattle.integers.specs.Division.{rounded}
 use Rattle.integers.proofs.Rounding.{rounded_zero}
-use Rattle.integers.proofs.Order.{natAbs-+}
+use Rattle.integers.proofs.Order.{nat_abs-+}
 use Rattle.arith.proofs.Ranges.{scaled_within}
 use Rattle.units.specs.Units.{U}
 use Rattle.cosine.specs.Cosine.{cosine}
@@ -30,4 +30,4 @@ block_size t [] = omega arith
 block_size t (x ∷ xs) =
     let v = value_size x.a x.b x.c t in
     let s = block_size t xs in
-    omega (arith, natAbs-+ (term_value x.a x.b x.c t) (block_sum t xs))
+    omega (arith, nat_abs-+ (term_value x.a x.b x.c t) (block_sum t xs))

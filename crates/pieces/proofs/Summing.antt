@@ -5,7 +5,7 @@ use Prim.Native.Nat.{ℕ, zero, suc, ◌+◌, ◌-◌, ◌^◌, ◌≤◌, ◌<�
 use native.Mathlib.Omega.{arith}
 use lib.IntN.{ℤ, pos, nat_abs, ◌+ℤ◌, +ℤ_assoc, +ℤ_idl, +ℤ_idr}
 use lib.ListN.{length}
-use Rattle.integers.proofs.Order.{natAbs-+}
+use Rattle.integers.proofs.Order.{nat_abs-+}
 use Rattle.units.specs.Units.{a_limit, total_limit, series_limit}
 use Rattle.cosine.specs.Terms.{term_value}
 use Rattle.limits.specs.declared.Term.{Term}
@@ -113,7 +113,7 @@ module _ {t : ℤ} {rows : List (List ℕ)} {from to : ℕ} where
         within = k;
         space = s.space;
         limits = rest_fit piece rest (subst AllFit cut s.limits);
-        small = let l = size in let n = natAbs-+ sum v in omega arith;
+        small = let l = size in let n = nat_abs-+ sum v in omega arith;
         left =
             ap (λ (x : ℤ). sum +ℤ x +ℤ block_sum t rest) e
             ∙ +ℤ_assoc sum (block_sum t piece) (block_sum t rest)

@@ -2,7 +2,7 @@
 // into one of two tables by the parity of its quarter; then each table is summed. So no jump hangs on a quarter, which is as good as
 // random from term to term. A table has one place more than a piece has terms: a term of amplitude 0 stands past the last one, for a
 // last pair to end with. Of a term, ea and ev (at an even quarter) or oa and ov (at an odd one) hold the a and the v of
-// cosine/specs/machine/Parity.antt. For the crates above.
+// cosine/specs/Machine/Parity.antt. For the crates above.
 #![tactic(auto)]
 
 ghost use Rattle.std.specs.Prelude.{◌≡◌, ◌+◌, ◌-◌, ◌≤◌, ◌<◌};

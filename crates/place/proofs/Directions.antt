@@ -8,7 +8,7 @@ use lib.Dec.{eqb}
 use lib.IntN.{ℤ, pos, neg_ℤ, nat_abs, ◌+ℤ◌, ◌*ℤ◌}
 use Rattle.integers.specs.Root.{root}
 use Rattle.integers.specs.Signs.{negative}
-use Rattle.integers.proofs.Order.{natAbs-+, natAbs-*, natAbs_sgn}
+use Rattle.integers.proofs.Order.{nat_abs-+, nat_abs-*, nat_abs_sgn}
 use Rattle.rectangular.specs.declared.Vector.{Vector}
 use Rattle.rectangular.specs.Machine.Components.{Components}
 use Rattle.arith.proofs.Cells.{Cell, cell}
@@ -53,7 +53,7 @@ direction_le x y = either (eqb (nat_abs x + nat_abs y) 0) (within_turns_le 3 x y
 pub latitude_le : (x y z : ℤ) → nat_abs (latitude x y z) ≤ turn_steps
 unfolding latitude
 latitude_le x y z =
-    rw (natAbs_sgn (negative z) (direction (pos (root (nat_abs (x *ℤ x +ℤ y *ℤ y)))) (pos (nat_abs z))))
+    rw (nat_abs_sgn (negative z) (direction (pos (root (nat_abs (x *ℤ x +ℤ y *ℤ y)))) (pos (nat_abs z))))
     (direction_le (pos (root (nat_abs (x *ℤ x +ℤ y *ℤ y)))) (pos (nat_abs z)))
 
 -- ---- what the calls of direction and latitude ask
@@ -63,9 +63,9 @@ directions_ask k x y l h g = (rw (cell x (omega arith)) (omega arith), rw (cell 
 
 flat_size : (x y : ℤ) → nat_abs x ≤ equator_reach → nat_abs y ≤ equator_reach → nat_abs (x *ℤ x +ℤ y *ℤ y) < 2 ^ 92
 flat_size x y h g =
-    let s = natAbs-+ (x *ℤ x) (y *ℤ y) in
-    let a = natAbs-* x x in
-    let b = natAbs-* y y in
+    let s = nat_abs-+ (x *ℤ x) (y *ℤ y) in
+    let a = nat_abs-* x x in
+    let b = nat_abs-* y y in
     let p = mul-le-mul h h in
     let q = mul-le-mul g g in
     omega arith

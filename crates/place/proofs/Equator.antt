@@ -6,7 +6,7 @@ use native.Mathlib.Nat.{le_trans}
 use lib.Dec.{lit<}
 use lib.IntN.{ℤ, pos, nat_abs, ◌+ℤ◌, ◌-ℤ◌, ◌*ℤ◌}
 use Rattle.integers.specs.Division.{rounded}
-use Rattle.integers.proofs.Order.{natAbs_sub, natAbs-+}
+use Rattle.integers.proofs.Order.{nat_abs_sub, nat_abs-+}
 use Rattle.units.specs.Units.{U}
 use Rattle.cosine.specs.Cosine.{cosine, sine}
 use Rattle.rectangular.specs.declared.Vector.{Vector}
@@ -26,19 +26,19 @@ equator_size k e v h =
     let zs = le_trans (scaled_size v.z (sine e) (sine_size e)) h.z_in in
     record {
       x_in = (let a = h.x_in in omega arith);
-      y_in = (let s = natAbs_sub (rounded (v.y *ℤ cosine e) U) (rounded (v.z *ℤ sine e) U) in omega arith);
-      z_in = (let s = natAbs-+ (rounded (v.y *ℤ sine e) U) (rounded (v.z *ℤ cosine e) U) in omega arith);
+      y_in = (let s = nat_abs_sub (rounded (v.y *ℤ cosine e) U) (rounded (v.z *ℤ sine e) U) in omega arith);
+      z_in = (let s = nat_abs-+ (rounded (v.y *ℤ sine e) U) (rounded (v.z *ℤ cosine e) U) in omega arith);
     }
 
 -- The two products that y and z are made of, by a cosine and a sine, and their difference and sum.
 module _ (y z c s : ℤ) (y_in : nat_abs y ≤ 2 ^ 61) (z_in : nat_abs z ≤ 2 ^ 61) (c_in : nat_abs c ≤ U) (s_in : nat_abs s ≤ U) where
   pub difference_small : nat_abs (rounded (y *ℤ c) U -ℤ rounded (z *ℤ s) U) < 2 ^ 63
   difference_small =
-      omega (arith, natAbs_sub (rounded (y *ℤ c) U) (rounded (z *ℤ s) U), le_trans (scaled_size y c c_in) y_in, le_trans (scaled_size z s s_in) z_in)
+      omega (arith, nat_abs_sub (rounded (y *ℤ c) U) (rounded (z *ℤ s) U), le_trans (scaled_size y c c_in) y_in, le_trans (scaled_size z s s_in) z_in)
 
   pub sum_small : nat_abs (rounded (y *ℤ s) U +ℤ rounded (z *ℤ c) U) < 2 ^ 63
   sum_small =
-      omega (arith, natAbs-+ (rounded (y *ℤ s) U) (rounded (z *ℤ c) U), le_trans (scaled_size y s s_in) y_in, le_trans (scaled_size z c c_in) z_in)
+      omega (arith, nat_abs-+ (rounded (y *ℤ s) U) (rounded (z *ℤ c) U), le_trans (scaled_size y s s_in) y_in, le_trans (scaled_size z c c_in) z_in)
 
 -- A vector's numbers and a cosine c and a sine s, as they are handed on.
 module _ (v : Vector) (h : Components (2 ^ 61) v) (e : ℕ) (c s : ℤ) (pc : c ≡ cosine (pos e)) (ps : s ≡ sine (pos e)) where

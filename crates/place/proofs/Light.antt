@@ -6,7 +6,7 @@ use lib.IntN.{ℤ, pos, nat_abs, ◌-ℤ◌, ◌*ℤ◌}
 use mir.Syntax.{w64}
 use mir.Val.{SFits}
 use Rattle.integers.specs.Division.{rounded, floor}
-use Rattle.integers.proofs.Order.{natAbs_sub, natAbs-*, fits}
+use Rattle.integers.proofs.Order.{nat_abs_sub, nat_abs-*, fits}
 use Rattle.arith.proofs.Ranges.{rounded_within}
 use Rattle.units.specs.Units.{parts, t_limit}
 use Rattle.units.specs.declared.Instant.{Instant}
@@ -20,7 +20,7 @@ light_is d = refl
 -- Below 2^46 parts it is less than 2^30 ms.
 light_in : (d : ℕ) → d < 2 ^ 46 → nat_abs (light_time d) ≤ 2 ^ 30
 unfolding light_time
-light_in d h = rounded_within (pos light_ns *ℤ pos d) (ns_per_ms * parts) (2 ^ 30) (omega arith) (rw (natAbs-* (pos light_ns) (pos d)) (omega arith))
+light_in d h = rounded_within (pos light_ns *ℤ pos d) (ns_per_ms * parts) (2 ^ 30) (omega arith) (rw (nat_abs-* (pos light_ns) (pos d)) (omega arith))
 
 pub light_told : (d : ℕ) (z : ℤ) → d < 2 ^ 46 → z ≡ rounded (pos light_ns *ℤ pos d) (10000000 * 10000000000) → Cell z ≡ light_time d
 light_told d z h e =
@@ -32,7 +32,7 @@ module _ (t : Instant) (d : ℕ) (h : nat_abs t.ms ≤ t_limit) (l : d < 2 ^ 46)
   light_cell = cell z (subst (λ (w : ℤ). nat_abs w < 2 ^ 63) (sym e) (let k = light_in d l in omega arith)) ∙ e
 
   difference_in : nat_abs (t.ms -ℤ light_time d) < 2 ^ 63
-  difference_in = let s = natAbs_sub t.ms (light_time d) in let k = light_in d l in omega arith
+  difference_in = let s = nat_abs_sub t.ms (light_time d) in let k = light_in d l in omega arith
 
   cells_are : Cell t.ms -ℤ Cell z ≡ t.ms -ℤ light_time d
   cells_are = ap₂ ◌-ℤ◌ (cell t.ms (omega arith)) light_cell

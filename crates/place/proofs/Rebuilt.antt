@@ -6,7 +6,7 @@ use native.Mathlib.Nat.{mul-le-mul}
 use lib.IntN.{ℤ, pos, nat_abs, ◌+ℤ◌, ◌*ℤ◌}
 use Rattle.integers.specs.Division.{modulo}
 use Rattle.integers.specs.Root.{root}
-use Rattle.integers.proofs.Order.{natAbs-*}
+use Rattle.integers.proofs.Order.{nat_abs-*}
 use Rattle.integers.proofs.Division.{modulo_lt, modulo_add}
 use Rattle.integers.proofs.Root.{root_spec}
 use Rattle.arith.proofs.Ranges.{rounded_within}
@@ -61,7 +61,7 @@ module _ (k : ℤ) (h : nat_abs k ≤ turn_steps) where
 
   angle_size : nat_abs (steps_angle k) ≤ turn
   unfolding steps_angle units_angle
-  angle_size = rounded_within (k *ℤ pos turn) turn_steps turn (omega arith) (let a = natAbs-* k (pos turn) in omega arith)
+  angle_size = rounded_within (k *ℤ pos turn) turn_steps turn (omega arith) (let a = nat_abs-* k (pos turn) in omega arith)
 
   pub angle_is : (w : ℤ) (r : ℕ) → w ≡ units_angle turn_steps (Cell k) → r ≡ modulo (Cell w) turn → r ≡ modulo (steps_angle k) turn
   unfolding steps_angle

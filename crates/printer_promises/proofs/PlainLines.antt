@@ -5,8 +5,8 @@ use Prim.Native.Nat.{ℕ, zero, suc, ◌*◌, ◌/◌, ◌^◌, ◌<◌}
 use native.Mathlib.Omega.{arith}
 use lib.IntN.{ℤ, pos, negsuc, nat_abs}
 use Rattle.integers.specs.Signs.{negative, sgn}
-use Rattle.integers.proofs.Division.{sgn_natAbs}
-use Rattle.integers.proofs.Order.{natAbs_sgn}
+use Rattle.integers.proofs.Division.{sgn_nat_abs}
+use Rattle.integers.proofs.Order.{nat_abs_sgn}
 use Rattle.units.specs.Units as units
 use Rattle.limits.specs.declared.Term.{Term}
 use Rattle.series_lines.specs.Grammar.{part_digits, numeral, Decimal, size, value, GoodDecimal, CountLine, count, GoodCount}
@@ -33,7 +33,7 @@ decimal_good minus v h z =
 
 pub value_plain : (z : ℤ) → value (plain_decimal (negative z) (nat_abs z)) ≡ z
 unfolding value
-value_plain z = rw (size_plain (negative z) (nat_abs z)) (unfold plain_decimal in sgn_natAbs z)
+value_plain z = rw (size_plain (negative z) (nat_abs z)) (unfold plain_decimal in sgn_nat_abs z)
 
 above_zero : (z : ℤ) → negative z ≡ true → 0 < nat_abs z
 unfolding negative
@@ -62,7 +62,7 @@ negative_sgn true (suc v) h = refl
 
 pub value_unique : (d : Decimal) → GoodDecimal d → plain_decimal (negative (value d)) (nat_abs (value d)) ≡ d
 unfolding value
-value_unique d g = rw (natAbs_sgn d.minus (size d), negative_sgn d.minus (size d) g.zero) (decimal_unique d g)
+value_unique d g = rw (nat_abs_sgn d.minus (size d), negative_sgn d.minus (size d) g.zero) (decimal_unique d g)
 
 -- A count.
 pub count_plain : (n : ℕ) → count (plain_count n) ≡ n

@@ -51,13 +51,13 @@ line_plain l h =
     let d = (32 ∷ spaces l.after_b) ++ e in
     let b = (32 ∷ spaces l.after_a) ++ (decimal l.b ++ d) in
     let at_a = past feed (spaces l.lead) (decimal l.a ++ b) h in
-    let past-a = past at_a.before (decimal l.a) b at_a.is in
-    let at_b = past past-a.before (32 ∷ spaces l.after_a) (decimal l.b ++ d) past-a.is in
-    let past-b = past at_b.before (decimal l.b) d at_b.is in
+    let past_a = past at_a.before (decimal l.a) b at_a.is in
+    let at_b = past past_a.before (32 ∷ spaces l.after_a) (decimal l.b ++ d) past_a.is in
+    let past_b = past at_b.before (decimal l.b) d at_b.is in
     record {
       lead = none_leading l.lead (decimal l.a ++ b) h;
-      after_a = no_more past-a.before l.after_a (decimal l.b ++ d) past-a.is;
-      after_b = no_more past-b.before l.after_b e past-b.is;
+      after_a = no_more past_a.before l.after_a (decimal l.b ++ d) past_a.is;
+      after_b = no_more past_b.before l.after_b e past_b.is;
     }
 
 -- What follows a line feed.

@@ -42,7 +42,7 @@ record_as_line p e = rw e
 
 -- ---- A heading that is not refused, of block k.
 
-module _ (p : Published) (k : ℕ) (is_Block : k ≡ block_of p.row.coordinate p.row.power) (good : (heading_end p).refusal ≡ 0) where
+module _ (p : Published) (k : ℕ) (is_block : k ≡ block_of p.row.coordinate p.row.power) (good : (heading_end p).refusal ≡ 0) where
   -- What is written, and the tally.
   abbrev counts : ℕ → List ℕ
   counts j = zeros (j - p.reader.blocks) ++ encode p.row.line.value
@@ -53,10 +53,10 @@ module _ (p : Published) (k : ℕ) (is_Block : k ≡ block_of p.row.coordinate p
   module _ (s : Reader) (out o : List ℕ) (put : Put) (n : ℕ) (answers : put ≡ put_bytes_answer (counts k) p.reader.written out)
       (stores : o ≡ put_bytes (counts k) p.reader.written out) where
     answer_is : put ≡ put_bytes_answer (heading_end p).bytes p.reader.written out
-    answer_is = answers ∙ ap (λ (j : ℕ). put_bytes_answer (counts j) p.reader.written out) is_Block
+    answer_is = answers ∙ ap (λ (j : ℕ). put_bytes_answer (counts j) p.reader.written out) is_block
 
     store_is : o ≡ put_bytes (heading_end p).bytes p.reader.written out
-    store_is = stores ∙ ap (λ (j : ℕ). put_bytes (counts j) p.reader.written out) is_Block
+    store_is = stores ∙ ap (λ (j : ℕ). put_bytes (counts j) p.reader.written out) is_block
 
     pub heading_full : put ≡ NoRoom n → s ≡ stopped p.reader no_room
         → (s ≡ wrote p.reader out (heading_end p)) × (o ≡ wrote_out p.reader out (heading_end p))
@@ -66,7 +66,7 @@ module _ (p : Published) (k : ℕ) (is_Block : k ≡ block_of p.row.coordinate p
         → (s ≡ wrote p.reader out (heading_end p)) × (o ≡ wrote_out p.reader out (heading_end p))
     heading_next f e =
         wrote_next p.reader s out (heading_end p) good put o n _ answer_is store_is f
-        (e ∙ ap (λ (j : ℕ). advanced p.reader n (j + 1) p.row.line.value (after j)) is_Block)
+        (e ∙ ap (λ (j : ℕ). advanced p.reader n (j + 1) p.row.line.value (after j)) is_block)
 
 -- ---- A line feed, by what the record is.
 
@@ -160,14 +160,14 @@ module _ (p q : Published) (out after : List ℕ) where
           let t = le-ltb 1 p.row.column between in
           let u = lt-ltb 0 p.reader.left h in (rw (g, t, u, e), rw (g, t, u))
 
-      module _ (none_left : p.reader.left ≤ 0) (m : ℕ) (is-missing : m ≡ block_count - p.reader.blocks) (put : Put) (n : ℕ)
+      module _ (none_left : p.reader.left ≤ 0) (m : ℕ) (is_missing : m ≡ block_count - p.reader.blocks) (put : Put) (n : ℕ)
           (answers : put ≡ put_bytes_answer (zeros m) p.reader.written out)
           (stores : after ≡ put_bytes (zeros m) p.reader.written out) where
         answer_for : put ≡ put_bytes_answer (missing p) p.reader.written out
-        answer_for = answers ∙ ap (λ (j : ℕ). put_bytes_answer (zeros j) p.reader.written out) is-missing
+        answer_for = answers ∙ ap (λ (j : ℕ). put_bytes_answer (zeros j) p.reader.written out) is_missing
 
         store_for : after ≡ put_bytes (missing p) p.reader.written out
-        store_for = stores ∙ ap (λ (j : ℕ). put_bytes (zeros j) p.reader.written out) is-missing
+        store_for = stores ∙ ap (λ (j : ℕ). put_bytes (zeros j) p.reader.written out) is_missing
 
         pub ended_full : put ≡ NoRoom n → q ≡ halted p no_room → (q ≡ ended p out) × (after ≡ ended_out p out)
         unfolding ended ended_out inside
@@ -185,5 +185,5 @@ module _ (p q : Published) (out after : List ℕ) where
             let t = le-ltb 1 p.row.column between in
             let u = le-ltb 0 p.reader.left none_left in
             let v = (fit (fits (missing p) p.reader.written out) _ _ n put answer_for f).0 in
-            let l : m ≡ length (missing p) = is-missing ∙ sym (length_zeros (block_count - p.reader.blocks)) in
+            let l : m ≡ length (missing p) = is_missing ∙ sym (length_zeros (block_count - p.reader.blocks)) in
             (rw (g, t, u, v) (e ∙ ap (λ (j : ℕ). finished p j) l), rw (g, t, u) store_for)

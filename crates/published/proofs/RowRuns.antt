@@ -15,7 +15,7 @@ use Rattle.published_records.specs.Rows.{lex_row, lex_rows}
 use Rattle.published_records.specs.Machine.Runs.{between, RunsOn, Takes}
 use Rattle.published.specs.declared.Published.{Published}
 use Rattle.published.specs.Reader.{at_heading, further, complete, step, step_out, run}
-use Rattle.published.specs.Machine.Rows.{Counts, Goes_on}
+use Rattle.published.specs.Machine.Rows.{Counts, GoesOn}
 use Rattle.published.proofs.Branches.{other_good, step_other}
 
 -- The reader after n bytes of its record, which leave the row.
@@ -100,7 +100,7 @@ between_rest text from next h =
 
 -- A run goes on where the reader can count the bytes of the text.
 pub row_taken : (p : Published) (text : List ℕ) (from : ℕ) (heading : Bool) (row : Row) (next : ℕ) → at_heading p ≡ heading → from ≤ length text
-    → Counts p (length text - from) → Takes heading p.row text from row next → Goes_on p text from (onward p (next - from) row) next
+    → Counts p (length text - from) → Takes heading p.row text from row next → GoesOn p text from (onward p (next - from) row) next
 row_taken p text from heading row next e h k t =
     let xs = between text from next in
     let inside = t.inside h in
@@ -117,5 +117,5 @@ row_taken p text from heading row next e h k t =
     }
 
 -- Where no byte is taken all goes on as it stands.
-pub as_it_stands : (p : Published) (text : List ℕ) (from : ℕ) → Goes_on p text from p from
+pub as_it_stands : (p : Published) (text : List ℕ) (from : ℕ) → GoesOn p text from p from
 as_it_stands p text from = record { onward = omega arith; same = λ out. refl }

@@ -1,6 +1,6 @@
 // The bytes of a record in a run, which nearly all bytes of a file are: only the row changes with each, and they are counted together.
 ghost use Rattle.std.specs.Prelude.{◌≡◌, true};
-ghost use Rattle.published.specs.Machine.Rows.{Counts, Goes_on};
+ghost use Rattle.published.specs.Machine.Rows.{Counts, GoesOn};
 
 use crate::Published;
 use crate::steps::{at_heading, complete};
@@ -34,7 +34,7 @@ fn counts(p: Published, n: usize) -> bool
 
 // The bytes that stand from an index on, as far as the record goes on with them.
 pub fn take_row(p: Published, text: &[u8], from: usize) -> Taken
-    ensures { Goes_on p text.now from result.published result.next }
+    ensures { GoesOn p text.now from result.published result.next }
 {
     if text.len() <= from {
         return Taken {

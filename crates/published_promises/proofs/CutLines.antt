@@ -103,7 +103,7 @@ record_long t g =
     let b = decimal t.b ++ (spaces t.c_indent ++ c) in
     let a = decimal t.a ++ (spaces t.b_indent ++ b) in
     let before_a = t.before_a ++ (spaces t.a_indent ++ a) in
-    let line-b = decimal t.b ++ ((32 ∷ []) ++ decimal t.c) in
+    let line_b = decimal t.b ++ ((32 ∷ []) ++ decimal t.c) in
     omega (
       arith,
       g.before_a.columns,
@@ -117,7 +117,7 @@ record_long t g =
       length-append (decimal t.b) (spaces t.c_indent ++ c),
       length-append (spaces t.c_indent) c,
       length-append (decimal t.c) (spaces t.after),
-      length-append (decimal t.a) ((32 ∷ []) ++ line-b),
+      length-append (decimal t.a) ((32 ∷ []) ++ line_b),
       length-append (decimal t.b) ((32 ∷ []) ++ decimal t.c),
     )
 

@@ -51,16 +51,16 @@ pub data Agree (rs : List AnyRecord) (out : List ℕ) : Outcome → List ℕ →
   both_accept : (n : ℕ) (left : List ℕ) → Agree rs out (Accepted n) left (Accepted n) left
   -- Both refuse alike: the one at the line feed of a record, the other in a line that is cut out of it.
   both_refuse : (before after : List AnyRecord) (r : AnyRecord) → rs ≡ before ++ (r ∷ after)
-      → (c place : ℕ) → OfLimits c → InCutOf before r place → (left text-left : List ℕ)
-      → Agree rs out (Refused (of_number c (length (file_bytes before) + length (any_record_bytes r)))) left (Refused (of_number c place)) text-left
+      → (c place : ℕ) → OfLimits c → InCutOf before r place → (left text_left : List ℕ)
+      → Agree rs out (Refused (of_number c (length (file_bytes before) + length (any_record_bytes r)))) left (Refused (of_number c place)) text_left
   -- A heading with a count over its limit, after blocks without one, where there is no room for their counts: they come first in the text,
   -- while the reader of the file judges the heading before it writes them.
   over_and_full : (before after : List AnyRecord) (h : Heading) → rs ≡ before ++ (a_heading h ∷ after)
-      → (place : ℕ) → InZeroLines before (heading_block h - blocks_of 0 before) out place → (left text-left : List ℕ)
-      → Agree rs out (Refused (OverLimit (length (file_bytes before) + length (heading_bytes h)))) left (Refused (NoRoom place)) text-left
+      → (place : ℕ) → InZeroLines before (heading_block h - blocks_of 0 before) out place → (left text_left : List ℕ)
+      → Agree rs out (Refused (OverLimit (length (file_bytes before) + length (heading_bytes h)))) left (Refused (NoRoom place)) text_left
   -- There is no room for the counts of the blocks after the last heading: the one refuses at the end, the other in a line `0`.
-  both_full : (place : ℕ) → InZeroLines rs (block_count - blocks_of 0 rs) out place → (left text-left : List ℕ)
-      → Agree rs out (Refused (NoRoom (length (file_bytes rs)))) left (Refused (NoRoom place)) text-left
+  both_full : (place : ℕ) → InZeroLines rs (block_count - blocks_of 0 rs) out place → (left text_left : List ℕ)
+      → Agree rs out (Refused (NoRoom (length (file_bytes rs)))) left (Refused (NoRoom place)) text_left
 
 -- The same of the two readers, each called with the whole of its input and its end.
 abbrev pub BothAgree : List AnyRecord → List ℕ → Type 0

@@ -36,7 +36,7 @@ indent c k f on h =
     (λ p. by_cases (leb c a_first) (λ q. let g : k < 0 = rw (p, q) at h in absurd (omega arith))
     (λ q. let past : a_first < c = leb-false _ _ q in by_cases (leb c a_whole) (λ s. in_a (omega (arith, past, on)) (rw (p, q, s) at h))
     (λ s. by_cases (leb c c_first) (λ t. let g : k < 0 = rw (p, q, s, t) at h in absurd (omega arith))
-    (λ t. let past-c : c_first < c = leb-false _ _ t in by_cases (leb c c_whole) (λ u. in_c (omega (arith, past-c, on)) (rw (p, q, s, t, u) at h))
+    (λ t. let past_c : c_first < c = leb-false _ _ t in by_cases (leb c c_whole) (λ u. in_c (omega (arith, past_c, on)) (rw (p, q, s, t, u) at h))
     (λ u. let g : k < 0 = rw (p, q, s, t, u) at h in absurd (omega arith))))))
 
 kind_number : (k : ℕ) → number_first ≤ k → k < number_last → term_column k ≡ Count (number_last - k)

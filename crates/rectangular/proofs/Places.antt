@@ -9,7 +9,7 @@ use mir.Val.{SFits}
 use lib.IntN.{ℤ, pos, nat_abs, neg_ℤ, ◌+ℤ◌, ◌-ℤ◌, ◌*ℤ◌}
 use Rattle.integers.specs.Division.{rounded, modulo}
 use Rattle.integers.specs.Root.{root}
-use Rattle.integers.proofs.Order.{natAbs-*, natAbs-+, natAbs_sub, fits, square_natAbs}
+use Rattle.integers.proofs.Order.{nat_abs-*, nat_abs-+, nat_abs_sub, fits, square_nat_abs}
 use Rattle.integers.proofs.Auto.{polys, ring! }
 use Rattle.integers.proofs.Division.{modulo_lt}
 use Rattle.integers.proofs.Root.{root_spec}
@@ -94,11 +94,11 @@ reduced r b l = rw (cosine_mod b, sine_mod b, cosine_mod l, sine_mod l)
 pub squared_size : (k : ℕ) (v : Vector) → Components k v → nat_abs (squared v) ≤ 3 * (k * k)
 unfolding squared
 squared_size k v c =
-    let x = natAbs-* v.x v.x in
-    let y = natAbs-* v.y v.y in
-    let z = natAbs-* v.z v.z in
-    let a = natAbs-+ (v.x *ℤ v.x +ℤ v.y *ℤ v.y) (v.z *ℤ v.z) in
-    let b = natAbs-+ (v.x *ℤ v.x) (v.y *ℤ v.y) in
+    let x = nat_abs-* v.x v.x in
+    let y = nat_abs-* v.y v.y in
+    let z = nat_abs-* v.z v.z in
+    let a = nat_abs-+ (v.x *ℤ v.x +ℤ v.y *ℤ v.y) (v.z *ℤ v.z) in
+    let b = nat_abs-+ (v.x *ℤ v.x) (v.y *ℤ v.y) in
     omega (arith, mul-le-mul c.x_in c.x_in, mul-le-mul c.y_in c.y_in, mul-le-mul c.z_in c.z_in)
 
 -- ---- what the calls ask
@@ -109,12 +109,12 @@ pub sine_cell : (z x : ℤ) → z ≡ sine x → nat_abs (Cell z) ≤ U
 sine_cell z x e = held_le z U (omega arith) (subst (λ (t : ℤ). nat_abs t ≤ U) (sym e) (sine_size x))
 
 pub difference_fits : (x y : ℤ) → nat_abs x ≤ 2 ^ 61 → nat_abs y ≤ 2 ^ 61 → SFits w64 (Cell x -ℤ Cell y)
-difference_fits x y h k = rw (cell x (omega arith), cell y (omega arith)) (fits (x -ℤ y) (let s = natAbs_sub x y in omega arith))
+difference_fits x y h k = rw (cell x (omega arith), cell y (omega arith)) (fits (x -ℤ y) (let s = nat_abs_sub x y in omega arith))
 
 pub difference_is : (x y z : ℤ) → nat_abs x ≤ 2 ^ 61 → nat_abs y ≤ 2 ^ 61 → z ≡ Cell x -ℤ Cell y → Cell z ≡ x -ℤ y
 difference_is x y z h k e =
     let p : z ≡ x -ℤ y = e ∙ ap₂ ◌-ℤ◌ (cell x (omega arith)) (cell y (omega arith)) in
-    let q : nat_abs z < 2 ^ 63 = let s = natAbs_sub x y in subst (λ (t : ℤ). nat_abs t < 2 ^ 63) (sym p) (omega arith) in
+    let q : nat_abs z < 2 ^ 63 = let s = nat_abs_sub x y in subst (λ (t : ℤ). nat_abs t < 2 ^ 63) (sym p) (omega arith) in
     cell z q ∙ p
 
 pub three : {x x' y y' z z' : ℤ} → x ≡ x' → y ≡ y' → z ≡ z' → ◌≡◌ {A = Vector} (record { x = x; y = y; z = z }) (record { x = x'; y = y'; z = z' })
@@ -160,7 +160,7 @@ component x y z =
 
 squared_is : (v : Vector) → nat_abs (squared v) ≡ nat_abs v.x * nat_abs v.x + nat_abs v.y * nat_abs v.y + nat_abs v.z * nat_abs v.z
 unfolding squared
-squared_is v = rw (square_natAbs v.x, square_natAbs v.y, square_natAbs v.z)
+squared_is v = rw (square_nat_abs v.x, square_nat_abs v.y, square_nat_abs v.z)
 
 pub within_length : (v : Vector) → Components (length v) v
 unfolding length

@@ -4,7 +4,7 @@ use mathlib.Core.Bool.{true}
 use Prim.Native.Nat.{ℕ, ◌+◌, ◌^◌, ◌≤◌, ◌<◌}
 use native.Mathlib.Omega.{arith}
 use lib.IntN.{ℤ, nat_abs, ◌-ℤ◌}
-use Rattle.integers.proofs.Order.{natAbs_sub}
+use Rattle.integers.proofs.Order.{nat_abs_sub}
 use Rattle.units.specs.declared.Coordinates.{Coordinates}
 use Rattle.rectangular.specs.declared.Vector.{Vector}
 use Rattle.rectangular.specs.Vectors.{geocentric}
@@ -23,7 +23,7 @@ geocentric_size k a b h g = record {
 }
   where
     one : (x y : ℤ) → nat_abs x ≤ k → nat_abs y ≤ k → nat_abs (x -ℤ y) ≤ k + k
-    one x y h g = let s = natAbs_sub x y in omega arith
+    one x y h g = let s = nat_abs_sub x y in omega arith
 
 pub place_reach : (c : Coordinates) → radius_usable c.radius ≡ true → Components greatest_radius (place c)
 place_reach c h = smaller (nat_abs c.radius) greatest_radius (place c) (radius_size c.radius h) (place_size c)

@@ -9,7 +9,7 @@ use lib.IntN.{ℤ, pos, nat_abs, ◌+ℤ◌, ◌*ℤ◌}
 use mir.Syntax.{w64}
 use mir.Val.{SFits}
 use Rattle.integers.specs.Division.{floor, rounded}
-use Rattle.integers.proofs.Order.{natAbs-*, natAbs-+, fits}
+use Rattle.integers.proofs.Order.{nat_abs-*, nat_abs-+, fits}
 use Rattle.integers.proofs.Auto.{polys, ring! }
 use Rattle.arith.proofs.Ranges.{scaled_within, rounded_half}
 use Rattle.arith.proofs.Cells.{Cell, cell, held_le}
@@ -63,7 +63,7 @@ module _ (m v : List ℤ) (hm : Numbers about_z m) (hv : Numbers (2 ^ 43) v) whe
       let a = share (at m 0) (at v 0) in
       let b = share (at m 1) (at v 1) in
       let c = share (at m 2) (at v 2) in
-      omega (arith, natAbs-+ (a +ℤ b) c, natAbs-+ a b, p.0, p.1, p.2)
+      omega (arith, nat_abs-+ (a +ℤ b) c, nat_abs-+ a b, p.0, p.1, p.2)
 
   -- the three products x, y and z, as their bits, and their sums s and r
   module _ (x y z : ℤ) (px : x ≡ rounded (Cell (at m 0) *ℤ Cell (at v 0)) frame_unit) (py : y ≡ rounded (Cell (at m 1) *ℤ Cell (at v 1)) frame_unit)
@@ -74,7 +74,7 @@ module _ (m v : List ℤ) (hm : Numbers about_z m) (hv : Numbers (2 ^ 43) v) whe
     two_in : nat_abs (Cell x +ℤ Cell y) ≤ 2 * 2 ^ 43
     two_in =
         let p = products_in in
-        rw two_are (omega (arith, natAbs-+ (share (at m 0) (at v 0)) (share (at m 1) (at v 1)), p.0, p.1))
+        rw two_are (omega (arith, nat_abs-+ (share (at m 0) (at v 0)) (share (at m 1) (at v 1)), p.0, p.1))
 
     pub two_fit : SFits w64 (Cell x +ℤ Cell y)
     two_fit = fits (Cell x +ℤ Cell y) (let h = two_in in omega arith)
@@ -151,7 +151,7 @@ module _ (v : Vector) where
           ap₂ ◌+ℤ◌ (cell c (omega arith)) (cell r (subst (λ (t : ℤ). nat_abs t < 2 ^ 63) (sym row_told) (omega arith)) ∙ row_told)
 
       sum_in : nat_abs (c +ℤ row_times m numbers) < 2 ^ 63
-      sum_in = let k = row_times_in m numbers hm numbers_in in omega (arith, natAbs-+ c (row_times m numbers))
+      sum_in = let k = row_times_in m numbers hm numbers_in in omega (arith, nat_abs-+ c (row_times m numbers))
 
       pub sum_fits : SFits w64 (Cell c +ℤ Cell r)
       sum_fits = rw sum_is (fits (c +ℤ row_times m numbers) sum_in)
@@ -174,7 +174,7 @@ unfolding share
 share_size m v k h =
     let p = rounded_half (m *ℤ v) frame_unit (omega arith) in
     let q : nat_abs m * nat_abs v ≤ nat_abs m * k = mul-le-mul_left (nat_abs m) h in
-    omega (arith, natAbs-* m v)
+    omega (arith, nat_abs-* m v)
 
 pub turned_size : (k : ℕ) (v : Vector) → Components k v → Components (grown k) (turned v)
 unfolding turned
@@ -192,7 +192,7 @@ turned_size k v h = record {
     pair m n a b ha hb h = grows k (nat_abs m) (nat_abs n) (nat_abs (share m a)) (nat_abs (share n b)) h (share_size m a k ha) (share_size n b k hb)
 
     sum_size : (c : ℤ) → nat_abs c ≤ k → (a b : ℤ) → nat_abs a + nat_abs b ≤ k / 1000000 + 1 → nat_abs (c +ℤ a +ℤ b) ≤ k + k / 1000000 + 1
-    sum_size c h a b g = omega (arith, natAbs-+ (c +ℤ a) b, natAbs-+ c a)
+    sum_size c h a b g = omega (arith, nat_abs-+ (c +ℤ a) b, nat_abs-+ c a)
 
     second : (c a b : ℤ) → c +ℤ a +ℤ b ≡ a +ℤ c +ℤ b
     second c a b = ring! (c ∷ a ∷ b ∷ []) (search polys depth 30) tt

@@ -13,7 +13,7 @@ use mir.Val.{SFits}
 use Rattle.integers.specs.Order.{◌≼◌}
 use Rattle.integers.proofs.Tests.{both, at_most}
 use Rattle.integers.proofs.Auto.{polys, cert!, gap}
-use Rattle.integers.proofs.Order.{nat_abs_le, natAbs-+, fits}
+use Rattle.integers.proofs.Order.{nat_abs_le, nat_abs-+, fits}
 use Rattle.units.specs.declared.Coordinates.{Coordinates}
 use Rattle.rectangular.specs.Sight.{least_radius, greatest_radius, radius_usable, least_distance, distance_factor, usable, distance, places_usable}
 use Rattle.arith.proofs.Cells.{Cell, cell}
@@ -69,7 +69,7 @@ module _ (p e : ℤ) (hp : radius_usable p ≡ true) (he : radius_usable e ≡ t
   sum_is = let a = radius_size p hp in let b = radius_size e he in ap₂ ◌+ℤ◌ (cell p (omega arith)) (cell e (omega arith))
 
   sum_in : nat_abs (p +ℤ e) < 2 ^ 63
-  sum_in = let a = radius_size p hp in let b = radius_size e he in let s = natAbs-+ p e in omega arith
+  sum_in = let a = radius_size p hp in let b = radius_size e he in let s = nat_abs-+ p e in omega arith
 
   pub sum_fits : SFits w64 (Cell p +ℤ Cell e)
   sum_fits = rw sum_is (fits (p +ℤ e) sum_in)

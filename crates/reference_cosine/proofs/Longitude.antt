@@ -6,7 +6,7 @@ use lib.IntN.{ℤ, pos, nat_abs, ◌+ℤ◌, ◌-ℤ◌, ◌*ℤ◌, neg_ℤ}
 use Rattle.integers.specs.Order.{◌≼◌}
 use Rattle.integers.proofs.Pairs.{nonneg}
 use Rattle.integers.proofs.Auto.{cert!, cert<!, polys, gap, gap<, ◌⊛◌, ◌·◌}
-use Rattle.integers.proofs.Order.{natAbs_low, natAbs_high, ≺-nat}
+use Rattle.integers.proofs.Order.{nat_abs_low, nat_abs_high, ≺-nat}
 use Rattle.units.specs.Units.{U, parts, quarter, angle_step, angle_per_part, two_pi}
 use Rattle.cosine.specs.Cosine.{q_of, cosine, sine}
 use Rattle.reference_cosine.specs.Reference.{reference_cosine, reference_sine, Within}
@@ -44,8 +44,8 @@ angles : {L n : ℤ} {N : ℕ} → NearLongitude L n N → CloseAngles quarter a
 unfolding q_of
 angles {L} {n} {N} h =
     let ρ = L ∷ n ∷ pos N ∷ [] in
-    let hi = natAbs_high L angle_limit h.limit in
-    let lo = natAbs_low L angle_limit h.limit in
+    let hi = nat_abs_high L angle_limit h.limit in
+    let lo = nat_abs_low L angle_limit h.limit in
     record {
       N_pos = h.N_pos;
       m_pos = record { le = tt };

@@ -7,7 +7,7 @@ use lib.IntN.{ℤ, pos, ◌+ℤ◌, ◌*ℤ◌, neg_ℤ, zero-*ℤ}
 use Rattle.integers.specs.Order.{◌≼◌}
 use Rattle.integers.proofs.Pairs.{nonneg}
 use Rattle.integers.proofs.Auto.{cert!, polys, gap, gap<, ◌⊞◌, ◌·◌}
-use Rattle.integers.proofs.Order.{natAbs_low, natAbs_high}
+use Rattle.integers.proofs.Order.{nat_abs_low, nat_abs_high}
 use Rattle.integers.proofs.Bounds.{Bd, bd-*}
 use Rattle.integers.specs.Division.{rounded, modulo, floor}
 use Rattle.integers.proofs.Division.{rounded_low, rounded_high}
@@ -26,8 +26,8 @@ use Rattle.reference_cosine.proofs.WithinReference.{within_any, the_turn, G}
 product : {b : ℕ} {c t : ℤ} → Allowed b c t → Bd (pos c_limit *ℤ pos t_limit) (c *ℤ t)
 product {b} {c} {t} h =
     bd-* (pos c_limit) (pos t_limit) c t
-    (record { low = natAbs_low c c_limit (omega (arith, h.c_in)); high = natAbs_high c c_limit (omega (arith, h.c_in)) })
-    (record { low = natAbs_low t t_limit h.t_in; high = natAbs_high t t_limit h.t_in })
+    (record { low = nat_abs_low c c_limit (omega (arith, h.c_in)); high = nat_abs_high c c_limit (omega (arith, h.c_in)) })
+    (record { low = nat_abs_low t t_limit h.t_in; high = nat_abs_high t t_limit h.t_in })
 
 abbrev drift_limit : ℕ
 drift_limit = angle_per_part * c_limit * tau_limit
@@ -56,7 +56,7 @@ unfolding q_of
 angles {b} {c} {t} h =
     let d = rounded (pos angle_per_part *ℤ c *ℤ t) T in
     let ρ = pos b ∷ c ∷ t ∷ d ∷ [] in
-    let few : pos b ≼ pos b_limit = natAbs_high (pos b) b_limit (omega (arith, h.b_in)) in
+    let few : pos b ≼ pos b_limit = nat_abs_high (pos b) b_limit (omega (arith, h.b_in)) in
     record {
       N_pos = omega arith;
       m_pos = record { le = tt };

@@ -36,8 +36,8 @@ boundary (suc (suc (suc (suc k)))) h = absurd (omega arith)
 boundary_angle : Angle (pos A) (pos Y)
 boundary_angle = record { positive = record { lt = tt }; most = record { le = tt }; least = record { le = tt } }
 
-boundary-angle⁻ : Angle (neg_ℤ (pos A)) (pos Y)
-boundary-angle⁻ = record { positive = record { lt = tt }; most = record { le = tt }; least = record { le = tt } }
+boundary_angle⁻ : Angle (neg_ℤ (pos A)) (pos Y)
+boundary_angle⁻ = record { positive = record { lt = tt }; most = record { le = tt }; least = record { le = tt } }
 
 -- ---- the distance of each angle from the boundary, over g = Y·s·N
 here_near : (s N R R' f : ℤ) → pos 0 ≼ s → pos 0 ≼ N → R *ℤ (pos Y *ℤ N) -ℤ pos 2 *ℤ s *ℤ R' ≼ f → pos 2 *ℤ s *ℤ R' -ℤ R *ℤ (pos Y *ℤ N) ≼ f
@@ -168,7 +168,7 @@ next_quarter : (q j : ℤ) → modulo (q +ℤ pos 1 +ℤ j) 4 ≡ (modulo (q +�
 unfolding modulo
 next_quarter q j = ap (λ t. modulo t 4) (order q j) ∙ modulo_add (q +ℤ j) (pos 1) 4 (omega arith)
 
--- What is known of two reductions: R/s of quarter q, by the quarter Q/s, and R'/(F-as-N) of quarter q', by the reference's, of nearly one angle; G/(Y·s)
+-- What is known of two reductions: R/s of quarter q, by the quarter Q/s, and R'/(F·N) of quarter q', by the reference's, of nearly one angle; G/(Y·s)
 -- bounds Q/s less the reference's quarter.
 -- f/(Y·s·N) bounds the difference of the angles before the second is reduced
 pub record Two (Q s N G R R' q q' f : ℤ) : Type 0 where
@@ -207,8 +207,8 @@ not_far Q s N G R R' q q' f t = go (≼-or-≺ q' (q +ℤ pos 1))
         (search polys depth 60 fits 100000) tt in
         absurd bad.le
 
-not-far⁻ : (Q s N G R R' q q' f : ℤ) → Two Q s N G R R' q q' f → q ≼ q' +ℤ pos 1
-not-far⁻ Q s N G R R' q q' f t = go (≼-or-≺ q (q' +ℤ pos 1))
+not_far⁻ : (Q s N G R R' q q' f : ℤ) → Two Q s N G R R' q q' f → q ≼ q' +ℤ pos 1
+not_far⁻ Q s N G R R' q q' f t = go (≼-or-≺ q (q' +ℤ pos 1))
   where
     go : (q ≼ q' +ℤ pos 1) ⊎ (q' +ℤ pos 1 ≺ q) → q ≼ q' +ℤ pos 1
     go (inl h) = h
@@ -238,7 +238,7 @@ case_next k l Q s N G R R' q f t =
     across k ((k + 1) % 4) s N R R' (pos A) (neg_ℤ (pos A)) f (N *ℤ (pos A *ℤ s -ℤ pos Y *ℤ R) +ℤ G *ℤ N) (s *ℤ (pos 2 *ℤ R' +ℤ pos A *ℤ N)) G
     t.s_pos t.N_pos (up_bound s N R Q G hN t.G_pos t.R_most t.quarter)
     (cert! (s ∷ N ∷ R' ∷ []) 0 (hs ⊛ gap t.R'_least) (search polys depth 60 fits 100000) tt)
-    t.R_angle (R'_angle N R' t.N_pos t.R'_most t.R'_least) boundary_angle boundary-angle⁻
+    t.R_angle (R'_angle N R' t.N_pos t.R'_most t.R'_least) boundary_angle boundary_angle⁻
     (up_near s N R Q G hs hN t.G_pos t.R_most t.quarter) (boundary k l) (up_far s N R' hs hN t.R'_least)
     (cert! (s ∷ N ∷ R ∷ R' ∷ q ∷ f ∷ G ∷ []) 0 (gap t.below) (search polys depth 60 fits 100000) tt)
 
@@ -249,12 +249,12 @@ case_before k l Q s N G R R' q' f t =
     across ((k + 1) % 4) k s N R R' (neg_ℤ (pos A)) (pos A) f (N *ℤ (pos A *ℤ s +ℤ pos Y *ℤ R) +ℤ G *ℤ N) (s *ℤ (pos A *ℤ N -ℤ pos 2 *ℤ R')) G
     t.s_pos t.N_pos (down_bound s N R Q G hN t.G_pos t.R_least t.quarter)
     (cert! (s ∷ N ∷ R' ∷ []) 0 (hs ⊛ gap t.R'_most) (search polys depth 60 fits 100000) tt)
-    t.R_angle (R'_angle N R' t.N_pos t.R'_most t.R'_least) boundary-angle⁻ boundary_angle
+    t.R_angle (R'_angle N R' t.N_pos t.R'_most t.R'_least) boundary_angle⁻ boundary_angle
     (down_near s N R Q G hs hN t.G_pos t.R_least t.quarter) (near_sym (boundary k l)) (down_far s N R' hs hN t.R'_most)
     (cert! (s ∷ N ∷ R ∷ R' ∷ q' ∷ f ∷ G ∷ []) 0 (gap t.above) (search polys depth 60 fits 100000) tt)
 
 pub near_two : (j Q s N G R R' q q' f : ℤ) → Two Q s N G R R' q q' f → Agree (modulo (q +ℤ j) 4) (modulo (q' +ℤ j) 4) s N G R R' f
-near_two j Q s N G R R' q q' f t = go (beside q q' (not_far Q s N G R R' q q' f t) (not-far⁻ Q s N G R R' q q' f t))
+near_two j Q s N G R R' q q' f t = go (beside q q' (not_far Q s N G R R' q q' f t) (not_far⁻ Q s N G R R' q q' f t))
   where
     go : Beside q q' → Agree (modulo (q +ℤ j) 4) (modulo (q' +ℤ j) 4) s N G R R' f
     go (same_one e) =

@@ -24,9 +24,9 @@ within_law k g E x u l hg hl h e =
     (product_pos (pos 100000000000000000000000000000000000) g (record { lt = tt }) hg) (gap e ⊞ 1000000000 · (≺-≼ hl ⊛ gap h))
     (search polys depth 60 fits 100000) tt
 
-within-law⁻ : (k g E x u l : ℤ) → pos 0 ≺ g → pos 0 ≺ l → E ≼ pos 1000 *ℤ k *ℤ g *ℤ pos B
+within_law⁻ : (k g E x u l : ℤ) → pos 0 ≺ g → pos 0 ≺ l → E ≼ pos 1000 *ℤ k *ℤ g *ℤ pos B
     → pos 1000 *ℤ pos U *ℤ g *ℤ pos B *ℤ (u *ℤ pos U -ℤ x *ℤ l) ≼ E *ℤ (pos U *ℤ l) → neg_ℤ (k *ℤ l) ≼ x *ℤ l -ℤ pos U *ℤ u
-within-law⁻ k g E x u l hg hl h e =
+within_law⁻ k g E x u l hg hl h e =
     cert*! (k ∷ g ∷ E ∷ x ∷ u ∷ l ∷ []) (pos 100000000000000000000000000000000000 *ℤ g)
     (product_pos (pos 100000000000000000000000000000000000) g (record { lt = tt }) hg) (gap e ⊞ 1000000000 · (≺-≼ hl ⊛ gap h))
     (search polys depth 60 fits 100000) tt
@@ -49,7 +49,7 @@ within_shift {Q} {step} {G} t j X n N m e c k h =
     let hl : pos 0 ≺ l = f_low_pos k' (pos F *ℤ pos N) (product_pos (pos F) (pos N) (record { lt = tt }) hN) in
     let E = all_errors (pos step *ℤ pos U) (pos N) (pos G) (e +ℤ m *ℤ pos G *ℤ pos N) in
     let a = near_any t j X n N m e c in
-    record { positive = hl; most = within_law (pos k) g E x u l hg hl h a.hi; least = within-law⁻ (pos k) g E x u l hg hl h a.lo }
+    record { positive = hl; most = within_law (pos k) g E x u l hg hl h a.hi; least = within_law⁻ (pos k) g E x u l hg hl h a.lo }
 
 -- the working cosine of X and the reference cosine of n/N
 pub within_any : {Q step G : ℕ} → Turn Q step G → (X n : ℤ) (N : ℕ) (m e : ℤ) → CloseAngles Q step G X n N m e → (k : ℕ)

@@ -49,7 +49,7 @@ unfoldable pub power_term : Fraction → ℕ → ℕ → Fraction
 power_term x m i = overᶠ (alternate m (pos 1)) (factorial i) *ᶠ powerᶠ x i
 
 -- Of the angle n/N in radians, 2 pi being two_pi/10^30: q is rounded (n/N) / (two_pi/four_radians), and
--- r = n/N - q (two_pi/four_radians) is ref-r over four_radians N.
+-- r = n/N - q (two_pi/four_radians) is ref_r over four_radians N.
 unfoldable pub ref_q : ℤ → ℕ → ℤ
 ref_q n N = rounded (n *ℤ pos four_radians) (two_pi * N)
 

@@ -4,7 +4,7 @@ use Prim.Native.Nat.{ℕ, ◌+◌, ◌-◌, ◌*◌, ◌/◌, ◌%◌, ◌≤◌
 use native.Mathlib.Omega.{arith, by_contra}
 use native.Mathlib.Nat.{mul-le-mul, div-add-mod'}
 use lib.IntN.{ℤ, nat_abs, ◌+ℤ◌, ◌*ℤ◌}
-use Rattle.integers.proofs.Order.{square_natAbs}
+use Rattle.integers.proofs.Order.{square_nat_abs}
 use Rattle.arith.proofs.Long.{Divided}
 use Rattle.roots.specs.Machine.Word.{word, half_word}
 
@@ -57,4 +57,4 @@ upper_below n h l d k = let e = d.whole in omega arith
 
 -- the sum of three squares of whole numbers
 pub squares_value : (x y z : ℤ) → nat_abs (x *ℤ x +ℤ y *ℤ y +ℤ z *ℤ z) ≡ nat_abs x * nat_abs x + nat_abs y * nat_abs y + nat_abs z * nat_abs z
-squares_value x y z = ap nat_abs (ap₂ ◌+ℤ◌ (ap₂ ◌+ℤ◌ (square_natAbs x) (square_natAbs y)) (square_natAbs z))
+squares_value x y z = ap nat_abs (ap₂ ◌+ℤ◌ (ap₂ ◌+ℤ◌ (square_nat_abs x) (square_nat_abs y)) (square_nat_abs z))

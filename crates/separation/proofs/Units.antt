@@ -29,14 +29,14 @@ square_nonneg : (a : Vector) → pos 0 ≼ dot a a
 unfolding dot
 square_nonneg a = sqr a.x ⊞ sqr a.y ⊞ sqr a.z
 
-natAbs_of : (z : ℤ) → pos 0 ≼ z → pos (nat_abs z) ≡ z
-natAbs_of (pos n) h = refl
-natAbs_of (negsuc n) h = absurd h.le
+nat_abs_of : (z : ℤ) → pos 0 ≼ z → pos (nat_abs z) ≡ z
+nat_abs_of (pos n) h = refl
+nat_abs_of (negsuc n) h = absurd h.le
 
 length_low² : (a : Vector) → pos (length a) *ℤ pos (length a) ≼ dot a a
 unfolding length squared dot
 length_low² a =
-    subst (λ (t : ℤ). pos (root (nat_abs (dot a a)) * root (nat_abs (dot a a))) ≼ t) (natAbs_of (dot a a) (square_nonneg a))
+    subst (λ (t : ℤ). pos (root (nat_abs (dot a a)) * root (nat_abs (dot a a))) ≼ t) (nat_abs_of (dot a a) (square_nonneg a))
     (≼-nat _ _ (root_spec (nat_abs (dot a a))).low)
 
 length_high² : (a : Vector) → dot a a ≼ pos (length a) *ℤ pos (length a) +ℤ pos 2 *ℤ pos (length a)
@@ -44,7 +44,7 @@ unfolding length squared dot
 length_high² a =
     let r = root (nat_abs (dot a a)) in
     let h : nat_abs (dot a a) ≤ r * r + 2 * r = below r (nat_abs (dot a a)) (root_spec (nat_abs (dot a a))).high in
-    subst (λ (t : ℤ). t ≼ pos (r * r + 2 * r)) (natAbs_of (dot a a) (square_nonneg a)) (≼-nat _ _ h)
+    subst (λ (t : ℤ). t ≼ pos (r * r + 2 * r)) (nat_abs_of (dot a a) (square_nonneg a)) (≼-nat _ _ h)
   where
     below : (r n : ℕ) → n < (r + 1) * (r + 1) → n ≤ r * r + 2 * r
     below r n h = omega arith

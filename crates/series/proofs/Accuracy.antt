@@ -13,7 +13,7 @@ use Rattle.integers.specs.Division.{floor, rounded, modulo}
 use Rattle.integers.specs.Fractions.{Fraction, ◌*ᶠ◌, ◌+ᶠ◌, wholeᶠ, powerᶠ}
 use Rattle.integers.proofs.Auto.{polys, ring!, cert!, gap}
 use Rattle.integers.proofs.Pairs.{nonneg}
-use Rattle.integers.proofs.Order.{natAbs_low, natAbs_high, ≼-antisym}
+use Rattle.integers.proofs.Order.{nat_abs_low, nat_abs_high, ≼-antisym}
 use Rattle.integers.proofs.Division.{rounded_add}
 use Rattle.integers.proofs.Tests.{both}
 use Rattle.integers.proofs.Bounds.{Bd, bd_rounded}
@@ -39,8 +39,8 @@ abbrev u : ℤ
 u = pos U
 
 -- |z| ≤ n both ways
-bd_natAbs : (z : ℤ) (n : ℕ) → nat_abs z ≤ n → Bd (pos n) z
-bd_natAbs z n h = record { low = natAbs_low z n h; high = natAbs_high z n h }
+bd_nat_abs : (z : ℤ) (n : ℕ) → nat_abs z ≤ n → Bd (pos n) z
+bd_nat_abs z n h = record { low = nat_abs_low z n h; high = nat_abs_high z n h }
 
 -- ---- a term
 
@@ -92,7 +92,7 @@ module _ (m : ℕ) (t : ℤ) (hl : nat_abs t ≤ t_limit) (ht : nat_abs t ≤ m 
   q_positive = power_lower t millennium i (omega arith)
 
   p_bound : Bd (pos (m ^ i) *ℤ q) p
-  p_bound = power_bound m t millennium i (bd_natAbs t (m * millennium) ht)
+  p_bound = power_bound m t millennium i (bd_nat_abs t (m * millennium) ht)
 
   constant_close : (a : ℤ) → Close u (pos 0) p q (term_value a 0 (pos 0) t) (wholeᶠ a *ᶠ powerᶠ (tau t) i *ᶠ term_reference 0 (pos 0) t)
   unfolding term_value
@@ -109,7 +109,7 @@ module _ (m : ℕ) (t : ℤ) (hl : nat_abs t ≤ t_limit) (ht : nat_abs t ≤ m 
       let z = term_reference x.b x.c t in
       let w = P1 x.b x.c t (record { b_in = h.b_below; c_in = h.c_below; t_in = hl }) in
       close_term u (pos cosine_distance) (pos (nat_abs x.a)) (pos (m ^ i)) p q x.a c (rounded (x.a *ℤ c) U) z q_positive w.positive
-      (nonneg cosine_distance) p_bound (bd_natAbs x.a (nat_abs x.a) (omega arith))
+      (nonneg cosine_distance) p_bound (bd_nat_abs x.a (nat_abs x.a) (omega arith))
       (bd_rounded (x.a *ℤ c) U (omega arith)) (record { low = w.least; high = w.most })
 
   term_close : (x : Term) → TermFits x → Close u (pos (weight (m ^ i) x.a x.b x.c)) p q (term_value x.a x.b x.c t) (exact_term t i x)

@@ -93,7 +93,7 @@ close_step U m n w p q t T s v r f g hU hq hT hp hr h k =
           (bd-+ _ _ _ _ (bd-+ _ _ _ _ a b) c));
     }
 
--- ---- powers of tau = t/T, with |t| at most K-as-T
+-- ---- powers of tau = t/T, with |t| at most K·T
 
 pub power_lower : (t : ℤ) (T i : ℕ) → 0 < T → pos 0 ≺ (powerᶠ (overᶠ t T) i).lower
 unfolding powerᶠ ◌*ᶠ◌

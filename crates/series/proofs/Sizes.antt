@@ -9,7 +9,7 @@ use lib.IntN.{ℤ, pos, nat_abs, ◌*ℤ◌}
 use lib.ListN.{length, take, drop, length-take, length-drop}
 use Rattle.integers.specs.Division.{rounded}
 use Rattle.integers.proofs.Auto.{polys, nat-ring! }
-use Rattle.integers.proofs.Order.{natAbs-*, natAbs-+}
+use Rattle.integers.proofs.Order.{nat_abs-*, nat_abs-+}
 use Rattle.arith.proofs.Ranges.{rounded_within}
 use Rattle.units.specs.Units.{millennium, t_limit, powers, wide_total}
 use Rattle.units.specs.declared.Coordinates.{Coordinates}
@@ -28,7 +28,7 @@ use Rattle.series.proofs.Reach.{InReach, in_reach}
 pub carried_size : (m : ℕ) (v t : ℤ) → nat_abs t ≤ m * millennium → nat_abs (rounded (v *ℤ t) millennium) ≤ m * nat_abs v
 carried_size m v t h =
     rounded_within (v *ℤ t) millennium (m * nat_abs v) (omega arith)
-    (let e = natAbs-* v t in
+    (let e = nat_abs-* v t in
     let n = mul-le-mul_left (nat_abs v) h in
     let o : nat_abs v * (m * millennium) ≡ m * nat_abs v * millennium =
     nat-ring! (pos m ∷ pos (nat_abs v) ∷ pos millennium ∷ []) (search polys depth 60 fits 100000) tt in
@@ -49,7 +49,7 @@ running_size m total t ht (b ∷ c ∷ bs) h =
     let o : total * (1 + m * n) ≡ total + m * (total * n) =
     nat-ring! (pos m ∷ pos total ∷ pos n ∷ []) (search polys depth 60 fits 100000) tt in
     rw (running_step t b c bs, ladder_next m (length (c ∷ bs)))
-    (omega (arith, natAbs-+ (block_sum t b) (rounded (v *ℤ t) millennium)))
+    (omega (arith, nat_abs-+ (block_sum t b) (rounded (v *ℤ t) millennium)))
 
 -- no more blocks than k
 few_size : (m total k : ℕ) (t : ℤ) → nat_abs t ≤ m * millennium → (bs : List (List Term)) → TotalsIn total bs → length bs ≤ k →

@@ -7,7 +7,7 @@ use borrow.Author.Tests.{ltb-true, eq-eqb, ne_eqb}
 use lib.Dec.{ltb, eqb}
 use lib.IntN.{nat_abs}
 use Rattle.integers.proofs.Tests.{by_cases}
-use Rattle.integers.proofs.Order.{natAbs_sgn}
+use Rattle.integers.proofs.Order.{nat_abs_sgn}
 use Rattle.units.specs.Units.{block_count, a_limit, c_limit}
 use Rattle.units.specs.Refusals.{over_limit, byte_after_end}
 use Rattle.limits.specs.declared.Tally.{Tally}
@@ -20,7 +20,7 @@ use Rattle.series_lines.specs.Judge.{signed, term_on_line, count_refusal, term_l
 
 abs_signed : (minus value : ℕ) → value ≡ nat_abs (signed minus value)
 unfolding signed
-abs_signed minus value = sym (natAbs_sgn (ltb 0 minus) value)
+abs_signed minus value = sym (nat_abs_sgn (ltb 0 minus) value)
 
 module _ (f : ℕ) (s : Tally) (l : Line) where
   a_is : l.a ≡ nat_abs (term_on_line l).a

@@ -3,7 +3,7 @@ use Rattle.std.specs.Prelude.{◌≡◌, List, [], ◌∷◌, ℕ, ◌*◌, ℤ,
 use Rattle.units.specs.Units.{U, quarter}
 use Rattle.units.specs.declared.Instant.{Instant}
 use Rattle.units.specs.declared.Refusal.TheVariants.{NotShortest}
-use Rattle.calendar.specs.Promises.{Figure, Right as Right_date, marked as marked_dates}
+use Rattle.calendar.specs.Promises.{Figure, Right as RightDate, marked as marked_dates}
 use Rattle.cosine.specs.Cosine.{cosine}
 use Rattle.packed.specs.Series.{Parsed, refused, parse}
 use Rattle.series.specs.Sums.{coordinates_answer}
@@ -22,7 +22,7 @@ pub data Case : Type 0 where
 
 -- The definitions that the library is proved against give the case's answer.
 abbrev pub Right : Case → Type 0
-Right (date f) = Right_date f
+Right (date f) = RightDate f
 Right (cosine_at x c) = cosine x ≡ c
 Right (light d ms) = light_time d ≡ ms
 Right (coordinates_at bytes t a) = coordinates_answer bytes t ≡ a

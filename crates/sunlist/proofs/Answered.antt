@@ -27,19 +27,19 @@ use Rattle.sunlist.specs.SunList.{sun_list_by, sun_list_out_by, sun_list, sun_li
 abbrev pub list_of : (planet earth : List (List Term)) → Instant → ℕ → ℕ → List ℕ
 list_of planet earth t0 n k = run_numbers (window_flags (decision_at planet earth t0 k) 0 n)
 
-pub record Answered (planet-bytes earth-bytes : List ℕ) (t0 : Instant) (minutes keep_out : ℤ) (out : List ℕ) (count : ℕ) : Type 0 where
+pub record Answered (planet_bytes earth_bytes : List ℕ) (t0 : Instant) (minutes keep_out : ℤ) (out : List ℕ) (count : ℕ) : Type 0 where
   pub window : window_fits minutes keep_out ≡ true
   pub first : in_limit t0.ms ≡ true
   pub last : in_limit (minute t0 (nat_abs minutes - 1)).ms ≡ true
   pub planet : List (List Term)
   pub earth : List (List Term)
-  pub planet_series : parse planet-bytes ≡ accepted planet
-  pub earth_series : parse earth-bytes ≡ accepted earth
+  pub planet_series : parse planet_bytes ≡ accepted planet
+  pub earth_series : parse earth_bytes ≡ accepted earth
   pub asked : nat_abs minutes ≤ first_unasked four_millennia planet earth t0 (nat_abs minutes)
   pub usable : nat_abs minutes ≤ first_bad (decision_at planet earth t0 (nat_abs keep_out)) 0 (nat_abs minutes)
   pub fits : length (list_of planet earth t0 (nat_abs minutes) (nat_abs keep_out)) ≤ length out
   pub count_is : count ≡ length (list_of planet earth t0 (nat_abs minutes) (nat_abs keep_out))
-  pub holds : sun_list_out planet-bytes earth-bytes t0 minutes keep_out out ≡ sets out 0 (list_of planet earth t0 (nat_abs minutes) (nat_abs keep_out))
+  pub holds : sun_list_out planet_bytes earth_bytes t0 minutes keep_out out ≡ sets out 0 (list_of planet earth t0 (nat_abs minutes) (nat_abs keep_out))
 
 -- Each test on the way.
 refused_not : {A : Type 0} (r : Refusal) (xs : List ℕ) → no_numbers r ≡ numbers xs → A

@@ -78,14 +78,14 @@ module _ (planet earth : List ℕ) (t0 : Instant) (minutes keep_out : ℤ) (out 
     good : window_fits minutes keep_out ≡ true
     good = fits_told ∙ e
 
-    n_natAbs : n ≡ nat_abs minutes
-    n_natAbs = n_natural ∙ natural_is minutes (fits_is minutes keep_out good).minutes_in.whole
+    n_nat_abs : n ≡ nat_abs minutes
+    n_nat_abs = n_natural ∙ natural_is minutes (fits_is minutes keep_out good).minutes_in.whole
 
-    k_natAbs : k ≡ nat_abs keep_out
-    k_natAbs = k_natural ∙ natural_is keep_out (fits_is minutes keep_out good).keep_out_in.whole
+    k_nat_abs : k ≡ nat_abs keep_out
+    k_nat_abs = k_natural ∙ natural_is keep_out (fits_is minutes keep_out good).keep_out_in.whole
 
     pub in_range : (1 ≤ n) × (n ≤ most_minutes) × (k ≤ greatest_keep_out)
-    in_range = let f = fits_is minutes keep_out good in rw (n_natAbs, k_natAbs) (f.minutes_in.least, f.minutes_in.most, f.keep_out_in.most)
+    in_range = let f = fits_is minutes keep_out good in rw (n_nat_abs, k_nat_abs) (f.minutes_in.least, f.minutes_in.most, f.keep_out_in.most)
 
     pub first_refused : in_limit t0.ms ≡ false → Told (NoList (PastLimit t0)) out
     unfolding outcome_by
@@ -93,7 +93,7 @@ module _ (planet earth : List ℕ) (t0 : Instant) (minutes keep_out : ℤ) (out 
 
     module _ (h : in_limit t0.ms ≡ true) (last : Instant) (hl : last ≡ minute t0 (n - 1)) where
       last_is : last ≡ minute t0 (nat_abs minutes - 1)
-      last_is = hl ∙ ap (λ (m : ℕ). minute t0 (m - 1)) n_natAbs
+      last_is = hl ∙ ap (λ (m : ℕ). minute t0 (m - 1)) n_nat_abs
 
       pub last_refused : in_limit last.ms ≡ false → Told (NoList (PastLimit last)) out
       unfolding outcome_by
@@ -113,4 +113,4 @@ module _ (planet earth : List ℕ) (t0 : Instant) (minutes keep_out : ℤ) (out 
         series_told r now p =
             let f : in_limit (minute t0 (nat_abs minutes - 1)).ms ≡ true = ap (λ (t : Instant). in_limit t.ms) (sym last_is) ∙ g in
             told (of_series four_millennia (parse planet) (parse earth) t0 n k) r now
-            (rw (good, h, f) (ap₂ (of_series four_millennia (parse planet) (parse earth) t0) (sym n_natAbs) (sym k_natAbs))) p.0 p.1
+            (rw (good, h, f) (ap₂ (of_series four_millennia (parse planet) (parse earth) t0) (sym n_nat_abs) (sym k_nat_abs))) p.0 p.1

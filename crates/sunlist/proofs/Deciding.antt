@@ -7,7 +7,7 @@ use lib.IntN.{ℤ, pos, nat_abs, neg_ℤ, ◌+ℤ◌, ◌*ℤ◌}
 use lib.Signed.{le_z}
 use mir.Syntax.{w64}
 use mir.Val.{SFits}
-use Rattle.integers.proofs.Order.{natAbs_neg, fits, square_natAbs}
+use Rattle.integers.proofs.Order.{nat_abs_neg, fits, square_nat_abs}
 use Rattle.units.specs.Units.{U}
 use Rattle.units.specs.declared.Coordinates.{Coordinates}
 use Rattle.cosine.specs.Cosine.{sine}
@@ -70,7 +70,7 @@ unfolding sun
 sun_size k a h = record { x_in = one a.x h.x_in; y_in = one a.y h.y_in; z_in = one a.z h.z_in }
   where
     one : (x : ℤ) → nat_abs x ≤ k → nat_abs (neg_ℤ x) ≤ k
-    one x h = rw (natAbs_neg x) h
+    one x h = rw (nat_abs_neg x) h
 
 -- The squares of a difference w, and their sum.
 module _ (u v w : Vector) (hu : Components U u) (hv : Components U v) (hs : nat_abs (squared_separation u v) < 2 ^ 63) (ew : w ≡ geocentric u v) where
@@ -87,7 +87,7 @@ module _ (u v w : Vector) (hu : Components U u) (hv : Components U v) (hs : nat_
   part_is : (x p : ℤ) → nat_abs x ≤ U + U → p ≡ Cell x *ℤ Cell x → Cell p ≡ pos (nat_abs x * nat_abs x)
   part_is x p h e =
       let f : p ≡ x *ℤ x = e ∙ ap (λ (t : ℤ). t *ℤ t) (cell x (omega arith)) in
-      cell p (subst (λ (t : ℤ). nat_abs t < 2 ^ 63) (sym f) (let s = square_size x (U + U) h in omega arith)) ∙ f ∙ square_natAbs x
+      cell p (subst (λ (t : ℤ). nat_abs t < 2 ^ 63) (sym f) (let s = square_size x (U + U) h in omega arith)) ∙ f ∙ square_nat_abs x
 
   pub x_fits : SFits w64 (Cell w.x *ℤ Cell w.x)
   x_fits = part_fits w.x w_in.x_in
@@ -100,7 +100,7 @@ module _ (u v w : Vector) (hu : Components U u) (hv : Components U v) (hs : nat_
 
   squared_is : squared w ≡ pos (nat_abs w.x * nat_abs w.x + nat_abs w.y * nat_abs w.y + nat_abs w.z * nat_abs w.z)
   unfolding squared
-  squared_is = rw (square_natAbs w.x, square_natAbs w.y, square_natAbs w.z)
+  squared_is = rw (square_nat_abs w.x, square_nat_abs w.y, square_nat_abs w.z)
 
   total_in : nat_abs w.x * nat_abs w.x + nat_abs w.y * nat_abs w.y + nat_abs w.z * nat_abs w.z < 2 ^ 63
   total_in = subst (λ (t : ℤ). nat_abs t < 2 ^ 63) squared_is whole_in

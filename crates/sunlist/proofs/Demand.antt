@@ -1,4 +1,4 @@
--- Demand 3: whatever two byte strings, window and keep_out the list is answered for, and whatever the output held before, the numbers written are
+-- Demand 3: whatever two byte strings, window and keep-out the list is answered for, and whatever the output held before, the numbers written are
 -- what the demand asks. Assumes nothing.
 use mathlib.Core.Path.{◌≡◌, sym, ap, ◌∙◌, subst}
 use mathlib.Core.Bool.{Bool, true}
@@ -36,8 +36,8 @@ written_at xs out i h l = ap (λ (s : List ℕ). get_or s i 0) (sets-eq xs out 0
 zero_plus : (j : ℕ) → 0 + j ≡ j
 zero_plus j = omega arith
 
-module _ (planet-bytes earth-bytes : List ℕ) (t0 : Instant) (minutes keep_out : ℤ) (out : List ℕ) (count : ℕ)
-    (a : Answered planet-bytes earth-bytes t0 minutes keep_out out count) where
+module _ (planet_bytes earth_bytes : List ℕ) (t0 : Instant) (minutes keep_out : ℤ) (out : List ℕ) (count : ℕ)
+    (a : Answered planet_bytes earth_bytes t0 minutes keep_out out count) where
   abbrev n : ℕ
   n = nat_abs minutes
 
@@ -98,12 +98,12 @@ module _ (planet-bytes earth-bytes : List ℕ) (t0 : Instant) (minutes keep_out 
   in_reach j l = each_asked a.planet a.earth (minute t0 j).ms (all_pass _ n a.asked j l)
 
   planet_near : (j : ℕ) → j < n → NearCoordinates (planet_at j) (exact_coordinates (minute t0 j) a.planet)
-  planet_near j l = near planet-bytes a.planet (minute t0 j) a.planet_series (in_time j l) (in_reach j l).0
+  planet_near j l = near planet_bytes a.planet (minute t0 j) a.planet_series (in_time j l) (in_reach j l).0
 
   earth_near : (j : ℕ) → j < n → NearCoordinates (earth_at j) (exact_coordinates (minute t0 j) a.earth)
-  earth_near j l = near earth-bytes a.earth (minute t0 j) a.earth_series (in_time j l) (in_reach j l).1
+  earth_near j l = near earth_bytes a.earth (minute t0 j) a.earth_series (in_time j l) (in_reach j l).1
 
-  demand : Demand3 planet-bytes earth-bytes t0 minutes keep_out count (sets out 0 xs)
+  demand : Demand3 planet_bytes earth_bytes t0 minutes keep_out count (sets out 0 xs)
   unfolding decision_at
   demand = record {
     planet = a.planet;

@@ -12,7 +12,7 @@ use Rattle.integers.specs.Order.{◌≼◌}
 use Rattle.integers.proofs.Pairs.{nonneg}
 use Rattle.integers.proofs.Tests.{both, false_true}
 use Rattle.integers.proofs.Auto.{polys, cert!, gap, ◌⊞◌}
-use Rattle.integers.proofs.Order.{natAbs_low, natAbs_high, nat_abs_le}
+use Rattle.integers.proofs.Order.{nat_abs_low, nat_abs_high, nat_abs_le}
 use Rattle.units.specs.Units.{minute_ms, within}
 use Rattle.units.proofs.Limit.{size_within}
 use Rattle.units.specs.declared.Instant.{Instant}
@@ -45,8 +45,8 @@ fits_is minutes keep_out e =
 -- Between two instants that are within the limit.
 between : (t : ℤ) (a b l : ℕ) → nat_abs t ≤ l → nat_abs (t +ℤ pos b) ≤ l → a ≤ b → nat_abs (t +ℤ pos a) ≤ l
 between t a b l h k m =
-    let low = natAbs_low t l h in
-    let high = natAbs_high (t +ℤ pos b) l k in
+    let low = nat_abs_low t l h in
+    let high = nat_abs_high (t +ℤ pos b) l k in
     let o : pos a ≼ pos b = record { le = le→leb a b m } in
     nat_abs_le (t +ℤ pos a) l
     (cert! (t ∷ pos a ∷ pos l ∷ []) 0 (gap low ⊞ nonneg a) (search polys depth 30) tt)

@@ -12,7 +12,7 @@ use Rattle.integers.specs.Signs.{sgn, near}
 use Rattle.integers.specs.Division.{rounded}
 use Rattle.integers.proofs.Auto.{polys, cert!, gap, ◌⊞◌, ◌·◌, sqr}
 use Rattle.integers.proofs.Division.{rounded_near}
-use Rattle.integers.proofs.Order.{nat_abs_le, natAbs-*}
+use Rattle.integers.proofs.Order.{nat_abs_le, nat_abs-*}
 use Rattle.arith.proofs.Ranges.{scaled_within}
 use Rattle.units.specs.Units.{U, turn, angle_per_part}
 use Rattle.units.specs.declared.Coordinates.{Coordinates}
@@ -52,10 +52,10 @@ unfolding threshold
 threshold_is k s e = ap (λ (t : ℤ). pos 4 *ℤ (t *ℤ t)) (e ∙ ap sine (sym (half_angle_is k)))
 
 pub square_size : (s : ℤ) (k : ℕ) → nat_abs s ≤ k → nat_abs (s *ℤ s) ≤ k * k
-square_size s k h = subst (λ (n : ℕ). n ≤ k * k) (sym (natAbs-* s s)) (mul-le-mul h h)
+square_size s k h = subst (λ (n : ℕ). n ≤ k * k) (sym (nat_abs-* s s)) (mul-le-mul h h)
 
 pub four_size : (s : ℤ) → nat_abs s ≤ U → nat_abs (pos 4 *ℤ (s *ℤ s)) ≤ 4 * (U * U)
-four_size s h = subst (λ (n : ℕ). n ≤ 4 * (U * U)) (sym (natAbs-* (pos 4) (s *ℤ s))) (let q = square_size s U h in omega arith)
+four_size s h = subst (λ (n : ℕ). n ≤ 4 * (U * U)) (sym (nat_abs-* (pos 4) (s *ℤ s))) (let q = square_size s U h in omega arith)
 
 -- ---- Unit vectors.
 

@@ -11,7 +11,7 @@ use lib.ListN.{length}
 use lib.Seq.{sets}
 use mir.Syntax.{w64}
 use mir.Val.{SFits}
-use Rattle.integers.proofs.Order.{natAbs-+, fits}
+use Rattle.integers.proofs.Order.{nat_abs-+, fits}
 use Rattle.units.specs.Units.{minute_ms, t_limit, near_limit, near}
 use Rattle.units.proofs.Limit.{told_past, told_within}
 use Rattle.units.specs.declared.Instant.{Instant}
@@ -49,7 +49,7 @@ module _ (t : ℤ) (j : ℕ) (w : ℤ) (ht : nat_abs t ≤ t_limit) (hj : j < mo
   later = ap₂ ◌+ℤ◌ (cell t (omega arith)) (cell w (subst (λ (z : ℤ). nat_abs z < 2 ^ 63) (sym e) (omega arith)) ∙ e)
 
   small : nat_abs (t +ℤ pos (minute_ms * j)) < 2 ^ 63
-  small = let s = natAbs-+ t (pos (minute_ms * j)) in omega arith
+  small = let s = nat_abs-+ t (pos (minute_ms * j)) in omega arith
 
   pub minute_fits : SFits w64 (Cell t +ℤ Cell w)
   minute_fits = subst (SFits w64) (sym later) (fits (t +ℤ pos (minute_ms * j)) small)

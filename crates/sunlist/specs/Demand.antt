@@ -29,12 +29,12 @@ abbrev pub InRun : List ℕ → ℕ → ℕ → Type 0
 InRun out i j = (first_minute out i ≤ j) × (j ≤ last_minute out i)
 
 -- A list answered with this count, and the output after the call.
-pub record Demand3 (planet-bytes earth-bytes : List ℕ) (t0 : Instant) (minutes keep_out : ℤ) (count : ℕ) (out : List ℕ) : Type 0 where
-  -- Both are packed series, the window has n minutes, the keep_out is k arcminutes.
+pub record Demand3 (planet_bytes earth_bytes : List ℕ) (t0 : Instant) (minutes keep_out : ℤ) (count : ℕ) (out : List ℕ) : Type 0 where
+  -- Both are packed series, the window has n minutes, the keep-out is k arcminutes.
   pub planet : List (List Term)
   pub earth : List (List Term)
-  pub planet_series : parse planet-bytes ≡ accepted planet
-  pub earth_series : parse earth-bytes ≡ accepted earth
+  pub planet_series : parse planet_bytes ≡ accepted planet
+  pub earth_series : parse earth_bytes ≡ accepted earth
   pub n : ℕ
   pub k : ℕ
   pub window : minutes ≡ pos n

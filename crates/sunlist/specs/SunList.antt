@@ -23,7 +23,7 @@ use Rattle.sunlist.specs.Minute.{decide}
 abbrev pub minute : Instant → ℕ → Instant
 minute t0 j = record { ms = t0.ms +ℤ pos (minute_ms * j) }
 
--- The keep_out in arcminutes and the number of minutes are in their ranges; else the refusal is 12.
+-- The keep-out in arcminutes and the number of minutes are in their ranges; else the refusal is 12.
 unfoldable pub window_fits : (minutes keep_out : ℤ) → Bool
 window_fits minutes keep_out =
     (le_z (pos least_keep_out) keep_out && le_z keep_out (pos greatest_keep_out)) && (le_z (pos 1) minutes && le_z minutes (pos most_minutes))

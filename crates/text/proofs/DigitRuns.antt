@@ -11,7 +11,7 @@ use Rattle.series_lines.specs.Lexer.{spot_point, value_limit, put}
 use Rattle.series_lines.specs.Reader.{last_offset, in_line, further_in_line}
 use Rattle.series_lines.specs.Machine.Parts.{run_end, RunStop, PartAt}
 use Rattle.text.specs.Machine.Modes.{moved, moved_out, passed}
-use Rattle.text.specs.Machine.Parts.{AfterPoint, Goes_on}
+use Rattle.text.specs.Machine.Parts.{AfterPoint, GoesOn}
 use Rattle.series_lines.proofs.DigitRuns.{short, lex_part}
 use Rattle.text.proofs.Branches.{other_good, moved_other, pass_more}
 
@@ -102,9 +102,9 @@ module _ (r : Reader) (text : List ℕ) (from value i : ℕ) (p : RunParted r te
       subst (λ (n : ℕ). Parted r text from n (10 * value + (get_or text i 0 - digit_0)) (i + 1)) e
       (parted_next r text from (r.line.spot + (i - from)) value i stop a k p d)
 
-  pub parted_done : Goes_on r text from (in_line r (put r.line (r.line.spot + (i - from)) r.line.minus value) (r.at + (i - from))) i
+  pub parted_done : GoesOn r text from (in_line r (put r.line (r.line.spot + (i - from)) r.line.minus value) (r.at + (i - from))) i
   parted_done = record { onward = p.onward; same = p.same }
 
 -- Where no digit is taken all goes on as it stands.
-pub as_it_stands : (r : Reader) (text : List ℕ) (from : ℕ) → Goes_on r text from r from
+pub as_it_stands : (r : Reader) (text : List ℕ) (from : ℕ) → GoesOn r text from r from
 as_it_stands r text from = record { onward = omega arith; same = λ writes out. refl }

@@ -1,6 +1,6 @@
 // The digits after a decimal's point, which most bytes of a text are, taken in a run: the loop holds only what a digit changes.
 ghost use Rattle.std.specs.Prelude.{◌≡◌, true};
-ghost use Rattle.text.specs.Machine.Parts.{AfterPoint, Goes_on};
+ghost use Rattle.text.specs.Machine.Parts.{AfterPoint, GoesOn};
 
 use series_lines::lexer::{PART_DIGITS, SPOT_POINT, put};
 use series_lines::parts::{part_at, run_stop};
@@ -33,7 +33,7 @@ fn after_point(r: Reader) -> bool
 
 // The parts that stand from an index on.
 pub fn take_parts(r: Reader, text: &[u8], from: usize) -> Taken
-    ensures { Goes_on r text.now from result.reader result.next }
+    ensures { GoesOn r text.now from result.reader result.next }
 {
     if !after_point(r) {
         return Taken {

@@ -35,7 +35,7 @@ moved r line n =
       place = 0;
     }
 
--- A reader that reads, before its last-offset countable byte.
+-- A reader that reads, before its last_offset countable byte.
 pub record Going (r : Reader) : Type 0 where
   pub status : r.status ≡ 0
   pub counts : r.at ≡ last_offset → ⊥

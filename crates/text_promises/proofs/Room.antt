@@ -11,7 +11,7 @@ use lib.IntN.{ℤ, nat_abs}
 use lib.ListN.{length, length-append}
 use Rattle.units.specs.Units.{a_limit, b_limit, c_limit, series_limit}
 use Rattle.packed_numbers.specs.Numbers.{group, groups, encode, folded}
-use Rattle.packed_numbers.proofs.Folding.{folded_natAbs}
+use Rattle.packed_numbers.proofs.Folding.{folded_nat_abs}
 use Rattle.limits.specs.declared.Tally.{Tally}
 use Rattle.limits.specs.Limits.{opened, added, count_fits, a_fits, b_fits, c_fits}
 use Rattle.limits.proofs.Passing.{count_passed}
@@ -44,7 +44,7 @@ unfolding line_packed
 count_within s l f = encode_within 1 (count l) (omega (arith, (count_passed s (count l) f).few))
 
 signed_within : (n limit : ℕ) (z : ℤ) → nat_abs z < limit → 2 * limit ≤ group ^ suc n → length (encode (folded z)) ≤ suc n
-signed_within n limit z h l = encode_within n (folded z) (omega (arith, folded_natAbs z))
+signed_within n limit z h l = encode_within n (folded z) (omega (arith, folded_nat_abs z))
 
 term_within : (f : ℕ) (s : Tally) (l : TermLine) → TermInLimits f s l → length (line_packed (a_term l)) ≤ term_bytes
 unfolding line_packed pack_term a_fits b_fits c_fits

@@ -1,4 +1,4 @@
--- The calendar as the code counts it, in naturals: a year is held as its index, the year plus year-shift, so that no number is negative.
+-- The calendar as the code counts it, in naturals: a year is held as its index, the year plus year_shift, so that no number is negative.
 -- Nothing here has to be believed: proofs/FirstBad, proofs/Formula and proofs/DatesFound show that it is the calendar of specs/Calendar.
 use Rattle.std.specs.Prelude.{◌≡◌, cond, ℕ, ◌+◌, ◌*◌, ◌/◌, ◌%◌, ◌-◌, ◌≤◌, ℤ, pos, negsuc, ◌-ℤ◌, leb, ltb, eqb}
 use Rattle.calendar.specs.Constants.{years_before_zero, last_year, reform_year, first_skipped, first_gregorian}
@@ -54,7 +54,7 @@ unfoldable pub year_index : ℤ → ℕ
 year_index (pos n) = cond (leb n last_year) (n + year_shift) 0
 year_index (negsuc n) = cond (leb n (years_before_zero - 1)) (year_shift - 1 - n) 0
 
--- The key of the date with index c: yyyymmdd plus key-shift.
+-- The key of the date with index c: yyyymmdd plus key_shift.
 abbrev pub key : ℕ → ℕ → ℕ → ℕ
 key c m d = 10000 * c + 100 * m + d
 
@@ -82,7 +82,7 @@ bad_field c m d =
     (cond (ltb (month_days c m) d) day_field
     (in_gap (key c m d))))))
 
--- What year-index gives: 0, or the index of a year.
+-- What year_index gives: 0, or the index of a year.
 pub record Index (c : ℕ) : Type 0 where
   pub small : c ≤ last_index
   pub least : (c ≡ 0 → ⊥) → first_index ≤ c

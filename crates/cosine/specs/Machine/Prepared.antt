@@ -19,7 +19,7 @@ cut = 9367192
 abbrev pub cuts : ℕ
 cuts = turn / cut
 
--- c is raised by c-bias, 2^57, so that it is not negative, and split into two digits of this base, 2^29; the second is at most `top_digit`.
+-- c is raised by c_bias, 2^57, so that it is not negative, and split into two digits of this base, 2^29; the second is at most `top_digit`.
 abbrev pub base : ℕ
 base = 536870912
 
@@ -39,7 +39,7 @@ step_limit = 256
 abbrev pub three_steps : ℕ
 three_steps = step_limit * step_limit * step_limit
 
--- The last step to the second digit's place, and from there to c-bias.
+-- The last step to the second digit's place, and from there to c_bias.
 abbrev pub base_step : ℕ
 base_step = base / three_steps
 

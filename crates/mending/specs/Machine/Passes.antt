@@ -72,7 +72,7 @@ unfoldable pub next_byte : ℕ → ℕ → ℕ
 next_byte from i = cond (ltb i from) from (i + 1)
 
 -- From w one has come to v before the byte i.
-pub record Came (text : List ℕ) (w : Writing) (out list : List ℕ) (v : Writing) (i : ℕ) (out-after list-after : List ℕ) : Type 0 where
+pub record Came (text : List ℕ) (w : Writing) (out list : List ℕ) (v : Writing) (i : ℕ) (out_after list_after : List ℕ) : Type 0 where
   pub run : Pending text v.from i
-  pub bytes : Rest (bytes_left text w) w.at out (bytes_left text v) v.at out-after
-  pub changes : Rest (numbers_left text w) w.slot list (numbers_left text v) v.slot list-after
+  pub bytes : Rest (bytes_left text w) w.at out (bytes_left text v) v.at out_after
+  pub changes : Rest (numbers_left text w) w.slot list (numbers_left text v) v.slot list_after

@@ -7,7 +7,7 @@ use lib.IntN.{ℤ, nat_abs, ◌+ℤ◌}
 use mir.Syntax.{w64}
 use mir.Val.{to_z, of_z}
 use borrow.Author.Rules.{rules}
-use Rattle.integers.proofs.Order.{natAbs-+}
+use Rattle.integers.proofs.Order.{nat_abs-+}
 use Rattle.arith.proofs.Signs.{back, ok}
 use Rattle.units.specs.Units.{turn}
 use Rattle.direction.specs.Angles.{units_angle}
@@ -54,7 +54,7 @@ units_angle-requires-2 c =
     (lit< tt, lit≤ tt, few _ h, room _ h)
   where
     sum : (x y : ℤ) → nat_abs x ≤ 2 ^ 34 → nat_abs y ≤ sum_limit → nat_abs (x +ℤ y) ≤ 2 ^ 35
-    sum x y h k = omega (arith, natAbs-+ x y)
+    sum x y h k = omega (arith, nat_abs-+ x y)
 
 pub returns : goal.returns
 unfolding nutation_angle obliquity_angle true_obliquity

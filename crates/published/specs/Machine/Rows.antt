@@ -12,6 +12,6 @@ pub record Counts (p : Published) (n : ℕ) : Type 0 where
   pub counts : p.reader.at + n ≤ last_offset
 
 -- A reader q that goes on from next as p does from an index before it.
-pub record Goes_on (p : Published) (text : List ℕ) (from : ℕ) (q : Published) (next : ℕ) : Type 0 where
+pub record GoesOn (p : Published) (text : List ℕ) (from : ℕ) (q : Published) (next : ℕ) : Type 0 where
   pub onward : from ≤ next
   pub same : (out : List ℕ) → run q out (drop next text) ≡ run p out (drop from text)

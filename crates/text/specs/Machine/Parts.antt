@@ -14,6 +14,6 @@ pub record AfterPoint (r : Reader) : Type 0 where
   pub begun : spot_point ≤ r.line.spot
 
 -- A reader s that goes on from next as r does from an index before it.
-pub record Goes_on (r : Reader) (text : List ℕ) (from : ℕ) (s : Reader) (next : ℕ) : Type 0 where
+pub record GoesOn (r : Reader) (text : List ℕ) (from : ℕ) (s : Reader) (next : ℕ) : Type 0 where
   pub onward : from ≤ next
   pub same : (writes : Bool) (out : List ℕ) → passed writes s out (drop next text) ≡ passed writes r out (drop from text)

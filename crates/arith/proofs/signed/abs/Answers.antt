@@ -3,7 +3,7 @@ use mathlib.Core.Path.{◌∙◌, ap, sym}
 use native.Mathlib.Omega.{arith}
 use native.Mathlib.Numerals.{add-one}
 use lib.IntN.{nat_abs}
-use Rattle.arith.proofs.Signs.{back, not_negative, natAbs_fits}
+use Rattle.arith.proofs.Signs.{back, not_negative, nat_abs_fits}
 use Rattle.arith.proofs.signed.abs.Goals as goal
 
 pub flip-requires : goal.flip-requires
@@ -12,7 +12,7 @@ flip-requires c = sym c.is_neg.ensures ∙ c.if-is_neg.true
 pub overflow_add-result : goal.overflow_add-result
 overflow_add-result c =
     let e = ap nat_abs (rw (back c.args.a c.ranges.a) at c.flip.ensures) in
-    let h = natAbs_fits c.args.a c.ranges.a in
+    let h = nat_abs_fits c.args.a c.ranges.a in
     omega arith
 
 pub low-requires : goal.low-requires
