@@ -2,8 +2,7 @@
 // (RULES, "Programs").
 #![tactic(auto)]
 
-ghost use Rattle.std.specs.Prelude.{◌≤◌, length};
-
+use command_line::files::read_piece;
 use date_lines::reader::{Line, start};
 use date_lines::{answer_last, answer_piece};
 use std::io;
@@ -20,16 +19,6 @@ const REPLY_LIMIT: usize = 40;
 struct State {
     line: Line,
     more: bool,
-}
-
-// Reads once, and answers how many bytes came: none where the input ended, or where the read failed, which counts as its end.
-fn read_piece<R: Read>(input: &mut R, piece: &mut [u8]) -> usize
-    ensures { result ≤ length piece.new }
-{
-    match input.read(piece) {
-        Ok(n) => n,
-        Err(_) => 0,
-    }
 }
 
 // Reads once and prints the replies to the lines that ended.
