@@ -5,6 +5,7 @@
 pub mod judge;
 pub mod lexer;
 pub mod parts;
+pub mod passed;
 pub mod steps;
 pub mod writer;
 

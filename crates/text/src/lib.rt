@@ -33,7 +33,7 @@ fn pass(r: Reader, text: &[u8], out: &mut [u8], writes: bool) -> Reader
     while i < text.len() {
         let next = take_byte(reader, text[i], out, writes);
         let taken = take_parts(next, text, i + 1);
-        reader = taken.reader;
+        reader = taken.state;
         i = taken.next;
     }
     reader

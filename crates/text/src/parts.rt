@@ -4,15 +4,9 @@ ghost use Rattle.text.specs.Machine.Parts.{AfterPoint, GoesOn};
 
 use series_lines::lexer::{PART_DIGITS, SPOT_POINT, put};
 use series_lines::parts::{part_at, run_stop};
+use series_lines::passed::Passed;
 use series_lines::steps::in_line;
 use series_lines::{LAST_OFFSET, READING, Reader};
-
-// The reader after some bytes, and the index of the next one.
-#[derive(Clone, Copy)]
-pub struct Taken {
-    pub reader: Reader,
-    pub next: usize,
-}
 
 // The reader stands after a point and can count all the parts.
 fn after_point(r: Reader) -> bool
@@ -32,12 +26,12 @@ fn after_point(r: Reader) -> bool
 }
 
 // The parts that stand from an index on.
-pub fn take_parts(r: Reader, text: &[u8], from: usize) -> Taken
-    ensures { GoesOn r text.now from result.reader result.next }
+pub fn take_parts(r: Reader, text: &[u8], from: usize) -> Passed<Reader>
+    ensures { GoesOn r text.now from result.state result.next }
 {
     if !after_point(r) {
-        return Taken {
-            reader: r,
+        return Passed {
+            state: r,
             next: from,
         };
     }
@@ -50,8 +44,8 @@ pub fn take_parts(r: Reader, text: &[u8], from: usize) -> Taken
         i = i + 1;
     }
     let spot = l.spot + (i - from) as u64;
-    Taken {
-        reader: in_line(r, put(l, spot, l.minus, value), r.at + (i - from)),
+    Passed {
+        state: in_line(r, put(l, spot, l.minus, value), r.at + (i - from)),
         next: i,
     }
 }
