@@ -1,5 +1,10 @@
 -- RULES, "Refusals and what they leave": the number of each refusal and the figure that comes with it.
-use Rattle.std.specs.Prelude.{cond, List, [], ◌∷◌, ℕ, eqb, ℤ, pos}
+use Rattle.std.specs.Prelude.{◌≡◌, ◌≢◌, cond, List, [], ◌∷◌, ℕ, eqb, ℤ, pos, Result, MatchResult}
+use Rattle.units.specs.declared.Fault.{Fault}
+use Rattle.units.specs.declared.Fault.TheVariants.{BadByte as byte_fault, OverLimit as limit_fault, TotalOverLimit as total_fault}
+use Rattle.units.specs.declared.Fault.TheVariants.{TooCoarse as coarse_fault, NoRoom as room_fault, EndedEarly as end_fault}
+use Rattle.units.specs.declared.Fault.TheVariants.{ByteAfterEnd as after_fault, BadHeading as heading_fault, BadNumber as number_fault}
+use Rattle.units.specs.declared.NoFault.{NoFault}
 use Rattle.units.specs.declared.Figure.{Figure}
 use Rattle.units.specs.declared.Figure.TheVariants.{Count, Time}
 use Rattle.units.specs.declared.Refusal.{Refusal}
@@ -110,3 +115,19 @@ of_number n at =
 abbrev pub whole : Figure → ℤ
 whole (Count n) = pos n
 whole (Time t) = t.ms
+
+-- The number of a reader's fault, which is that of its refusal.
+abbrev pub fault_number : Fault → ℕ
+fault_number byte_fault = bad_byte
+fault_number limit_fault = over_limit
+fault_number total_fault = total_over_limit
+fault_number coarse_fault = too_coarse
+fault_number room_fault = no_room
+fault_number end_fault = ended_early
+fault_number after_fault = byte_after_end
+fault_number heading_fault = bad_heading
+fault_number number_fault = bad_number
+
+-- What a number is read as: the fault that has it, or an error with a number that none has.
+abbrev pub Numbered : ℕ → Result Fault NoFault → Type 0
+Numbered n r = MatchResult r (λ fault. fault_number fault ≡ n) (λ e. (e.0 ≡ n) × ((fault : Fault) → fault_number fault ≢ n))

@@ -3,7 +3,7 @@
 
 ghost use Rattle.std.specs.Prelude.{◌≡◌};
 ghost use Rattle.units.specs.Units.{in_limit, near as near_of};
-ghost use Rattle.units.specs.Refusals.{number, figure, of_number, whole};
+ghost use Rattle.units.specs.Refusals.{number, figure, of_number, whole, fault_number, Numbered};
 
 // specs/Units.antt has these constants under the same names.
 
@@ -90,33 +90,20 @@ pub struct Instant {
     pub ms: i64,
 }
 
-// The last instant and the first one, in milliseconds; and of the near range.
-const LATEST: i64 = T_LIMIT as i64;
-
-const EARLIEST: i64 = -LATEST;
-
-const NEAR_LATEST: i64 = NEAR_LIMIT as i64;
-
-const NEAR_EARLIEST: i64 = -NEAR_LATEST;
-
 // Whether an instant is within its limit.
+#[tactic(auto, unfolding(crate::specs::Units::within))]
 pub fn in_limit(t: Instant) -> bool
     ensures { result ≡ in_limit t.ms }
 {
-    if t.ms < EARLIEST {
-        return false;
-    }
-    t.ms <= LATEST
+    t.ms.unsigned_abs() <= T_LIMIT
 }
 
 // Whether it is within two millennia, where every series may be asked.
+#[tactic(auto, unfolding(crate::specs::Units::within))]
 pub fn near(t: Instant) -> bool
     ensures { result ≡ near_of t.ms }
 {
-    if t.ms < NEAR_EARLIEST {
-        return false;
-    }
-    t.ms <= NEAR_LATEST
+    t.ms.unsigned_abs() <= NEAR_LIMIT
 }
 
 // L, B and R of a body at an instant, in parts (10^-11 radian or AU). A longitude keeps its whole turns.
@@ -128,8 +115,8 @@ pub struct Coordinates {
 }
 
 // Why a call gives no answer, in the order of its numbers. One more refusal wants (CONTRIBUTING.md has the whole list, with the documents):
-// - its case here, the constant of its number, and an arm in `number` and in `figure` below; in `of_number` too where a reader of series gives it;
-// - the same in specs/Refusals.antt, and a line in proofs/Refusals.antt and proofs/Refusal/figure;
+// - its case here, the constant of its number, and an arm in `number` and in `figure` below; a case of `Fault` too where a reader of series gives it;
+// - the same in specs/Refusals.antt, and a line in proofs/Refusals.antt;
 // - its words, in `words` and `put_words` of the crate refusal_words;
 // - a line in the table of include/stephylax.h, and its name in the enum there;
 // - its line in the host's table, host/src/refusal.rs, its line in the help, and its name and words in python/stephylax.py.
@@ -232,21 +219,19 @@ impl Refusal {
         ensures { whole result ≡ figure self }
     {
         match self {
-            Refusal::NoSuchDate(field) => Figure::Count(field),
-            Refusal::PastLimit(t) => Figure::Time(t),
-            Refusal::BadByte(at) => Figure::Count(at as u64),
-            Refusal::OverLimit(at) => Figure::Count(at as u64),
-            Refusal::TotalOverLimit(at) => Figure::Count(at as u64),
-            Refusal::TooCoarse(at) => Figure::Count(at as u64),
-            Refusal::NoRoom(length) => Figure::Count(length as u64),
-            Refusal::EndedEarly(length) => Figure::Count(length as u64),
-            Refusal::ByteAfterEnd(at) => Figure::Count(at as u64),
-            Refusal::NotShortest(at) => Figure::Count(at as u64),
-            Refusal::NotUsable(minute) => Figure::Count(minute),
+            Refusal::NoSuchDate(count) | Refusal::NotUsable(count) => Figure::Count(count),
+            Refusal::PastLimit(t) | Refusal::TooFar(t) => Figure::Time(t),
             Refusal::BadWindow => Figure::Count(0),
-            Refusal::BadHeading(at) => Figure::Count(at as u64),
-            Refusal::BadNumber(at) => Figure::Count(at as u64),
-            Refusal::TooFar(t) => Figure::Time(t),
+            Refusal::BadByte(at)
+            | Refusal::OverLimit(at)
+            | Refusal::TotalOverLimit(at)
+            | Refusal::TooCoarse(at)
+            | Refusal::NoRoom(at)
+            | Refusal::EndedEarly(at)
+            | Refusal::ByteAfterEnd(at)
+            | Refusal::NotShortest(at)
+            | Refusal::BadHeading(at)
+            | Refusal::BadNumber(at) => Figure::Count(at as u64),
         }
     }
 
@@ -255,30 +240,72 @@ impl Refusal {
     pub fn of_number(number: u64, at: usize) -> Refusal
         ensures { result ≡ of_number number at }
     {
-        if number == OVER_LIMIT {
-            return Refusal::OverLimit(at);
+        Fault::try_from(number).unwrap_or(Fault::BadByte).at(at)
+    }
+}
+
+// What a reader of series refuses. The refusal stands at an offset of its input, and a reader that has stopped holds the number and the offset.
+#[derive(Clone, Copy, PartialEq, Eq)]
+pub enum Fault {
+    BadByte = BAD_BYTE as isize,
+    OverLimit = OVER_LIMIT as isize,
+    TotalOverLimit = TOTAL_OVER_LIMIT as isize,
+    TooCoarse = TOO_COARSE as isize,
+    NoRoom = NO_ROOM as isize,
+    EndedEarly = ENDED_EARLY as isize,
+    ByteAfterEnd = BYTE_AFTER_END as isize,
+    BadHeading = BAD_HEADING as isize,
+    BadNumber = BAD_NUMBER as isize,
+}
+
+// A number that no fault has.
+#[derive(Clone, Copy)]
+pub struct NoFault(pub u64);
+
+impl Fault {
+    // The number of its refusal.
+    pub fn number(self) -> u64
+        ensures { result ≡ fault_number self }
+    {
+        self as u64
+    }
+
+    // Its refusal at an offset.
+    #[tactic(auto, unfolding(crate::specs::Refusals::of_number))]
+    pub fn at(self, at: usize) -> Refusal
+        ensures { result ≡ of_number (fault_number self) at }
+    {
+        match self {
+            Fault::BadByte => Refusal::BadByte(at),
+            Fault::OverLimit => Refusal::OverLimit(at),
+            Fault::TotalOverLimit => Refusal::TotalOverLimit(at),
+            Fault::TooCoarse => Refusal::TooCoarse(at),
+            Fault::NoRoom => Refusal::NoRoom(at),
+            Fault::EndedEarly => Refusal::EndedEarly(at),
+            Fault::ByteAfterEnd => Refusal::ByteAfterEnd(at),
+            Fault::BadHeading => Refusal::BadHeading(at),
+            Fault::BadNumber => Refusal::BadNumber(at),
         }
-        if number == TOTAL_OVER_LIMIT {
-            return Refusal::TotalOverLimit(at);
+    }
+}
+
+impl TryFrom<u64> for Fault {
+    type Error = NoFault;
+
+    ghost try_from_gives = { Numbered };
+
+    fn try_from(number: u64) -> Result<Self, NoFault> {
+        match number {
+            BAD_BYTE => Ok(Fault::BadByte),
+            OVER_LIMIT => Ok(Fault::OverLimit),
+            TOTAL_OVER_LIMIT => Ok(Fault::TotalOverLimit),
+            TOO_COARSE => Ok(Fault::TooCoarse),
+            NO_ROOM => Ok(Fault::NoRoom),
+            ENDED_EARLY => Ok(Fault::EndedEarly),
+            BYTE_AFTER_END => Ok(Fault::ByteAfterEnd),
+            BAD_HEADING => Ok(Fault::BadHeading),
+            BAD_NUMBER => Ok(Fault::BadNumber),
+            _ => Err(NoFault(number)),
         }
-        if number == TOO_COARSE {
-            return Refusal::TooCoarse(at);
-        }
-        if number == NO_ROOM {
-            return Refusal::NoRoom(at);
-        }
-        if number == ENDED_EARLY {
-            return Refusal::EndedEarly(at);
-        }
-        if number == BYTE_AFTER_END {
-            return Refusal::ByteAfterEnd(at);
-        }
-        if number == BAD_HEADING {
-            return Refusal::BadHeading(at);
-        }
-        if number == BAD_NUMBER {
-            return Refusal::BadNumber(at);
-        }
-        Refusal::BadByte(at)
     }
 }
