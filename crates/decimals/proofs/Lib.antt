@@ -1,6 +1,8 @@
 -- The laws of decimals, in reading order; Theorems has what is published.
 -- What the functions that write leave in the output.
 pub mod Puts
+-- The digits that are written, and a sign before them.
+pub mod Digits
 -- The loop that reads digits, and the sign.
 pub mod Taken
 -- How the code reads a number is how a text is decided.

@@ -1,6 +1,7 @@
 // Whole numbers as decimals: written into a lent buffer, and read. All of this is for crates above, which lend room enough.
 #![tactic(auto)]
 
+pub mod buffer;
 pub mod reading;
 pub mod writing;
 

@@ -1,10 +1,80 @@
-// Texts and decimals, written into a lent buffer: each function answers the place after what it wrote. For crates above, which lend the room.
-ghost use Rattle.std.specs.Prelude.{◌≡◌, [], ◌+◌, ◌^◌, ◌≤◌, ◌<◌, length};
+// Whole numbers as decimals, written into a buffer. For crates above.
+ghost use Rattle.std.specs.Prelude.{◌≡◌, [], ◌+◌, ◌^◌, ◌≤◌, ◌<◌, ◌++◌, length};
 ghost use Rattle.decimals.specs.Decimals.{zero_digit, most_digits, decimal, last_digits, written, signed_decimal, fraction};
 ghost use Rattle.decimals.specs.Writing.{Put};
 
+use crate::buffer::Buffer;
 use crate::{MINUS_SIGN, MOST_DIGITS, POINT, ZERO_DIGIT};
 use arith::signed::{abs, is_neg};
+
+// A digit's byte.
+fn digit(d: u64) -> u8
+    requires { d < 10 }
+    ensures { result ≡ zero_digit + d }
+{
+    ZERO_DIGIT + d as u8
+}
+
+impl<const N: usize> Buffer<N> {
+    // Writes the decimal digits of a number that has at most so many.
+    pub fn put_decimal(&mut self, n: u64, places: usize)
+        requires { length self.old + places ≤ N }
+        ensures { self.new ≡ self.old ++ decimal places n }
+    {
+        if places == 0 {
+            return;
+        }
+        if 10 <= n {
+            self.put_decimal(n / 10, places - 1);
+        }
+        self.put_byte(digit(n % 10));
+    }
+
+    // Writes a minus, or nothing.
+    fn put_sign(&mut self, below: bool)
+        requires { length self.old < N }
+        ensures { self.new ≡ self.old ++ written below [] }
+    {
+        if below {
+            self.put_byte(MINUS_SIGN);
+        }
+    }
+
+    // Writes a whole number with its sign.
+    pub fn put_signed(&mut self, z: i64)
+        requires { length self.old + (1 + most_digits) ≤ N }
+        ensures { self.new ≡ self.old ++ signed_decimal z }
+    {
+        let minus = is_neg(z);
+        self.put_sign(minus);
+        self.put_decimal(abs(z), MOST_DIGITS);
+    }
+
+    // Writes the last digits of a number, leading zeros too.
+    fn put_last(&mut self, n: u64, places: u32)
+        requires fits { places < most_digits }
+        requires room { length self.old + places ≤ N }
+        ensures { self.new ≡ self.old ++ last_digits places n }
+    {
+        for k in (0..places).rev() {
+            self.put_byte(digit(n / 10u64.pow(k) % 10));
+        }
+    }
+
+    // Writes a sign and n over ten to the number of places, with a decimal point.
+    pub fn put_fraction(&mut self, below: bool, n: u64, places: u32)
+        requires fits { places < most_digits }
+        requires room { length self.old + (2 + most_digits + places) ≤ N }
+        ensures { self.new ≡ self.old ++ fraction below places n }
+    {
+        self.put_sign(below);
+        self.put_decimal(n / 10u64.pow(places), MOST_DIGITS);
+        self.put_byte(POINT);
+        self.put_last(n, places);
+    }
+}
+
+// The same into a lent slice, from a place on: each answers the place after what it wrote.
 
 // Writes a text.
 pub fn put_bytes(text: &[u8], out: &mut [u8], at: usize) -> usize
@@ -17,14 +87,6 @@ pub fn put_bytes(text: &[u8], out: &mut [u8], at: usize) -> usize
         i = i + 1;
     }
     at + i
-}
-
-// A digit's byte.
-fn digit(d: u64) -> u8
-    requires { d < 10 }
-    ensures { result ≡ zero_digit + d }
-{
-    ZERO_DIGIT + d as u8
 }
 
 // Writes the decimal digits of a number that has at most so many.
