@@ -1,10 +1,10 @@
 -- When R and D are usable, in the order of the checks, and what usable places tell. Assumes nothing.
-use mathlib.Core.Path.{◌≡◌, sym, ap, ap₂, ◌∙◌, subst}
-use mathlib.Core.Bool.{Bool, true, false, not, ◌&&◌}
+use mathlib.Core.Path.{◌≡◌, ap₂}
+use mathlib.Core.Bool.{true, ◌&&◌}
 use mathlib.Core.List.{[], ◌∷◌}
 use Prim.Native.Nat.{ℕ, ◌*◌, ◌^◌, ◌≤◌, ◌<◌}
 use native.Mathlib.Omega.{arith}
-use borrow.Author.Tests.{le-leb, lt-leb, leb-true, not-true, not-false}
+use borrow.Author.Tests.{le-leb, lt-leb, leb-true}
 use lib.Dec.{leb}
 use lib.IntN.{ℤ, pos, nat_abs, ◌+ℤ◌}
 use lib.Signed.{le_z}
@@ -33,35 +33,10 @@ radius_size r e =
     let l = radius_least r e in
     nat_abs_le r greatest_radius (cert! (r ∷ []) 0 (gap l) (search polys depth 60 fits 100000) tt) (radius_most r e)
 
--- The tests of `usable_radius`.
-module _ (r : ℤ) (e : Cell r ≡ r) where
-  least_is : (b : Bool) → le_z (pos least_radius) (Cell r) ≡ b → le_z (pos least_radius) r ≡ b
-  least_is b h = ap (le_z (pos least_radius)) (sym e) ∙ h
-
-  pub radius_second : le_z (pos least_radius) (Cell r) ≡ true → le_z (Cell r) (pos greatest_radius) ≡ radius_usable r
-  unfolding radius_usable
-  radius_second h = ap (λ (z : ℤ). le_z z (pos greatest_radius)) e ∙ sym (ap (λ (b : Bool). b && le_z r (pos greatest_radius)) (least_is true h))
-
-  pub radius_first : le_z (pos least_radius) (Cell r) ≡ false → false ≡ radius_usable r
-  unfolding radius_usable
-  radius_first h = sym (ap (λ (b : Bool). b && le_z r (pos greatest_radius)) (least_is false h))
-
--- ---- The tests of `usable_radii`: what the first answered, and the second.
-
-module _ (p e : ℤ) (cp : Cell p ≡ p) (b : Bool) (pb : b ≡ radius_usable (Cell p)) where
-  planet_told : radius_usable p ≡ b
-  planet_told = ap radius_usable (sym cp) ∙ sym pb
-
-  pub planet_unusable : not b ≡ true → false ≡ (radius_usable p && radius_usable e)
-  planet_unusable h = let f : radius_usable p ≡ false = planet_told ∙ not-true b h in rw f
-
-  pub both_radii : not b ≡ false → Cell e ≡ e → (r : Bool) → r ≡ radius_usable (Cell e) → r ≡ (radius_usable p && radius_usable e)
-  both_radii h ce r pr = let f : radius_usable p ≡ true = planet_told ∙ not-false b h in rw (f, ← ce) pr
-
 -- ---- The tests of `usable_distance`, for two R that are usable.
 
 module _ (p e : ℤ) (hp : radius_usable p ≡ true) (he : radius_usable e ≡ true) where
-  pub too_near : (d : ℕ) → d < least_distance → false ≡ usable p e d
+  pub too_near : (d : ℕ) → d < least_distance → leb least_distance d ≡ usable p e d
   unfolding usable
   too_near d h = rw (hp, he, lt-leb least_distance d h)
 
@@ -74,14 +49,10 @@ module _ (p e : ℤ) (hp : radius_usable p ≡ true) (he : radius_usable e ≡ t
   pub sum_fits : SFits w64 (Cell p +ℤ Cell e)
   sum_fits = rw sum_is (fits (p +ℤ e) sum_in)
 
-  pub far_enough : (d : ℕ) (s w : ℤ) → least_distance ≤ d → d < 2 ^ 46 → s ≡ Cell p +ℤ Cell e → w ≡ pos (distance_factor * d)
-      → le_z (Cell s) (Cell w) ≡ usable p e d
+  pub far_enough : (d : ℕ) (w : ℤ) → least_distance ≤ d → d < 2 ^ 46 → w ≡ pos (distance_factor * d)
+      → le_z (Cell (Cell p +ℤ Cell e)) (Cell w) ≡ usable p e d
   unfolding usable
-  far_enough d s w h l ps pw =
-      let q : s ≡ p +ℤ e = ps ∙ sum_is in
-      let x : Cell s ≡ p +ℤ e = cell s (subst (λ (t : ℤ). nat_abs t < 2 ^ 63) (sym q) sum_in) ∙ q in
-      let y : Cell w ≡ pos (distance_factor * d) = cell w (subst (λ (t : ℤ). nat_abs t < 2 ^ 63) (sym pw) (omega arith)) ∙ pw in
-      ap₂ le_z x y ∙ rw (hp, he, le-leb least_distance d h)
+  far_enough d w h l pw = rw (sum_is, cell (p +ℤ e) sum_in, pw, cell (pos (distance_factor * d)) (omega arith), hp, he, le-leb least_distance d h)
 
 -- ---- Usable places: what each of the four checks has shown.
 

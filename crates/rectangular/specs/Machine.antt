@@ -1,3 +1,2 @@
 -- What only the code needs: nothing here has to be believed.
 pub mod Components
-pub mod Rows

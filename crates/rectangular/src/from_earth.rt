@@ -5,7 +5,7 @@ ghost use Rattle.rectangular.specs.Machine.Components.{Components};
 
 use crate::frames::place_in;
 use crate::{Frame, Sight, Vector, View, geocentric, length};
-use arith::signed::{add, wide};
+use arith::signed::wide;
 use units::{Coordinates, PARTS};
 
 // specs/Sight.antt has the same constants under the same names.
@@ -20,23 +20,18 @@ const LEAST_DISTANCE: u64 = PARTS / 10;
 
 const DISTANCE_FACTOR: u64 = 16;
 
+#[tactic(auto, unfolding(crate::specs::Sight::radius_usable))]
 fn usable_radius(radius: i64) -> bool
     ensures { result ≡ radius_usable radius }
 {
-    if LEAST_RADIUS <= radius {
-        return radius <= GREATEST_RADIUS;
-    }
-    false
+    (LEAST_RADIUS..=GREATEST_RADIUS).contains(&radius)
 }
 
 // The planet's R, then Earth's.
 fn usable_radii(planet: i64, earth: i64) -> bool
     ensures { result ≡ (radius_usable planet && radius_usable earth) }
 {
-    if !usable_radius(planet) {
-        return false;
-    }
-    usable_radius(earth)
+    usable_radius(planet) && usable_radius(earth)
 }
 
 // For two R that are usable.
@@ -44,12 +39,7 @@ fn usable_distance(planet: i64, earth: i64, distance: u64) -> bool
     requires { (radius_usable planet ≡ true) × (radius_usable earth ≡ true) × (distance < 2 ^ 46) }
     ensures { result ≡ usable_of planet earth distance }
 {
-    if distance < LEAST_DISTANCE {
-        return false;
-    }
-    let both = add(planet, earth);
-    let reach = wide(DISTANCE_FACTOR * distance);
-    both <= reach
+    LEAST_DISTANCE <= distance && planet + earth <= wide(DISTANCE_FACTOR * distance)
 }
 
 // For two R that are usable, and both vectors in one frame: the geocentric vector and D, if D is usable.

@@ -10,7 +10,6 @@ pub mod frames;
 pub mod from_earth;
 
 use arith::muldiv::{mul_div_round, scale};
-use arith::signed::sub;
 use cosine::parts::parts_angle;
 use cosine::working::cosine_sine;
 use units::{Coordinates, U};
@@ -19,6 +18,8 @@ use units::{Coordinates, U};
 const UNIT: i64 = U as i64;
 
 // Three components: in parts for a place, over U for a unit vector.
+// How large they are, `Components` says in each contract, and not a ghost field: the bound differs from call to call, and the definitions make vectors
+// of any size.
 #[derive(Clone, Copy)]
 pub struct Vector {
     pub x: i64,
@@ -72,24 +73,28 @@ fn place(c: Coordinates) -> Vector
     from_angles(c.radius, b, l)
 }
 
+#[tactic(auto, unfolding(crate::specs::Vectors::geocentric))]
 pub fn geocentric(planet: Vector, earth: Vector) -> Vector
     requires { Components (2 ^ 61) planet × Components (2 ^ 61) earth }
     ensures { result ≡ geocentric_of planet earth }
 {
-    let x = sub(planet.x, earth.x);
-    let y = sub(planet.y, earth.y);
-    let z = sub(planet.z, earth.z);
-    Vector { x, y, z }
+    Vector {
+        x: planet.x - earth.x,
+        y: planet.y - earth.y,
+        z: planet.z - earth.z,
+    }
 }
 
+#[tactic(auto, unfolding(crate::specs::Vectors::sun))]
 pub fn sun(earth: Vector) -> Vector
     requires { Components (2 ^ 61) earth }
     ensures { result ≡ sun_of earth }
 {
-    let x = sub(0, earth.x);
-    let y = sub(0, earth.y);
-    let z = sub(0, earth.z);
-    Vector { x, y, z }
+    Vector {
+        x: -earth.x,
+        y: -earth.y,
+        z: -earth.z,
+    }
 }
 
 pub fn length(v: Vector) -> u64
