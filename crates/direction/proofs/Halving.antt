@@ -8,15 +8,19 @@ use native.Mathlib.Omega.{arith}
 use native.Mathlib.Decide.{dec_le}
 use borrow.Author.Tests.{le-leb}
 use lib.Dec.{T, leb, lit<, leb→le}
-use lib.IntN.{ℤ, pos, ◌*ℤ◌}
-use lib.Signed.{le_z}
+use lib.IntN.{ℤ, pos, nat_abs, ◌*ℤ◌}
+use lib.Signed.{le_z, non_neg}
+use mir.Syntax.{w64}
+use mir.Val.{Fits}
 use Rattle.integers.specs.Order.{◌≼◌}
 use Rattle.integers.specs.Division.{floor, rounded, modulo}
 use Rattle.integers.proofs.Pairs.{nonneg}
 use Rattle.integers.proofs.Auto.{cert!, polys, gap, ◌⊞◌, ◌⊛◌, ◌·◌}
 use Rattle.units.specs.Units.{U, quarter, turn}
 use Rattle.cosine.specs.Cosine.{horner, y_of, even_part, odd_part, q_of, r_of, w_of, cosine_by, sine_by, working_cosine, working_sine, cosine, sine}
-use Rattle.reference_cosine.proofs.Ranges.{cosine_range, sine_range}
+use Rattle.reference_cosine.proofs.Ranges.{cosine_size, sine_size}
+use Rattle.arith.proofs.Cells.{Cell, cell}
+use Rattle.arith.proofs.Signs.{as_natural, is_nonNeg}
 use Rattle.direction.specs.Angles.{units_angle}
 use Rattle.direction.specs.Direction.{quarter_steps, turn_steps, steps_angle, not_past, greatest, in_quarter}
 use Rattle.integers.proofs.Rounding.{rounded_mono, rounded_zero}
@@ -125,17 +129,22 @@ step_below k a h e =
     let l = leb→le a quarter (subst (λ t. t ≼ pos quarter) (sym e) (steps_most k h)).le in
     omega arith
 
-pub step_sine : (k a : ℕ) (z : ℤ) → k ≤ quarter_steps → pos a ≡ steps_angle (pos k) → z ≡ sine (pos a) → pos 0 ≼ z
-step_sine k a z h e f = subst (λ t. pos 0 ≼ t) (sym (f ∙ ap sine e)) (steps_sine k h)
+-- a number of no sign, as the code casts it
+pub record Natural (z w : ℤ) : Type 0 where
+  pub is : pos (nat_abs (Cell z)) ≡ w
+  pub size : nat_abs (Cell z) ≤ U
+  pub casts : T (non_neg (Cell z)) × Fits w64 (nat_abs (Cell z))
 
-pub step_cosine : (k a : ℕ) (z : ℤ) → k ≤ quarter_steps → pos a ≡ steps_angle (pos k) → z ≡ cosine (pos a) → pos 0 ≼ z
-step_cosine k a z h e f = subst (λ t. pos 0 ≼ t) (sym (f ∙ ap cosine e)) (steps_cosine k h)
+natural : (z w : ℤ) → z ≡ w → pos 0 ≼ w → nat_abs w ≤ U → Natural z w
+natural z w e l h =
+    let c : Cell w ≡ w = cell w (omega arith) in
+    rw e (record { is = rw c (as_natural w l); size = rw c h; casts = rw c (is_nonNeg w l, record { fits = omega arith }) })
 
-pub sine_at_most : (s : ℕ) (a : ℤ) → pos s ≡ sine a → s ≤ U
-sine_at_most s a e = leb→le s U (subst (λ t. t ≼ pos U) (sym e) (sine_range a).most).le
+pub step_sine : (k a : ℕ) (z : ℤ) → k ≤ quarter_steps → pos a ≡ steps_angle (pos k) → z ≡ sine (pos a) → Natural z (sine (pos a))
+step_sine k a z h e f = natural z (sine (pos a)) f (rw e (steps_sine k h)) (sine_size (pos a))
 
-pub cosine_at_most : (c : ℕ) (a : ℤ) → pos c ≡ cosine a → c ≤ U
-cosine_at_most c a e = leb→le c U (subst (λ t. t ≼ pos U) (sym e) (cosine_range a).most).le
+pub step_cosine : (k a : ℕ) (z : ℤ) → k ≤ quarter_steps → pos a ≡ steps_angle (pos k) → z ≡ cosine (pos a) → Natural z (cosine (pos a))
+step_cosine k a z h e f = natural z (cosine (pos a)) f (rw e (steps_cosine k h)) (cosine_size (pos a))
 
 pub not_past_is : (x y k a s c : ℕ) → pos a ≡ steps_angle (pos k) → pos s ≡ sine (pos a) → pos c ≡ cosine (pos a)
     → leb (x * s) (y * c) ≡ not_past (pos x) (pos y) k

@@ -1,12 +1,15 @@
 -- The quarter turns of a direction, by the signs of X and Y. Assumes nothing.
-use mathlib.Core.Path.{◌≡◌, refl, sym, ap, ap₂, ◌∙◌, subst}
+use mathlib.Core.Path.{◌≡◌, refl, sym, ◌∙◌}
 use mathlib.Core.Bool.{Bool, true, false, cond}
 use Prim.Native.Nat.{ℕ, zero, suc, ◌+◌, ◌*◌, ◌<◌}
 use native.Mathlib.Omega.{arith}
-use borrow.Author.Tests.{lt-ltb, le-leb, ne_eqb, eq-eqb}
-use lib.Dec.{T}
+use borrow.Author.Tests.{lt-ltb, le-leb, ne_eqb, ltb-true, ltb-false, leb-false}
 use lib.IntN.{ℤ, pos, negsuc, neg_ℤ, nat_abs}
-use Rattle.integers.specs.Signs.{negative, sgn}
+use lib.Signed.{lt_z, le_z}
+use mir.Syntax.{w64}
+use mir.Val.{SFits, to_z, of_z}
+use mir.ValLaws.{to_z-of_z}
+use Rattle.integers.specs.Signs.{sgn}
 use Rattle.integers.proofs.Order.{nat_abs_neg}
 use Rattle.direction.specs.Direction.{quarter_steps, in_quarter, first_quarter, within_turns, direction}
 
@@ -57,53 +60,55 @@ three_turns x (suc n) h =
     no_origin (pos x) (negsuc n) (omega arith) ∙ turn_below 2 n (pos x)
     ∙ omega (arith, turn_neg 1 (suc n) (neg_ℤ (pos x)), turn_neg 0 x (pos (suc n)), stop 0 (suc n) x (omega arith))
 
--- ---- the same by the signs and magnitudes that the code has
-pub by_none : (x y : ℤ) → negative x ≡ false → negative y ≡ false → 0 < nat_abs x
-    → 0 * quarter_steps + in_quarter (pos (nat_abs x)) (pos (nat_abs y)) ≡ direction x y
-unfolding negative sgn
-by_none (pos m) (pos n) e f h = sym (no_turn m n h)
-by_none (pos m) (negsuc n) e f h = absurd (subst T f tt)
-by_none (negsuc m) y e f h = absurd (subst T e tt)
+-- ---- the same by the tests and the magnitudes that the code has
+abbrev Quarters : (t : ℕ) (a b x y : ℤ) → Type 0
+Quarters t a b x y = t * quarter_steps + in_quarter (pos (nat_abs a)) (pos (nat_abs b)) ≡ direction x y
 
-pub by_one : (x y : ℤ) → negative x ≡ true → negative y ≡ false → 0 < nat_abs y
-    → 1 * quarter_steps + in_quarter (pos (nat_abs y)) (pos (nat_abs x)) ≡ direction x y
-unfolding negative sgn
-by_one (pos m) y e f h = absurd (subst T (sym e) tt)
-by_one (negsuc m) (pos n) e f h = sym (one_turn (suc m) n h)
-by_one (negsuc m) (negsuc n) e f h = absurd (subst T f tt)
+pub by_none : (x y : ℤ) → lt_z (pos 0) x ≡ true → le_z (pos 0) y ≡ true → Quarters 0 x y x y
+unfolding sgn
+by_none (pos m) (pos n) e f = sym (no_turn m n (ltb-true 0 m e))
+by_none (pos m) (negsuc n) e f = cc
+by_none (negsuc m) y e f = cc
 
-pub by_one_up : (x y : ℤ) → nat_abs x ≡ 0 → negative y ≡ false → 0 < nat_abs y
-    → 1 * quarter_steps + in_quarter (pos (nat_abs y)) (pos (nat_abs x)) ≡ direction x y
-unfolding negative sgn
-by_one_up (pos zero) (pos n) e f h = sym (one_turn 0 n h)
-by_one_up (pos zero) (negsuc n) e f h = absurd (subst T f tt)
-by_one_up (pos (suc m)) y e f h = absurd (omega arith)
-by_one_up (negsuc m) y e f h = absurd (omega arith)
+pub by_one : (x y : ℤ) → lt_z (pos 0) x ≡ false → lt_z (pos 0) y ≡ true → Quarters 1 y x x y
+unfolding sgn
+by_one (pos zero) (pos n) e f = sym (one_turn 0 n (ltb-true 0 n f))
+by_one (pos (suc m)) y e f = absurd (omega (arith, ltb-false 0 (suc m) e))
+by_one (negsuc m) (pos n) e f = sym (one_turn (suc m) n (ltb-true 0 n f))
+by_one x (negsuc n) e f = cc
 
-pub by_two : (x y : ℤ) → negative x ≡ true → negative y ≡ true → 2 * quarter_steps + in_quarter (pos (nat_abs x)) (pos (nat_abs y)) ≡ direction x y
-unfolding negative sgn
-by_two (pos m) y e f = absurd (subst T (sym e) tt)
-by_two (negsuc m) (pos n) e f = absurd (subst T (sym f) tt)
+pub by_two : (x y : ℤ) → lt_z x (pos 0) ≡ true → lt_z (pos 0) y ≡ false → Quarters 2 x y x y
+unfolding sgn
+by_two (pos m) y e f = absurd (omega (arith, ltb-true m 0 e))
+by_two (negsuc m) (pos zero) e f = sym (two_turns (suc m) 0 (omega arith))
+by_two (negsuc m) (pos (suc n)) e f = absurd (omega (arith, ltb-false 0 (suc n) f))
 by_two (negsuc m) (negsuc n) e f = sym (two_turns (suc m) (suc n) (omega arith))
 
-pub by_two_flat : (x y : ℤ) → negative x ≡ true → nat_abs y ≡ 0 → 2 * quarter_steps + in_quarter (pos (nat_abs x)) (pos (nat_abs y)) ≡ direction x y
-unfolding negative sgn
-by_two_flat (pos m) y e f = absurd (subst T (sym e) tt)
-by_two_flat (negsuc m) (pos zero) e f = sym (two_turns (suc m) 0 (omega arith))
-by_two_flat (negsuc m) (pos (suc n)) e f = absurd (omega arith)
-by_two_flat (negsuc m) (negsuc n) e f = absurd (omega arith)
-
-pub by_three : (x y : ℤ) → negative x ≡ false → negative y ≡ true → 3 * quarter_steps + in_quarter (pos (nat_abs y)) (pos (nat_abs x)) ≡ direction x y
-unfolding negative sgn
-by_three (pos m) (pos n) e f = absurd (subst T (sym f) tt)
+pub by_three : (x y : ℤ) → lt_z x (pos 0) ≡ false → lt_z y (pos 0) ≡ true → Quarters 3 y x x y
+unfolding sgn
+by_three x (pos n) e f = absurd (omega (arith, ltb-true n 0 f))
 by_three (pos m) (negsuc n) e f = sym (three_turns m (suc n) (omega arith))
-by_three (negsuc m) y e f = absurd (subst T e tt)
+by_three (negsuc m) (negsuc n) e f = cc
 
-pub by_origin : (x y : ℤ) → nat_abs x ≡ 0 → nat_abs y ≡ 0 → 0 ≡ direction x y
+pub by_origin : (x y : ℤ) → x ≡ pos 0 → y ≡ pos 0 → 0 ≡ direction x y
 unfolding direction
-by_origin x y e f = sym (rw (eq-eqb (nat_abs x + nat_abs y) 0 (omega arith)) refl)
+by_origin x y e f = rw (e, f)
 
--- ---- an answer for magnitudes that were worked out
-pub answer : (t a b p q z : ℕ) (r : ℤ) → r ≡ pos (t * quarter_steps + in_quarter (pos a) (pos b)) → a ≡ p → b ≡ q
-    → t * quarter_steps + in_quarter (pos p) (pos q) ≡ z → r ≡ pos z
-answer t a b p q z r e f g h = e ∙ ap₂ (λ u v. pos (t * quarter_steps + in_quarter (pos u) (pos v))) f g ∙ ap pos h
+-- what the tests of the branches leave
+pub not_below : {P : Type 0} (y : ℤ) → le_z (pos 0) y ≡ false → lt_z y (pos 0) ≡ false → P
+not_below (pos n) e f = absurd (omega (arith, leb-false 0 n e))
+not_below (negsuc n) e f = cc
+
+pub not_above : {P : Type 0} (y : ℤ) → le_z (pos 0) y ≡ false → lt_z (pos 0) y ≡ true → P
+not_above (pos n) e f = absurd (omega (arith, leb-false 0 n e))
+not_above (negsuc n) e f = cc
+
+pub nought : (x : ℤ) → lt_z (pos 0) x ≡ false → lt_z x (pos 0) ≡ false → x ≡ pos 0
+nought (pos zero) e f = refl
+nought (pos (suc n)) e f = absurd (omega (arith, ltb-false 0 (suc n) e))
+nought (negsuc n) e f = cc
+
+-- ---- an answer, as the code has it, for magnitudes that were worked out
+pub answer : (t a b : ℕ) (p q x y r : ℤ) → SFits w64 r → r ≡ pos (t * quarter_steps + in_quarter (pos a) (pos b)) → a ≡ nat_abs p → b ≡ nat_abs q
+    → Quarters t p q x y → to_z w64 (of_z w64 r) ≡ pos (direction x y)
+answer t a b p q x y r f e g h k = to_z-of_z w64 r f ∙ rw (g, h, k) at e

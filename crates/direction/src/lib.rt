@@ -8,7 +8,6 @@ ghost use Rattle.direction.specs.Direction.{quarter_steps, turn_steps, steps_ang
 
 use arith::compare::product_le;
 use arith::muldiv::mul_div_round;
-use arith::signed::{abs, is_neg, low, of_parts, wide};
 use cosine::working::cosine_sine;
 use roots::length;
 use units::TURN;
@@ -45,39 +44,49 @@ fn step_angle(k: u64) -> u64
     k * ANGLES_A_STEP + (2 * (k * ANGLES_LEFT) + TURN_STEPS) / TWO_TURNS
 }
 
-// Whether x times the sine is at most y times the cosine, at the angle of k.
-fn is_not_past(x: u64, y: u64, k: u64) -> bool
-    requires { (x < 2 ^ 47) × (y < 2 ^ 47) × (k ≤ quarter_steps) }
-    ensures { result ≡ not_past (pos x) (pos y) k }
-{
-    let t = cosine_sine(step_angle(k));
-    product_le(x, low(t.sin), y, low(t.cos))
+// A vector in the first quarter.
+#[derive(Clone, Copy)]
+struct Turned {
+    x: u64,
+    y: u64,
+    ghost small: { (x < 2 ^ 47) × (y < 2 ^ 47) },
 }
 
-// The greatest step that is not past (x, y), by halving: `least` is not past it, and `most` and all steps beyond are.
-fn step_in_quarter(x: u64, y: u64) -> u64
-    requires { (x < 2 ^ 47) × (y < 2 ^ 47) }
-    ensures { (result ≡ in_quarter (pos x) (pos y)) × (result < quarter_steps) }
-{
-    let mut least: u64 = 0;
-    let mut most: u64 = QUARTER_STEPS;
-    while 1 < most - least {
-        let middle = least + (most - least) / 2;
-        if is_not_past(x, y, middle) {
-            least = middle;
-        } else {
-            most = middle;
-        }
+impl Turned {
+    // Whether x times the sine is at most y times the cosine, at the angle of k.
+    fn is_not_past(self, k: u64) -> bool
+        requires { k ≤ quarter_steps }
+        ensures { result ≡ not_past (pos self.x) (pos self.y) k }
+    {
+        let t = cosine_sine(step_angle(k));
+        product_le(self.x, t.sin as u64, self.y, t.cos as u64)
     }
-    least
-}
 
-// After some quarter turns.
-fn after_turns(turns: u64, x: u64, y: u64) -> i64
-    requires { (turns < 4) × (x < 2 ^ 47) × (y < 2 ^ 47) }
-    ensures { result ≡ pos (turns * quarter_steps + in_quarter (pos x) (pos y)) }
-{
-    wide(turns * QUARTER_STEPS + step_in_quarter(x, y))
+    // The greatest step that is not past the vector, by halving: `least` is not past it, and `most` and all steps beyond are.
+    // A loop and not `partition_point`, which searches a slice: the steps are numbers, of which no table is held.
+    fn step(self) -> u64
+        ensures { (result ≡ in_quarter (pos self.x) (pos self.y)) × (result < quarter_steps) }
+    {
+        let mut least: u64 = 0;
+        let mut most: u64 = QUARTER_STEPS;
+        while 1 < most - least {
+            let middle = least + (most - least) / 2;
+            if self.is_not_past(middle) {
+                least = middle;
+            } else {
+                most = middle;
+            }
+        }
+        least
+    }
+
+    // The direction that was its own before some quarter turns.
+    fn after(self, turns: u64) -> i64
+        requires { turns < 4 }
+        ensures { result ≡ pos (turns * quarter_steps + in_quarter (pos self.x) (pos self.y)) }
+    {
+        (turns * QUARTER_STEPS + self.step()) as i64
+    }
 }
 
 // The direction of (x, y).
@@ -85,28 +94,19 @@ pub fn direction_of(x: i64, y: i64) -> i64
     requires { (nat_abs x < 2 ^ 47) × (nat_abs y < 2 ^ 47) }
     ensures { result ≡ pos (direction x y) }
 {
-    let a = abs(x);
-    let b = abs(y);
-    let below = is_neg(y);
-    if is_neg(x) {
-        if below {
-            return after_turns(2, a, b);
-        }
-        if b == 0 {
-            return after_turns(2, a, b);
-        }
-        return after_turns(1, b, a);
+    let a = x.unsigned_abs();
+    let b = y.unsigned_abs();
+    if x > 0 && y >= 0 {
+        Turned { x: a, y: b }.after(0)
+    } else if y > 0 {
+        Turned { x: b, y: a }.after(1)
+    } else if x < 0 {
+        Turned { x: a, y: b }.after(2)
+    } else if y < 0 {
+        Turned { x: b, y: a }.after(3)
+    } else {
+        0
     }
-    if below {
-        return after_turns(3, b, a);
-    }
-    if a == 0 {
-        if b == 0 {
-            return 0;
-        }
-        return after_turns(1, b, a);
-    }
-    after_turns(0, a, b)
 }
 
 // The latitude of (x, y, z).
@@ -114,8 +114,8 @@ pub fn latitude_of(x: i64, y: i64, z: i64) -> i64
     requires { (nat_abs (x *ℤ x +ℤ y *ℤ y) < 2 ^ 92) × (nat_abs z < 2 ^ 47) }
     ensures { result ≡ latitude x y z }
 {
-    let flat = wide(length(x, y, 0));
-    let up = wide(abs(z));
-    let k = low(direction_of(flat, up));
-    of_parts(is_neg(z), k)
+    let flat = length(x, y, 0) as i64;
+    let up = z.unsigned_abs() as i64;
+    let k = direction_of(flat, up);
+    if z < 0 { -k } else { k }
 }
