@@ -81,6 +81,9 @@ module _ (f : ℕ) (s : Tally) (t : Term) where
       let u = both (c_fits t.c) _ r.1 in
       record { a = p.0; total = q.0; b = r.0; c = u.0; coarse = u.1 }
 
+  pub may_come_good : term_may_come f s t ≡ true → GoodTerm f s t
+  may_come_good e = good_of (all_passed e)
+
   pub all_pass : Passes f s t → term_may_come f s t ≡ true
   unfolding term_may_come
   all_pass p = rw (p.a, p.total, p.b, p.c, p.coarse)

@@ -1,9 +1,10 @@
 -- RULES, "Series, as text and packed": the limits of a series, each once. They are judged over the part so far, so each rule is a test
 -- of what the tally of that part is with one count or one term more.
-use Rattle.std.specs.Prelude.{Bool, cond, ◌&&◌, List, [], ◌∷◌, ℕ, ◌+◌, ◌*◌, ◌%◌, ◌^◌, leb, ltb, eqb, ℤ, nat_abs, length}
+use Rattle.std.specs.Prelude.{Bool, cond, ◌&&◌, List, [], ◌∷◌, ℕ, ◌+◌, ◌*◌, ◌%◌, ◌^◌, leb, ltb, eqb, ℤ, nat_abs, length, Result, Ok, Err}
 use Rattle.units.specs.Units.{U, coarse_tau, a_limit, b_limit, c_limit, block_limit, series_limit, total_limit, powers}
 use Rattle.units.specs.Units.{coarse_share, coarse_base, coarse_limit}
-use Rattle.units.specs.Refusals.{over_limit, total_over_limit, too_coarse}
+use Rattle.units.specs.Refusals.{over_limit, total_over_limit, too_coarse, fault_number}
+use Rattle.units.specs.declared.Fault.{Fault}
 use Rattle.limits.specs.declared.Term.{Term}
 use Rattle.limits.specs.declared.Tally.{Tally}
 
@@ -85,3 +86,8 @@ term_refusal f s t =
     cond (numbers_fit t)
     (cond (total_fits s t.a) (cond (coarse_fits f s t.a t.b t.c) 0 too_coarse) total_over_limit)
     over_limit
+
+-- The number of what a judgement of the code answers: that of the fault, or 0.
+abbrev pub refused_number : Result (Unit {0}) Fault → ℕ
+refused_number (Ok u) = 0
+refused_number (Err fault) = fault_number fault

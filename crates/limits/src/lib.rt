@@ -7,12 +7,13 @@ pub mod wide;
 ghost use Rattle.std.specs.Prelude.{◌≡◌, true, ◌<◌, ◌≤◌, pos};
 ghost use Rattle.units.specs.Units.{a_limit};
 ghost use Rattle.limits.specs.Limits.{factor, weight, no_tally, opened, added, count_fits, a_fits, b_fits, c_fits};
-ghost use Rattle.limits.specs.Limits.{total_fits, coarse_fits, term_may_come, term_refusal};
+ghost use Rattle.limits.specs.Limits.{numbers_fit, total_fits, coarse_fits, term_may_come, term_refusal, refused_number};
 ghost use Rattle.limits.specs.Machine.Magnitudes.{factor_limit, unsigned};
+ghost use Rattle.limits.specs.Machine.Widened.{start};
 
 use units::{
     A_LIMIT, B_LIMIT, BLOCK_LIMIT, C_LIMIT, COARSE_BASE, COARSE_LIMIT, COARSE_SHARE, COARSE_TAU,
-    OVER_LIMIT, POWERS, SERIES_LIMIT, TOO_COARSE, TOTAL_LIMIT, TOTAL_OVER_LIMIT, U,
+    Fault, POWERS, SERIES_LIMIT, TOTAL_LIMIT, U,
 };
 
 // A term of a series, in parts: a times the cosine of b + c tau.
@@ -23,6 +24,14 @@ pub struct Term {
     pub c: i64,
 }
 
+// The sizes of the numbers of a term, which are what the limits ask for: |a|, b and |c|.
+#[derive(Clone, Copy)]
+pub struct Sizes {
+    pub a: u64,
+    pub b: u64,
+    pub c: u64,
+}
+
 // The part of a series so far: the terms that its counts declare, the total |a| of the block, and the coarseness sum of the
 // coordinate.
 #[derive(Clone, Copy)]
@@ -30,17 +39,6 @@ pub struct Tally {
     pub terms: u64,
     pub total: u64,
     pub coarse: u64,
-}
-
-// Before the first count.
-pub fn empty_tally() -> Tally
-    ensures { result ≡ no_tally }
-{
-    Tally {
-        terms: 0,
-        total: 0,
-        coarse: COARSE_BASE,
-    }
 }
 
 // The factor of each power in the coarseness sum.
@@ -63,143 +61,150 @@ pub fn block_factor(k: u64) -> u64
     FACTORS[power]
 }
 
-// The count n of a block may come.
-pub fn count_fits(tally: Tally, n: u64) -> bool
-    ensures { result ≡ count_fits tally n }
+// A coarseness sum before the terms of block k: at power 0 a new coordinate begins.
+#[tactic(auto, unfolding(crate::specs::Machine::Widened::start))]
+fn begin(base: u64, k: u64, sum: u64) -> u64
+    ensures { result ≡ start base k sum }
 {
-    if BLOCK_LIMIT < n {
-        return false;
-    }
-    tally.terms <= SERIES_LIMIT - n
+    if k % POWERS == 0 { base } else { sum }
 }
 
-// The tally with the count n of block k, which may come.
-pub fn open_block(k: u64, n: u64, tally: Tally) -> Tally
-    requires { count_fits tally n ≡ true }
-    ensures { result ≡ opened k n tally }
+// The numbers of a term, here |a|, b and |c|, are within their limits.
+#[tactic(auto, unfolding(crate::specs::Limits::a_fits))]
+pub fn a_fits(a: u64) -> bool
+    ensures { result ≡ a_fits (pos a) }
 {
-    let terms = tally.terms + n;
-    if k % POWERS == 0 {
-        return Tally {
-            terms,
-            total: 0,
-            coarse: COARSE_BASE,
-        };
-    }
-    Tally {
-        terms,
-        total: 0,
-        coarse: tally.coarse,
-    }
+    a < A_LIMIT
 }
 
-// The numbers of a term, here m for |a| and n for |c|, are within their limits.
-pub fn a_fits(m: u64) -> bool
-    ensures { result ≡ a_fits (pos m) }
-{
-    m < A_LIMIT
-}
-
+#[tactic(auto, unfolding(crate::specs::Limits::b_fits))]
 pub fn b_fits(b: u64) -> bool
     ensures { result ≡ b_fits b }
 {
     b < B_LIMIT
 }
 
-pub fn c_fits(n: u64) -> bool
-    ensures { result ≡ c_fits (pos n) }
+#[tactic(auto, unfolding(crate::specs::Limits::c_fits))]
+pub fn c_fits(c: u64) -> bool
+    ensures { result ≡ c_fits (pos c) }
 {
-    n < C_LIMIT
+    c < C_LIMIT
 }
 
-// With |a| = m the block's total is within its limit.
-pub fn total_fits(tally: Tally, m: u64) -> bool
-    ensures { result ≡ total_fits tally (pos m) }
-{
-    if TOTAL_LIMIT < m {
-        return false;
+impl Sizes {
+    // All three are.
+    #[tactic(auto, unfolding(crate::specs::Limits::numbers_fit))]
+    fn fit(self) -> bool
+        ensures { result ≡ numbers_fit (unsigned self.a self.b self.c) }
+    {
+        a_fits(self.a) && b_fits(self.b) && c_fits(self.c)
     }
-    tally.total <= TOTAL_LIMIT - m
+
+    // What a term adds to the coarseness sum, in a block with factor f.
+    #[tactic(auto, unfolding(crate::specs::Limits::weight, crate::specs::Limits::constant))]
+    fn weight(self, f: u64) -> u64
+        requires { (f ≤ factor_limit) × (self.a < a_limit) }
+        ensures { result ≡ weight f (pos self.a) self.b (pos self.c) }
+    {
+        if self.b == 0 && self.c == 0 {
+            0
+        } else {
+            f * (COARSE_SHARE * self.a + U)
+        }
+    }
 }
 
-// What a term adds to the coarseness sum, in a block with factor f.
-fn term_weight(f: u64, m: u64, b: u64, n: u64) -> u64
-    requires { (f ≤ factor_limit) × (m < a_limit) }
-    ensures { result ≡ weight f (pos m) b (pos n) }
-{
-    let w = f * (COARSE_SHARE * m + U);
-    if b != 0 {
-        return w;
+impl Tally {
+    // Before the first count.
+    pub fn empty() -> Tally
+        ensures { result ≡ no_tally }
+    {
+        Tally {
+            terms: 0,
+            total: 0,
+            coarse: COARSE_BASE,
+        }
     }
-    if n == 0 {
-        return 0;
-    }
-    w
-}
 
-// With this term the coordinate is not too coarse.
-pub fn coarse_fits(f: u64, tally: Tally, m: u64, b: u64, n: u64) -> bool
-    requires { (f ≤ factor_limit) × (m < a_limit) }
-    ensures { result ≡ coarse_fits f tally (pos m) b (pos n) }
-{
-    let w = term_weight(f, m, b, n);
-    if COARSE_LIMIT < w {
-        return false;
+    // The count n of a block may come.
+    #[tactic(auto, unfolding(crate::specs::Limits::count_fits))]
+    pub fn count_fits(self, n: u64) -> bool
+        ensures { result ≡ count_fits self n }
+    {
+        n <= BLOCK_LIMIT && self.terms.saturating_add(n) <= SERIES_LIMIT
     }
-    tally.coarse <= COARSE_LIMIT - w
-}
 
-// All of that: a term may come, in a block with factor f.
-pub fn term_may_come(f: u64, tally: Tally, m: u64, b: u64, n: u64) -> bool
-    requires { f ≤ factor_limit }
-    ensures { result ≡ term_may_come f tally (unsigned m b n) }
-{
-    if !a_fits(m) {
-        return false;
+    // With the count n of block k, which may come.
+    #[tactic(auto, using(crate::proofs::Passing::count_passed), unfolding(crate::specs::Limits::opened, crate::specs::Machine::Widened::start))]
+    pub fn open_block(self, k: u64, n: u64) -> Tally
+        requires { count_fits self n ≡ true }
+        ensures { result ≡ opened k n self }
+    {
+        Tally {
+            terms: self.terms + n,
+            total: 0,
+            coarse: begin(COARSE_BASE, k, self.coarse),
+        }
     }
-    if !total_fits(tally, m) {
-        return false;
-    }
-    if !b_fits(b) {
-        return false;
-    }
-    if !c_fits(n) {
-        return false;
-    }
-    coarse_fits(f, tally, m, b, n)
-}
 
-// The number of a whole term's refusal, or 0: for its numbers, then for the total, then for the coarseness.
-pub fn judge_term(f: u64, tally: Tally, m: u64, b: u64, n: u64) -> u64
-    requires { f ≤ factor_limit }
-    ensures { result ≡ term_refusal f tally (unsigned m b n) }
-{
-    if !a_fits(m) {
-        return OVER_LIMIT;
+    // With this |a| the block's total is within its limit.
+    #[tactic(auto, unfolding(crate::specs::Limits::total_fits))]
+    pub fn total_fits(self, a: u64) -> bool
+        ensures { result ≡ total_fits self (pos a) }
+    {
+        self.total.saturating_add(a) <= TOTAL_LIMIT
     }
-    if !b_fits(b) {
-        return OVER_LIMIT;
-    }
-    if !c_fits(n) {
-        return OVER_LIMIT;
-    }
-    if !total_fits(tally, m) {
-        return TOTAL_OVER_LIMIT;
-    }
-    if !coarse_fits(f, tally, m, b, n) {
-        return TOO_COARSE;
-    }
-    0
-}
 
-// The tally with one term more, which may come.
-pub fn add_term(f: u64, tally: Tally, m: u64, b: u64, n: u64) -> Tally
-    requires { (f ≤ factor_limit) × (term_may_come f tally (unsigned m b n) ≡ true) }
-    ensures { result ≡ added f tally (unsigned m b n) }
-{
-    Tally {
-        terms: tally.terms,
-        total: tally.total + m,
-        coarse: tally.coarse + term_weight(f, m, b, n),
+    // With this term, in a block with factor f, the coordinate is not too coarse.
+    #[tactic(auto, unfolding(crate::specs::Limits::coarse_fits))]
+    pub fn coarse_fits(self, f: u64, term: Sizes) -> bool
+        requires { (f ≤ factor_limit) × (term.a < a_limit) }
+        ensures { result ≡ coarse_fits f self (pos term.a) term.b (pos term.c) }
+    {
+        self.coarse.saturating_add(term.weight(f)) <= COARSE_LIMIT
+    }
+
+    // All of that: a term may come, in a block with factor f.
+    #[tactic(auto, unfolding(crate::specs::Limits::term_may_come, crate::specs::Limits::a_fits))]
+    pub fn term_may_come(self, f: u64, term: Sizes) -> bool
+        requires { f ≤ factor_limit }
+        ensures { result ≡ term_may_come f self (unsigned term.a term.b term.c) }
+    {
+        a_fits(term.a)
+            && self.total_fits(term.a)
+            && b_fits(term.b)
+            && c_fits(term.c)
+            && self.coarse_fits(f, term)
+    }
+
+    // Judges a whole term: its numbers, then the total, then the coarseness.
+    #[tactic(auto, unfolding(crate::specs::Limits::term_refusal, crate::specs::Limits::numbers_fit, crate::specs::Limits::a_fits))]
+    pub fn judge_term(self, f: u64, term: Sizes) -> Result<(), Fault>
+        requires { f ≤ factor_limit }
+        ensures { refused_number result ≡ term_refusal f self (unsigned term.a term.b term.c) }
+    {
+        if !term.fit() {
+            return Err(Fault::OverLimit);
+        }
+        if !self.total_fits(term.a) {
+            return Err(Fault::TotalOverLimit);
+        }
+        if !self.coarse_fits(f, term) {
+            return Err(Fault::TooCoarse);
+        }
+        Ok(())
+    }
+
+    // With one term more, which may come.
+    #[tactic(auto, using(crate::proofs::Passing::may_come_good), unfolding(crate::specs::Limits::added))]
+    pub fn add_term(self, f: u64, term: Sizes) -> Tally
+        requires { (f ≤ factor_limit) × (term_may_come f self (unsigned term.a term.b term.c) ≡ true) }
+        ensures { result ≡ added f self (unsigned term.a term.b term.c) }
+    {
+        Tally {
+            total: self.total + term.a,
+            coarse: self.coarse + term.weight(f),
+            ..self
+        }
     }
 }

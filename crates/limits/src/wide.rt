@@ -2,63 +2,40 @@
 // crates above.
 ghost use Rattle.std.specs.Prelude.{◌≡◌, ◌||◌};
 ghost use Rattle.units.specs.Units.{near as near_at};
-ghost use Rattle.limits.specs.Machine.Widened.{start, no_wide, judged, widened, Grown};
+ghost use Rattle.limits.specs.Machine.Widened.{no_wide, judged, widened, Grown};
 
-use crate::{Tally, block_factor};
-use units::{COARSE_BASE, COARSE_LIMIT, Instant, POWERS, WIDE_BASE, WIDE_TOTAL, near};
+use crate::{Tally, begin, block_factor};
+use units::{COARSE_BASE, COARSE_LIMIT, Instant, WIDE_BASE, WIDE_TOTAL, near};
 
-// The blocks so far: the sum of the coordinate by the wide rule, and whether they all keep to that rule. After one that does not, the sum is
-// of no use.
-#[derive(Clone, Copy)]
-pub struct Wide {
-    pub sum: u64,
-    pub good: bool,
-}
-
-// Before the first block.
-pub fn empty_wide() -> Wide
+// Before the first block. What the blocks so far make of it is the sum of the coordinate by the wide rule, or nothing after one that does not keep
+// to that rule.
+pub fn empty_wide() -> Option<u64>
     ensures { result ≡ no_wide }
 {
-    Wide {
-        sum: WIDE_BASE,
-        good: true,
-    }
-}
-
-// A sum before the terms of block k: at power 0 a new coordinate begins.
-fn begin(base: u64, k: u64, sum: u64) -> u64
-    ensures { result ≡ start base k sum }
-{
-    if k % POWERS == 0 {
-        return base;
-    }
-    sum
+    Some(WIDE_BASE)
 }
 
 // After a block of this total, with which the coordinate's sum is this.
-fn judge_wide(sum: u64, total: u64) -> Wide
+#[tactic(auto, unfolding(crate::specs::Machine::Widened::judged))]
+fn judge_wide(sum: u64, total: u64) -> Option<u64>
     ensures { result ≡ judged sum total }
 {
-    if WIDE_TOTAL < total {
-        return Wide { sum, good: false };
-    }
-    Wide {
-        sum,
-        good: sum <= COARSE_LIMIT,
+    if total <= WIDE_TOTAL && sum <= COARSE_LIMIT {
+        Some(sum)
+    } else {
+        None
     }
 }
 
 // With block k more, from the tally before its count and the one after its terms. What it has added to the coarseness sum has the factor of its
 // power once; the wide rule has that factor twice.
-pub fn widen(k: u64, w: Wide, before: Tally, after: Tally) -> Wide
-    requires { Grown k w before after }
-    ensures { result ≡ widened k w before after }
+#[tactic(auto, using(crate::proofs::WideSums::held_small), unfolding(crate::specs::Machine::Widened::widened))]
+pub fn widen(k: u64, wide: Option<u64>, before: Tally, after: Tally) -> Option<u64>
+    requires { Grown k wide before after }
+    ensures { result ≡ widened k wide before after }
 {
-    if !w.good {
-        return w;
-    }
+    let held = begin(WIDE_BASE, k, wide?);
     let from = begin(COARSE_BASE, k, before.coarse);
-    let held = begin(WIDE_BASE, k, w.sum);
     let f = block_factor(k);
     judge_wide(held + f * (after.coarse - from), after.total)
 }
@@ -67,8 +44,5 @@ pub fn widen(k: u64, w: Wide, before: Tally, after: Tally) -> Wide
 pub fn may_ask(wide: bool, t: Instant) -> bool
     ensures { result ≡ (near_at t.ms || wide) }
 {
-    if near(t) {
-        return true;
-    }
-    wide
+    near(t) || wide
 }

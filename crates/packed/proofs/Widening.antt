@@ -1,14 +1,13 @@
 -- Whether a series is good for the wide range, from the tallies after its blocks. Assumes nothing.
 use mathlib.Core.Path.{◌≡◌, refl, sym, ap, ap₂, ◌∙◌, subst}
-use mathlib.Core.Bool.{true}
 use mathlib.Core.List.{List, [], ◌∷◌}
 use Prim.Native.Nat.{ℕ, ◌+◌, ◌≤◌, ◌<◌}
 use native.Mathlib.Omega.{arith}
 use lib.ListN.{length, drop}
-use Rattle.units.specs.Units.{block_count, coarse_limit}
+use Rattle.std.proofs.Common.{Option, Some, is_some}
+use Rattle.units.specs.Units.{block_count, coarse_limit, wide_base}
 use Rattle.limits.specs.declared.Term.{Term}
 use Rattle.limits.specs.declared.Tally.{Tally}
-use Rattle.limits.specs.declared.wide.Wide.{Wide}
 use Rattle.limits.specs.Limits.{no_tally, after_block}
 use Rattle.limits.specs.Wide.{good_for_wide}
 use Rattle.limits.specs.Machine.Widened.{no_wide, widened, wide_from, Grown}
@@ -18,11 +17,11 @@ use Rattle.packed.specs.Machine.Tallies.{tally_row, tally_of, tally_at, tally_ro
 use Rattle.packed.proofs.Tabling.{head_is, tail_one}
 
 -- The tallies of blocks say what the blocks say.
-rows_say : (k : ℕ) (w : Wide) (s : Tally) (blocks : List (List Term)) → wide_rows k w s (tally_rows k s blocks) ≡ wide_from k w blocks
+rows_say : (k : ℕ) (w : Option ℕ) (s : Tally) (blocks : List (List Term)) → wide_rows k w s (tally_rows k s blocks) ≡ wide_from k w blocks
 unfolding wide_rows tally_rows wide_from
 rows_say k w s [] = refl
 rows_say k w s (ts ∷ blocks) =
-    ap (λ (v : Wide). wide_rows (k + 1) v (after_block k s ts) (tally_rows (k + 1) (after_block k s ts) blocks)) (widened_block k w s ts)
+    ap (λ (v : Option ℕ). wide_rows (k + 1) v (after_block k s ts) (tally_rows (k + 1) (after_block k s ts) blocks)) (widened_block k w s ts)
     ∙ rows_say (k + 1) _ (after_block k s ts) blocks
 
 pub tallies_say : (rows : List (List ℕ)) (blocks : List (List Term)) → rows ≡ tally_rows 0 no_tally blocks → length blocks ≡ block_count
@@ -30,13 +29,13 @@ pub tallies_say : (rows : List (List ℕ)) (blocks : List (List Term)) → rows 
 tallies_say rows blocks e n = ap (wide_rows 0 no_wide no_tally) e ∙ rows_say 0 no_wide no_tally blocks ∙ wide_is blocks n
 
 -- The loop's invariant over the rows, after k of them; the blocks that are left are good.
-pub record Judging (rows : List (List ℕ)) (w : Wide) (tally : Tally) (k : ℕ) : Type 0 where
+pub record Judging (rows : List (List ℕ)) (w : Option ℕ) (tally : Tally) (k : ℕ) : Type 0 where
   pub left : List (List Term)
   pub many : k + length left ≡ block_count
   pub tallies : drop k rows ≡ tally_rows k tally left
   pub good : GoodBlocks k tally left
   pub coarse : tally.coarse ≤ coarse_limit
-  pub small : w.good ≡ true → w.sum ≤ coarse_limit
+  pub small : (sum : ℕ) → w ≡ Some sum → sum ≤ coarse_limit
   pub whole : wide_rows 0 no_wide no_tally rows ≡ wide_rows k w tally (drop k rows)
 
 pub judging_none : (rows : List (List ℕ)) → Tallied rows → Judging rows no_wide no_tally 0
@@ -47,9 +46,12 @@ judging_none rows t =
       tallies = t.tallies;
       good = allowed_good t.blocks t.allowed;
       coarse = omega arith;
-      small = λ e. omega arith;
+      small = λ sum e. first sum e;
       whole = refl;
     }
+  where
+    first : (sum : ℕ) → no_wide ≡ Some sum → sum ≤ coarse_limit
+    first sum e = let f : wide_base ≡ sum = cc in omega arith
 
 -- The next block: its tally is in its row, and it is good.
 record Next (rows : List (List ℕ)) (tally : Tally) (k : ℕ) (left : List (List Term)) : Type 0 where
@@ -80,7 +82,7 @@ next rows tally k (ts ∷ rest) h m e (more b bs) =
       rows_left = q ∙ ap (λ (t : Tally). tally_rows (k + 1) t rest) (sym p);
     }
 
-module _ (rows : List (List ℕ)) (w : Wide) (tally : Tally) (k : ℕ) (j : Judging rows w tally k) where
+module _ (rows : List (List ℕ)) (w : Option ℕ) (tally : Tally) (k : ℕ) (j : Judging rows w tally k) where
   module _ (h : k < block_count) where
     n : Next rows tally k j.left
     n = next rows tally k j.left h j.many j.tallies j.good
@@ -99,17 +101,17 @@ module _ (rows : List (List ℕ)) (w : Wide) (tally : Tally) (k : ℕ) (j : Judg
           tallies = n.rows_left;
           good = n.blocks;
           coarse = grows.within;
-          small = sum_small k w tally (tally_at rows k) j.small;
+          small = sum_small k w tally (tally_at rows k);
           whole = j.whole ∙ ap (wide_rows k w tally) n.here ∙ unfold wide_rows in refl;
         }
 
-    pub judging_more : (after : Tally) → after ≡ tally_at rows k → (v : Wide) → v ≡ widened k w tally after → Judging rows v after (k + 1)
+    pub judging_more : (after : Tally) → after ≡ tally_at rows k → (v : Option ℕ) → v ≡ widened k w tally after → Judging rows v after (k + 1)
     judging_more after e v f = rw (f, e) step
 
-  pub judging_done : block_count ≤ k → w.good ≡ wide_rows 0 no_wide no_tally rows
+  pub judging_done : block_count ≤ k → is_some w ≡ wide_rows 0 no_wide no_tally rows
   judging_done h = go j.left j.many j.tallies
     where
-      go : (l : List (List Term)) → k + length l ≡ block_count → drop k rows ≡ tally_rows k tally l → w.good ≡ wide_rows 0 no_wide no_tally rows
+      go : (l : List (List Term)) → k + length l ≡ block_count → drop k rows ≡ tally_rows k tally l → is_some w ≡ wide_rows 0 no_wide no_tally rows
       go [] m e =
           let d : drop k rows ≡ [] = e ∙ unfold tally_rows in refl in
           sym (j.whole ∙ ap (wide_rows k w tally) d ∙ unfold wide_rows in refl)

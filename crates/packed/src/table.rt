@@ -11,7 +11,7 @@ ghost use Rattle.packed.specs.Machine.Answers.{Begun, walked, stored, Filled};
 use crate::terms::{TermRead, read_term_at};
 use crate::wide::{Tallies, is_wide};
 use crate::{Checked, Content};
-use limits::{Tally, add_term, block_factor, count_fits, empty_tally, open_block};
+use limits::{Sizes, Tally, block_factor};
 use packed_numbers::{Number, magnitude, number_at};
 use units::{BLOCK_COUNT, Refusal, SERIES_LIMIT};
 
@@ -43,7 +43,12 @@ fn take_term(bytes: &[u8], at: usize, f: u64, tally: Tally, k: usize, table: &mu
         TermRead::Wrong(r) => Walk::Stopped(r),
         TermRead::Found(a, b, c, to) => {
             table[k] = [a, b, c];
-            Walk::Moved(to, add_term(f, tally, magnitude(a), b, magnitude(c)))
+            let term = Sizes {
+                a: magnitude(a),
+                b,
+                c: magnitude(c),
+            };
+            Walk::Moved(to, tally.add_term(f, term))
         }
     }
 }
@@ -85,11 +90,11 @@ fn take_block(bytes: &[u8], at: usize, k: usize, tally: Tally, table: &mut Table
     match n {
         Number::Bad(r) => Walk::Stopped(r),
         Number::Value(count, to) => {
-            if !count_fits(tally, count) {
+            if !tally.count_fits(count) {
                 return Walk::Stopped(Refusal::OverLimit(to - 1));
             }
             let f = block_factor(k as u64);
-            let s = open_block(k as u64, count, tally);
+            let s = tally.open_block(k as u64, count);
             take_terms(bytes, to, f, s, terms as usize, table)
         }
     }
@@ -102,7 +107,7 @@ pub fn unpack(bytes: &[u8], table: &mut Table) -> Checked
     ensures { (result ≡ checked (parse bytes.now)) × unpacked (parse bytes.now) table.new × Sized table.new }
 {
     let mut tallies: Tallies = [[0; 3]; END_ROWS];
-    let mut s = empty_tally();
+    let mut s = Tally::empty();
     let mut i = 0;
     let mut k = 0;
     while k < END_ROWS {

@@ -7,7 +7,7 @@ ghost use Rattle.limits.specs.Machine.Magnitudes.{factor_limit};
 ghost use Rattle.packed.specs.Series.{read_a, read_b, read_c, read_term};
 ghost use Rattle.packed.specs.Machine.Answers.{shown_term};
 
-use limits::{Tally, a_fits, b_fits, c_fits, coarse_fits, term_may_come, total_fits};
+use limits::{Sizes, Tally, a_fits, b_fits, c_fits};
 use packed_numbers::quick::quick_term;
 use packed_numbers::{Number, magnitude, number_at};
 use units::Refusal;
@@ -31,7 +31,7 @@ fn read_a(bytes: &[u8], at: usize, tally: Tally) -> Number
             if !a_fits(m) {
                 return Number::Bad(Refusal::OverLimit(to - 1));
             }
-            if !total_fits(tally, m) {
+            if !tally.total_fits(m) {
                 return Number::Bad(Refusal::TotalOverLimit(to - 1));
             }
             Number::Value(v, to)
@@ -68,7 +68,12 @@ fn read_c(bytes: &[u8], at: usize, f: u64, tally: Tally, a: u64, b: u64) -> Numb
             if !c_fits(size) {
                 return Number::Bad(Refusal::OverLimit(to - 1));
             }
-            if !coarse_fits(f, tally, magnitude(a), b, size) {
+            let term = Sizes {
+                a: magnitude(a),
+                b,
+                c: size,
+            };
+            if !tally.coarse_fits(f, term) {
                 return Number::Bad(Refusal::TooCoarse(to - 1));
             }
             Number::Value(v, to)
@@ -108,7 +113,12 @@ pub fn read_term_at(bytes: &[u8], at: usize, f: u64, tally: Tally) -> TermRead
 {
     let q = quick_term(bytes, at);
     if q.usual {
-        if term_may_come(f, tally, magnitude(q.a), q.b, magnitude(q.c)) {
+        let term = Sizes {
+            a: magnitude(q.a),
+            b: q.b,
+            c: magnitude(q.c),
+        };
+        if tally.term_may_come(f, term) {
             return TermRead::Found(q.a, q.b, q.c, q.to);
         }
     }

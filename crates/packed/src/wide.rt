@@ -7,8 +7,8 @@ ghost use Rattle.limits.specs.Machine.Widened.{no_wide};
 ghost use Rattle.packed.specs.Machine.Tallies.{tally_at, wide_rows, Tallied};
 
 use crate::table::END_ROWS;
+use limits::Tally;
 use limits::wide::{empty_wide, widen};
-use limits::{Tally, empty_tally};
 
 // The tally after each block: its three numbers.
 pub type Tallies = [[u64; 3]; END_ROWS];
@@ -31,7 +31,7 @@ pub fn is_wide(tallies: &Tallies) -> bool
     ensures { result ≡ wide_rows 0 no_wide no_tally tallies.now }
 {
     let mut w = empty_wide();
-    let mut s = empty_tally();
+    let mut s = Tally::empty();
     let mut k = 0;
     while k < END_ROWS {
         let after = tally_after(tallies, k);
@@ -39,5 +39,5 @@ pub fn is_wide(tallies: &Tallies) -> bool
         s = after;
         k = k + 1;
     }
-    w.good
+    w.is_some()
 }

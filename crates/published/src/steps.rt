@@ -5,7 +5,7 @@ ghost use Rattle.published.specs.Reader.{at_heading, halted, heading_end, record
 ghost use Rattle.published.specs.Reader.{other, step, step_out, finished, ended, ended_out};
 
 use crate::Published;
-use limits::{Tally, add_term, block_factor, open_block};
+use limits::{Sizes, Tally, block_factor};
 use packed_numbers::Put;
 use published_headings::judge::{block_of, follows, heading_refusal, missing_blocks, skip_blocks};
 use published_headings::writer::{put_heading, put_missing};
@@ -63,7 +63,7 @@ fn end_heading(p: Published, out: &mut [u8]) -> Reader
     match put {
         Put::NoRoom(_) => stop(r, NO_ROOM),
         Put::Next(next) => {
-            let opened = open_block(k, n, skip_blocks(done, k, s));
+            let opened = skip_blocks(done, k, s).open_block(k, n);
             advance(r, next, k + 1, n, opened)
         }
     }
@@ -96,7 +96,12 @@ fn end_record(p: Published, out: &mut [u8]) -> Reader
     match put {
         Put::NoRoom(_) => stop(r, NO_ROOM),
         Put::Next(next) => {
-            let more = add_term(f, s, line.a, line.b, line.value);
+            let term = Sizes {
+                a: line.a,
+                b: line.b,
+                c: line.value,
+            };
+            let more = s.add_term(f, term);
             advance(r, next, r.blocks, less_one(r.left), more)
         }
     }

@@ -5,7 +5,7 @@ ghost use Rattle.units.specs.Units.{powers, block_count};
 ghost use Rattle.limits.specs.Limits.{count_fits};
 ghost use Rattle.published_headings.specs.Judge.{coordinate_count, block_of, in_order, heading_refusal, skipped};
 
-use limits::{Tally, count_fits, open_block};
+use limits::Tally;
 use units::{BAD_HEADING, BLOCK_COUNT, OVER_LIMIT, POWERS};
 
 // The version of the theory, and longitude, latitude and radius; specs/Judge.antt has the same names.
@@ -54,7 +54,7 @@ pub fn heading_refusal(
     if !in_order(done, version, coordinate, power) {
         return BAD_HEADING;
     }
-    if !count_fits(tally, n) {
+    if !tally.count_fits(n) {
         return OVER_LIMIT;
     }
     0
@@ -68,7 +68,7 @@ pub fn skip_blocks(k: u64, end: u64, tally: Tally) -> Tally
     let mut s = tally;
     let mut i = k;
     while i < end {
-        s = open_block(i, 0, s);
+        s = s.open_block(i, 0);
         i = i + 1;
     }
     s

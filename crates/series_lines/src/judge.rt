@@ -5,7 +5,7 @@ ghost use Rattle.limits.specs.Machine.Magnitudes.{factor_limit};
 ghost use Rattle.series_lines.specs.Judge.{term_on_line, count_refusal, term_line_refusal};
 
 use crate::Line;
-use limits::{Tally, count_fits, judge_term};
+use limits::{Sizes, Tally};
 use units::{BLOCK_COUNT, BYTE_AFTER_END, OVER_LIMIT};
 
 // The number of the refusal of a count n after so many others, or 0.
@@ -15,7 +15,7 @@ pub fn count_refusal(blocks: u64, s: Tally, n: u64) -> u64
     if BLOCK_COUNT <= blocks {
         return BYTE_AFTER_END;
     }
-    if !count_fits(s, n) {
+    if !s.count_fits(n) {
         return OVER_LIMIT;
     }
     0
@@ -29,5 +29,13 @@ pub fn term_line_refusal(f: u64, s: Tally, l: Line) -> u64
     if l.minusb != 0 {
         return OVER_LIMIT;
     }
-    judge_term(f, s, l.a, l.b, l.value)
+    let term = Sizes {
+        a: l.a,
+        b: l.b,
+        c: l.value,
+    };
+    match s.judge_term(f, term) {
+        Ok(()) => 0,
+        Err(fault) => fault.number(),
+    }
 }

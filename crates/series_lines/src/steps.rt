@@ -9,7 +9,7 @@ use crate::judge::{count_refusal, term_line_refusal};
 use crate::lexer::{SPOT_AFTER, SPOT_COUNT, SPOT_DECIMAL, fresh_line};
 use crate::writer::{put_count, put_term};
 use crate::{Line, READING, Reader};
-use limits::{Tally, add_term, block_factor, open_block};
+use limits::{Sizes, Tally, block_factor};
 use packed_numbers::Put;
 use units::{BLOCK_COUNT, NO_ROOM};
 
@@ -85,7 +85,7 @@ pub fn end_count(r: Reader, out: &mut [u8], writes: bool) -> Reader
     let put = put_count(n, out, r.written, writes);
     match put {
         Put::NoRoom(_) => stop(r, NO_ROOM),
-        Put::Next(next) => advance(r, next, blocks + 1, n, open_block(blocks, n, s)),
+        Put::Next(next) => advance(r, next, blocks + 1, n, s.open_block(blocks, n)),
     }
 }
 
@@ -119,7 +119,12 @@ pub fn end_term(r: Reader, out: &mut [u8], writes: bool) -> Reader
     match put {
         Put::NoRoom(_) => stop(r, NO_ROOM),
         Put::Next(next) => {
-            let more = add_term(f, s, l.a, l.b, l.value);
+            let term = Sizes {
+                a: l.a,
+                b: l.b,
+                c: l.value,
+            };
+            let more = s.add_term(f, term);
             advance(r, next, r.blocks, less_one(r.left), more)
         }
     }

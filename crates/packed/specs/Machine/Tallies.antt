@@ -1,8 +1,7 @@
 -- The tallies after the blocks of a series, as rows of three numbers, and what they say of the wide range.
-use Rattle.std.specs.Prelude.{◌≡◌, Bool, List, [], ◌∷◌, ℕ, ◌+◌, get_or}
+use Rattle.std.specs.Prelude.{◌≡◌, Bool, List, [], ◌∷◌, ℕ, ◌+◌, get_or, Option, is_some}
 use Rattle.limits.specs.declared.Term.{Term}
 use Rattle.limits.specs.declared.Tally.{Tally}
-use Rattle.limits.specs.declared.wide.Wide.{Wide}
 use Rattle.limits.specs.Limits.{no_tally, after_block}
 use Rattle.limits.specs.Allowed.{Allowed}
 use Rattle.limits.specs.Machine.Widened.{widened}
@@ -23,8 +22,8 @@ tally_rows k s [] = []
 tally_rows k s (ts ∷ blocks) = tally_row (after_block k s ts) ∷ tally_rows (k + 1) (after_block k s ts) blocks
 
 -- The wide rule from block k on, after the tally s, judged by the tallies in the rows.
-unfoldable pub wide_rows : ℕ → Wide → Tally → List (List ℕ) → Bool
-wide_rows k w s [] = w.good
+unfoldable pub wide_rows : ℕ → Option ℕ → Tally → List (List ℕ) → Bool
+wide_rows k w s [] = is_some w
 wide_rows k w s (row ∷ rows) = wide_rows (k + 1) (widened k w s (tally_of row)) (tally_of row) rows
 
 -- The rows are the tallies of a series within the limits.

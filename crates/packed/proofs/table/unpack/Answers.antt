@@ -15,7 +15,7 @@ less : (k : ℕ) → k < block_count → block_count - (k + 1) < block_count - k
 less k h = omega arith
 
 pub loop-k-init : goal.loop-k-init
-loop-k-init c = rw c.empty_tally-s.ensures (unpacking_none _ _ _ c.requires (search rules))
+loop-k-init c = rw c.empty-s.ensures (unpacking_none _ _ _ c.requires (search rules))
 
 pub take_block-w-requires : goal.take_block-w-requires
 take_block-w-requires c = c.loop-k.invariant.sized

@@ -1,4 +1,5 @@
 -- `wide::is_wide` meets its contract. Assumes nothing.
+use mathlib.Core.Path.{◌∙◌}
 use Prim.Native.Nat.{ℕ, ◌+◌, ◌-◌, ◌<◌}
 use native.Mathlib.Omega.{arith}
 use Rattle.units.specs.Units.{block_count}
@@ -9,7 +10,7 @@ less : (k : ℕ) → k < block_count → block_count - (k + 1) < block_count - k
 less k h = omega arith
 
 pub loop-k-init : goal.loop-k-init
-loop-k-init c = rw (c.empty_tally-s.ensures, c.empty_wide-w.ensures) (judging_none _ c.requires)
+loop-k-init c = rw (c.empty-s.ensures, c.empty_wide-w.ensures) (judging_none _ c.requires)
 
 pub tally_after-after-requires : goal.tally_after-after-requires
 tally_after-after-requires c = c.loop-k-test.true
@@ -31,4 +32,4 @@ loop-k-preserved c =
     judging_more _ _ _ _ l.invariant c.loop-k-test.true _ c.tally_after-after.ensures _ c.widen-w.ensures
 
 pub returns : goal.returns
-returns c = judging_done _ _ _ _ c.loop-k.invariant c.loop-k-test.false
+returns c = c.is_some.ensures ∙ judging_done _ _ _ _ c.loop-k.invariant c.loop-k-test.false
