@@ -5,32 +5,17 @@ use Rattle.std.specs.Float.{binary64}
 use Rattle.std.specs.Float.Ieee.{of_int}
 use Rattle.units.specs.declared.Refusal.{Refusal}
 use Rattle.units.specs.Refusals.{number, figure}
-use Rattle.calendar.specs.declared.DayAnswer.{DayAnswer}
-use Rattle.calendar.specs.declared.DayAnswer.TheVariants.{Day, NoDay}
-use Rattle.calendar.specs.declared.DateAnswer.{DateAnswer}
-use Rattle.calendar.specs.declared.DateAnswer.TheVariants.{On, NoDate}
-use Rattle.calendar.specs.declared.InstantAnswer.{InstantAnswer}
-use Rattle.calendar.specs.declared.InstantAnswer.TheVariants.{At, NoInstant}
-use Rattle.calendar.specs.declared.MomentAnswer.{MomentAnswer}
-use Rattle.calendar.specs.declared.MomentAnswer.TheVariants.{Moment as OnAt, NoMoment}
-use Rattle.packed.specs.declared.Checked.{Checked}
-use Rattle.packed.specs.declared.Checked.TheVariants.{Series, NoSeries}
+use Rattle.std.specs.Prelude.{Err, Ok, Result}
+use Rattle.units.specs.declared.Coordinates.{Coordinates}
+use Rattle.calendar.specs.declared.Date.{Date}
+use Rattle.place.specs.declared.Equatorial.{Equatorial}
+use Rattle.units.specs.declared.Instant.{Instant}
+use Rattle.calendar.specs.declared.Moment.{Moment as Dated}
+use Rattle.place.specs.declared.MountPlace.{MountPlace}
 use Rattle.packed.specs.declared.Content.{Content}
 use Rattle.series_lines.specs.declared.Outcome.{Outcome}
 use Rattle.series_lines.specs.declared.Outcome.TheVariants.{More, Accepted, Refused}
 use Rattle.mending.specs.declared.Clean.{Clean}
-use Rattle.mending.specs.declared.Mending.{Mending}
-use Rattle.mending.specs.declared.Mending.TheVariants.{Mended as IsMended, Unmended}
-use Rattle.printer.specs.declared.Printed.{Printed}
-use Rattle.printer.specs.declared.Printed.TheVariants.{Length, NoText}
-use Rattle.sunlist.specs.declared.ListAnswer.{ListAnswer}
-use Rattle.sunlist.specs.declared.ListAnswer.TheVariants.{Runs, NoList}
-use Rattle.series.specs.declared.CoordinatesAnswer.{CoordinatesAnswer}
-use Rattle.series.specs.declared.CoordinatesAnswer.TheVariants.{At as AtCoordinates, NoCoordinates}
-use Rattle.place.specs.declared.PlaceAnswer.{PlaceAnswer}
-use Rattle.place.specs.declared.PlaceAnswer.TheVariants.{Place, NoPlace}
-use Rattle.place.specs.declared.Mount.{Mount}
-use Rattle.place.specs.declared.Mount.TheVariants.{At as AtPlace, Refused as NoMount}
 use Rattle.answers.specs.declared.One.{One}
 use Rattle.answers.specs.declared.Examined.{Examined}
 use Rattle.answers.specs.declared.Moment.{Moment}
@@ -66,21 +51,21 @@ unfoldable pub one_counted : ℕ → One
 one_counted n = record { refusal = 0; figure = pos 0; value = clip n }
 
 -- RULES, "Calendar": stephylax_day, stephylax_date, stephylax_instant.
-unfoldable pub day_shown : DayAnswer → One
-day_shown (Day n) = record { refusal = 0; figure = pos 0; value = n }
-day_shown (NoDay r) = one_refused r
+unfoldable pub day_shown : Result ℤ Refusal → One
+day_shown (Ok n) = record { refusal = 0; figure = pos 0; value = n }
+day_shown (Err r) = one_refused r
 
-unfoldable pub date_shown : DateAnswer → Moment
-date_shown (On d) = record { refusal = 0; figure = pos 0; year = d.year; month = d.month; day = d.day; ms = pos 0 }
-date_shown (NoDate r) = moment_refused r
+unfoldable pub date_shown : Result Date Refusal → Moment
+date_shown (Ok d) = record { refusal = 0; figure = pos 0; year = d.year; month = d.month; day = d.day; ms = pos 0 }
+date_shown (Err r) = moment_refused r
 
-unfoldable pub instant_shown : InstantAnswer → One
-instant_shown (At t) = record { refusal = 0; figure = pos 0; value = t.ms }
-instant_shown (NoInstant r) = one_refused r
+unfoldable pub instant_shown : Result Instant Refusal → One
+instant_shown (Ok t) = record { refusal = 0; figure = pos 0; value = t.ms }
+instant_shown (Err r) = one_refused r
 
-unfoldable pub moment_shown : MomentAnswer → Moment
-moment_shown (OnAt d m) = record { refusal = 0; figure = pos 0; year = d.year; month = d.month; day = d.day; ms = m }
-moment_shown (NoMoment r) = moment_refused r
+unfoldable pub moment_shown : Result Dated Refusal → Moment
+moment_shown (Ok m) = record { refusal = 0; figure = pos 0; year = m.date.year; month = m.date.month; day = m.date.day; ms = m.ms }
+moment_shown (Err r) = moment_refused r
 
 -- RULES, "Series, as text and packed" and "The wide range": stephylax_checked, the number of terms, and 1 where the series is good for the wide
 -- range, else 0.
@@ -93,9 +78,9 @@ flag so = cond so (pos 1) (pos 0)
 unfoldable pub content_shown : Content → Examined
 content_shown c = record { refusal = 0; figure = pos 0; terms = clip c.terms; wide = flag c.wide }
 
-unfoldable pub checked_shown : Checked → Examined
-checked_shown (Series c) = content_shown c
-checked_shown (NoSeries r) = examined_refused r
+unfoldable pub checked_shown : Result Content Refusal → Examined
+checked_shown (Ok c) = content_shown c
+checked_shown (Err r) = examined_refused r
 
 -- RULES, "Series, as text and packed" and "Published files": stephylax_written, the length of the packed form of a text or of a published file, so far
 -- or in all, or of the printed text.
@@ -136,33 +121,33 @@ clean_shown c =
       place = verdict_place c.verdict;
     }
 
-unfoldable pub mending_shown : Mending → Mended
-mending_shown (IsMended c) = clean_shown c
-mending_shown (Unmended r) = mended_refused r
+unfoldable pub mending_shown : Result Clean Refusal → Mended
+mending_shown (Ok c) = clean_shown c
+mending_shown (Err r) = mended_refused r
 
-unfoldable pub printed_shown : Printed → One
-printed_shown (Length n) = one_counted n
-printed_shown (NoText r) = one_refused r
+unfoldable pub printed_shown : Result ℕ Refusal → One
+printed_shown (Ok n) = one_counted n
+printed_shown (Err r) = one_refused r
 
 -- RULES, "Sun list": stephylax_written, how many numbers.
-unfoldable pub list_shown : ListAnswer → One
-list_shown (Runs n) = one_counted n
-list_shown (NoList r) = one_refused r
+unfoldable pub list_shown : Result ℕ Refusal → One
+list_shown (Ok n) = one_counted n
+list_shown (Err r) = one_refused r
 
 -- RULES, "Working cosine and sums": stephylax_coordinates.
-unfoldable pub coordinates_shown : CoordinatesAnswer → Three
-coordinates_shown (AtCoordinates c) = record { refusal = 0; figure = pos 0; first = c.longitude; second = c.latitude; third = c.radius }
-coordinates_shown (NoCoordinates r) = three_refused r
+unfoldable pub coordinates_shown : Result Coordinates Refusal → Three
+coordinates_shown (Ok c) = record { refusal = 0; figure = pos 0; first = c.longitude; second = c.latitude; third = c.radius }
+coordinates_shown (Err r) = three_refused r
 
 -- RULES, "Places": stephylax_place.
-unfoldable pub place_shown : PlaceAnswer → Three
-place_shown (Place p) = record { refusal = 0; figure = pos 0; first = p.right_ascension; second = p.declination; third = p.distance }
-place_shown (NoPlace r) = three_refused r
+unfoldable pub place_shown : Result Equatorial Refusal → Three
+place_shown (Ok p) = record { refusal = 0; figure = pos 0; first = p.right_ascension; second = p.declination; third = p.distance }
+place_shown (Err r) = three_refused r
 
 -- RULES, "Places": stephylax_mount, the three doubles, or the refusal's number.
 abbrev zero_double : Float
 zero_double = of_int binary64 (pos 0)
 
-unfoldable pub mount_shown : Mount → Doubles
-mount_shown (AtPlace p) = record { refusal = 0; first = p.right_ascension; second = p.declination; third = p.distance }
-mount_shown (NoMount n) = record { refusal = n; first = zero_double; second = zero_double; third = zero_double }
+unfoldable pub mount_shown : Result MountPlace Refusal → Doubles
+mount_shown (Ok p) = record { refusal = 0; first = p.right_ascension; second = p.declination; third = p.distance }
+mount_shown (Err r) = record { refusal = number r; first = zero_double; second = zero_double; third = zero_double }

@@ -10,15 +10,12 @@ ghost use Rattle.answers.specs.Answers.{examined_refused, flag, content_shown, c
 ghost use Rattle.answers.specs.Answers.{accepted, standing_shown, mended_refused, verdict_place, clean_shown, mending_shown};
 ghost use Rattle.answers.specs.Answers.{printed_shown, list_shown, coordinates_shown, place_shown, mount_shown};
 
-use calendar::{DateAnswer, DayAnswer, InstantAnswer, MomentAnswer};
-use mending::{Clean, Mending};
-use packed::{Checked, Content};
-use place::{Mount, PlaceAnswer};
-use printer::Printed;
-use series::CoordinatesAnswer;
+use calendar::Date;
+use mending::Clean;
+use packed::Content;
+use place::{Equatorial, MountPlace};
 use series_lines::Outcome;
-use sunlist::ListAnswer;
-use units::{Figure, Refusal};
+use units::{Coordinates, Figure, Instant, Refusal};
 
 // stephylax_day, _instant and _written: one number.
 #[repr(C)]
@@ -171,24 +168,24 @@ fn refused_three(r: Refusal) -> Three
     }
 }
 
-pub fn of_day(a: DayAnswer) -> One
+pub fn of_day(a: Result<i64, Refusal>) -> One
     ensures { result ≡ day_shown a }
 {
     match a {
-        DayAnswer::Day(n) => One {
+        Ok(n) => One {
             refusal: 0,
             figure: 0,
             value: n,
         },
-        DayAnswer::NoDay(r) => refused_one(r),
+        Err(r) => refused_one(r),
     }
 }
 
-pub fn of_date(a: DateAnswer) -> Moment
+pub fn of_date(a: Result<Date, Refusal>) -> Moment
     ensures { result ≡ date_shown a }
 {
     match a {
-        DateAnswer::On(d) => Moment {
+        Ok(d) => Moment {
             refusal: 0,
             figure: 0,
             year: d.year,
@@ -196,36 +193,36 @@ pub fn of_date(a: DateAnswer) -> Moment
             day: d.day,
             ms: 0,
         },
-        DateAnswer::NoDate(r) => refused_moment(r),
+        Err(r) => refused_moment(r),
     }
 }
 
-pub fn of_instant(a: InstantAnswer) -> One
+pub fn of_instant(a: Result<Instant, Refusal>) -> One
     ensures { result ≡ instant_shown a }
 {
     match a {
-        InstantAnswer::At(t) => One {
+        Ok(t) => One {
             refusal: 0,
             figure: 0,
             value: t.ms,
         },
-        InstantAnswer::NoInstant(r) => refused_one(r),
+        Err(r) => refused_one(r),
     }
 }
 
-pub fn of_moment(a: MomentAnswer) -> Moment
+pub fn of_moment(a: Result<calendar::Moment, Refusal>) -> Moment
     ensures { result ≡ moment_shown a }
 {
     match a {
-        MomentAnswer::Moment(d, ms) => Moment {
+        Ok(m) => Moment {
             refusal: 0,
             figure: 0,
-            year: d.year,
-            month: d.month,
-            day: d.day,
-            ms,
+            year: m.date.year,
+            month: m.date.month,
+            day: m.date.day,
+            ms: m.ms,
         },
-        MomentAnswer::NoMoment(r) => refused_moment(r),
+        Err(r) => refused_moment(r),
     }
 }
 
@@ -265,12 +262,12 @@ fn of_content(c: Content) -> Examined
     }
 }
 
-pub fn of_checked(a: Checked) -> Examined
+pub fn of_checked(a: Result<Content, Refusal>) -> Examined
     ensures { result ≡ checked_shown a }
 {
     match a {
-        Checked::Series(c) => of_content(c),
-        Checked::NoSeries(r) => refused_examined(r),
+        Ok(c) => of_content(c),
+        Err(r) => refused_examined(r),
     }
 }
 
@@ -353,75 +350,75 @@ fn of_clean(c: Clean) -> Mended
     }
 }
 
-pub fn of_mending(a: Mending) -> Mended
+pub fn of_mending(a: Result<Clean, Refusal>) -> Mended
     ensures { result ≡ mending_shown a }
 {
     match a {
-        Mending::Mended(c) => of_clean(c),
-        Mending::Unmended(r) => refused_mended(r),
+        Ok(c) => of_clean(c),
+        Err(r) => refused_mended(r),
     }
 }
 
-pub fn of_printed(a: Printed) -> One
+pub fn of_printed(a: Result<usize, Refusal>) -> One
     ensures { result ≡ printed_shown a }
 {
     match a {
-        Printed::Length(n) => counted(n as u64),
-        Printed::NoText(r) => refused_one(r),
+        Ok(n) => counted(n as u64),
+        Err(r) => refused_one(r),
     }
 }
 
-pub fn of_list(a: ListAnswer) -> One
+pub fn of_list(a: Result<u64, Refusal>) -> One
     ensures { result ≡ list_shown a }
 {
     match a {
-        ListAnswer::Runs(n) => counted(n),
-        ListAnswer::NoList(r) => refused_one(r),
+        Ok(n) => counted(n),
+        Err(r) => refused_one(r),
     }
 }
 
-pub fn of_coordinates(a: CoordinatesAnswer) -> Three
+pub fn of_coordinates(a: Result<Coordinates, Refusal>) -> Three
     ensures { result ≡ coordinates_shown a }
 {
     match a {
-        CoordinatesAnswer::At(c) => Three {
+        Ok(c) => Three {
             refusal: 0,
             figure: 0,
             first: c.longitude,
             second: c.latitude,
             third: c.radius,
         },
-        CoordinatesAnswer::NoCoordinates(r) => refused_three(r),
+        Err(r) => refused_three(r),
     }
 }
 
-pub fn of_place(a: PlaceAnswer) -> Three
+pub fn of_place(a: Result<Equatorial, Refusal>) -> Three
     ensures { result ≡ place_shown a }
 {
     match a {
-        PlaceAnswer::Place(p) => Three {
+        Ok(p) => Three {
             refusal: 0,
             figure: 0,
             first: p.right_ascension,
             second: p.declination,
             third: p.distance,
         },
-        PlaceAnswer::NoPlace(r) => refused_three(r),
+        Err(r) => refused_three(r),
     }
 }
 
-pub fn of_mount(a: Mount) -> Doubles
+pub fn of_mount(a: Result<MountPlace, Refusal>) -> Doubles
     ensures { result ≡ mount_shown a }
 {
     match a {
-        Mount::At(p) => Doubles {
+        Ok(p) => Doubles {
             refusal: 0,
             first: p.right_ascension,
             second: p.declination,
             third: p.distance,
         },
-        Mount::Refused(number) => Doubles {
-            refusal: number,
+        Err(r) => Doubles {
+            refusal: r.number(),
             first: 0.0,
             second: 0.0,
             third: 0.0,

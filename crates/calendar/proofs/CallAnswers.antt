@@ -19,9 +19,7 @@ use Rattle.calendar.specs.Calendar.{between, first_bad, first_bad_of_four, noon_
 use Rattle.calendar.specs.Calendar.{ms_of_instant, date_of_instant}
 use Rattle.calendar.specs.Machine.Shifted.{date_at, plain}
 use Rattle.calendar.specs.declared.Date.{Date}
-use Rattle.calendar.specs.declared.DayAnswer.TheVariants.{Day, NoDay}
-use Rattle.calendar.specs.declared.InstantAnswer.TheVariants.{At, NoInstant}
-use Rattle.calendar.specs.declared.MomentAnswer.TheVariants.{Moment, NoMoment}
+use Rattle.std.specs.Prelude.{Err, Ok}
 use Rattle.calendar.specs.Constants.{last_day, day_ms, last_ms, half_day_ms, epoch_day}
 use Rattle.calendar.specs.Machine.Shifted.{epoch_ms}
 use Rattle.calendar.proofs.FirstBad.{is_same}
@@ -30,13 +28,13 @@ use Rattle.calendar.proofs.WholeDates.{natural_back, Upto, inside, outside, upto
 
 -- ---- date to day number
 module _ (y m d : ℤ) (bad : ℕ) (e : bad ≡ first_bad y m d) where
-  pub day_refused : (bad ≡ 0 → ⊥) → NoDay (NoSuchDate bad) ≡ day_of_date y m d
+  pub day_refused : (bad ≡ 0 → ⊥) → Err (NoSuchDate bad) ≡ day_of_date y m d
   unfolding day_of_date
   day_refused h = rw (← e, ne_eqb bad 0 h)
 
-  pub day_given : bad ≡ 0 → (z : ℤ) (n : ℕ) → z ≡ pos n → pos n ≡ noon_number y m d → n ≤ last_day → Day (to_z w64 (of_z w64 z)) ≡ day_of_date y m d
+  pub day_given : bad ≡ 0 → (z : ℤ) (n : ℕ) → z ≡ pos n → pos n ≡ noon_number y m d → n ≤ last_day → Ok (to_z w64 (of_z w64 z)) ≡ day_of_date y m d
   unfolding day_of_date
-  day_given h z n f g l = rw (← e, eq-eqb bad 0 h) (ap Day (natural_back z n f (omega arith) ∙ g))
+  day_given h z n f g l = rw (← e, eq-eqb bad 0 h) (ap Ok (natural_back z n f (omega arith) ∙ g))
 
   -- ---- the first bad of four fields
   pub four_date : (ms : ℤ) → (bad ≡ 0 → ⊥) → bad ≡ first_bad_of_four y m d ms
@@ -83,7 +81,7 @@ instant_is n ms =
     same (nat day_ms *ᵢ (nat n -ᵢ nat epoch_day) +ᵢ nat ms -ᵢ nat half_day_ms) (nat (day_ms * n + ms) -ᵢ nat epoch_ms) (omega arith)
 
 module _ (y m d ms : ℤ) (bad : ℕ) (e : bad ≡ first_bad_of_four y m d ms) where
-  pub instant_refused : (bad ≡ 0 → ⊥) → NoInstant (NoSuchDate bad) ≡ instant_of_date y m d ms
+  pub instant_refused : (bad ≡ 0 → ⊥) → Err (NoSuchDate bad) ≡ instant_of_date y m d ms
   unfolding instant_of_date
   instant_refused h = rw (← e, ne_eqb bad 0 h)
 
@@ -94,11 +92,11 @@ module _ (y m d ms : ℤ) (bad : ℕ) (e : bad ≡ first_bad_of_four y m d ms) w
         let z : pos k ≡ ms = ap pos (g ∙ r.natural 0) ∙ sym r.ms_is in
         i ∙ (λ x. instant (f x) (z x))
 
-    pub instant_past : in_limit t ≡ false → NoInstant (PastLimit (record { ms = t })) ≡ instant_of_date y m d ms
+    pub instant_past : in_limit t ≡ false → Err (PastLimit (record { ms = t })) ≡ instant_of_date y m d ms
     unfolding instant_of_date
     instant_past l = rw (← e, eq-eqb bad 0 h, ← known, l)
 
-    pub instant_given : in_limit t ≡ true → At (record { ms = t }) ≡ instant_of_date y m d ms
+    pub instant_given : in_limit t ≡ true → Ok (record { ms = t }) ≡ instant_of_date y m d ms
     unfolding instant_of_date
     instant_given l = rw (← e, eq-eqb bad 0 h, ← known, l)
 
@@ -121,16 +119,16 @@ module _ (t : ℤ) (u : ℕ) (e : pos u ≡ t +ℤ pos epoch_ms) where
       (modulo_is (t +ℤ pos half_day_ms) (pos (u / day_ms) -ℤ pos epoch_day) day_ms (u % day_ms) (omega arith)
       (same since_noon (nat day_ms *ᵢ (nat (u / day_ms) -ᵢ nat epoch_day) +ᵢ nat (u % day_ms)) (omega arith)))
 
-pub moment_past : (t : Instant) → in_limit t.ms ≡ false → NoMoment (PastLimit t) ≡ date_of_instant t
+pub moment_past : (t : Instant) → in_limit t.ms ≡ false → Err (PastLimit t) ≡ date_of_instant t
 unfolding date_of_instant
 moment_past t l = rw l
 
 pub moment_given : (t : Instant) (u : ℕ) (d : Date) (r : ℤ) → in_limit t.ms ≡ true → pos u ≡ t.ms +ℤ pos epoch_ms → u ≤ epoch_ms + t_limit
-    → d ≡ plain (date_at (u / day_ms)) → r ≡ pos (u % day_ms) → Moment d (to_z w64 (of_z w64 r)) ≡ date_of_instant t
+    → d ≡ plain (date_at (u / day_ms)) → r ≡ pos (u % day_ms) → Ok (record { date = d; ms = to_z w64 (of_z w64 r) }) ≡ date_of_instant t
 unfolding date_of_instant
 moment_given t u d r l f b g h =
     rw (l, day_is t.ms u f)
-    (λ i. Moment ((g ∙ sym (looked_for (u / day_ms) (omega arith))) i) ((natural_back r (u % day_ms) h (omega arith) ∙ sym (ms_is t.ms u f)) i))
+    (λ i. Ok (record { date = (g ∙ sym (looked_for (u / day_ms) (omega arith))) i; ms = (natural_back r (u % day_ms) h (omega arith) ∙ sym (ms_is t.ms u f)) i }))
 
 -- the milliseconds from 0h of day number 0, by sign and magnitude
 pub since_below : (t : ℤ) (n : ℕ) → negative t ≡ true → n ≡ nat_abs t → n ≤ t_limit → pos (epoch_ms - n) ≡ t +ℤ pos epoch_ms

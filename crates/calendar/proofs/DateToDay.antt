@@ -14,7 +14,7 @@ use Rattle.calendar.specs.Machine.Shifted.{leap_day, month_days, key, Sound, mar
 use Rattle.calendar.specs.Machine.Shifted.{year_of, day_of, month_of, before_month, from_march, in_year, of_count, date_at}
 use Rattle.calendar.specs.Constants.{four_years, year_shift, month_rate, rate_scale, day_shift, last_day}
 use Rattle.calendar.specs.Machine.Shifted.{last_index, reform_index, skipped_key, gregorian_key, reform_day, march_shift, year_zero, four_centuries}
-use Rattle.calendar.proofs.Existing.{Leap, not4, old, plain, cent, quad, leap, february, other, Ok, ok}
+use Rattle.calendar.proofs.Existing.{Leap, not4, old, plain, cent, quad, leap, february, other, Exists, ok}
 
 -- the days before the month k of the year that begins in March
 abbrev pub F : ℕ → ℕ
@@ -139,7 +139,7 @@ late_rest c m d p q r h w = go (dec_le c reform_index)
         rw (y, z) (omega (arith, k))
     go (no l) = late_high c (F (m - 3)) d (let y : 2300649 ≤ Y c = omega arith in omega (arith, y)) (omega arith) r
 
-march_rest : (c m d : ℕ) → Ok c m d → 3 ≤ m → March c m d c (m - 3)
+march_rest : (c m d : ℕ) → Exists c m d → 3 ≤ m → March c m d c (m - 3)
 march_rest c m d o h =
     let l : month_days c m ≡ 30 + (m + m / 8) % 2 = other c m (omega arith) in
     let s : F (m - 3) + d ≤ F (m - 3 + 1) = omega (arith, slot_len m h o.month_small) in
@@ -159,7 +159,7 @@ march_rest c m d o h =
       last = λ e f. omega arith;
     }
 
-march_jan : (c d : ℕ) → Ok c 1 d → March c 1 d (c - 1) 10
+march_jan : (c d : ℕ) → Exists c 1 d → March c 1 d (c - 1) 10
 march_jan c d o =
     let l : month_days c 1 ≡ 31 = other c 1 (λ e. omega (arith, e)) in
     record {
@@ -178,7 +178,7 @@ march_jan c d o =
       last = λ e f. omega arith;
     }
 
-march_feb : (c d : ℕ) → Ok c 2 d → March c 2 d (c - 1) 11
+march_feb : (c d : ℕ) → Exists c 2 d → March c 2 d (c - 1) 11
 march_feb c d o =
     let l : month_days c 2 ≡ 28 + leap_day c = february c 2 refl in
     record {
@@ -225,7 +225,7 @@ century_law a f h p q l n e = go (ℕ_discrete b 99)
     go (yes t) = century_back A (365 * b + b / 4 + f - 1) n (omega (arith, l t, C_is A, C_is (A + 1))) w
     go (no t) = century_back A (365 * b + b / 4 + f - 1) n (omega (arith, C_is A, C_is (A + 1))) w
 
-in_march : (c m d : ℕ) → Ok c m d → (a : ℕ) × (k : ℕ) × March c m d a k
+in_march : (c m d : ℕ) → Exists c m d → (a : ℕ) × (k : ℕ) × March c m d a k
 in_march c m d o = go (dec_le 3 m) (ℕ_discrete m 1)
   where
     go : Dec (3 ≤ m) → Dec (m ≡ 1) → (a : ℕ) × (k : ℕ) × March c m d a k
@@ -298,7 +298,7 @@ module _ (c m d a k : ℕ) (r : March c m d a k) (pos_d : 0 < d) where
 pub numbered : (c m d : ℕ) → Sound c m d → Numbered c m d
 numbered c m d s = go o.gap
   where
-    o : Ok c m d
+    o : Exists c m d
     o = ok c m d s
 
     q : (a : ℕ) × (k : ℕ) × March c m d a k
@@ -319,7 +319,7 @@ pub record Room (c m d : ℕ) : Type 0 where
   pub low : day_shift ≤ four_years * march_year c m / 4 + month_rate * (march_month m + 1) / rate_scale + d
   pub modern : gregorian_key ≤ key c m d → reform_index ≤ march_year c m
 
-room_of : (c m d a k : ℕ) → Ok c m d → March c m d a k → Room c m d
+room_of : (c m d a k : ℕ) → Exists c m d → March c m d a k → Room c m d
 room_of c m d a k o r =
     record {
       index = omega (arith, o.least);

@@ -17,14 +17,12 @@ use Rattle.calendar.specs.Calendar.{first_bad, noon_number, day_of_date, is_day,
 use Rattle.calendar.specs.Machine.Shifted.{first_index, year_index, bad_field, Sound, noon, date_at, plain}
 use Rattle.calendar.specs.declared.Date.{Date}
 use Rattle.calendar.specs.declared.Shifted.{Shifted}
-use Rattle.calendar.specs.declared.DayAnswer.{DayAnswer}
-use Rattle.calendar.specs.declared.DayAnswer.TheVariants.{Day, NoDay}
-use Rattle.calendar.specs.declared.DateAnswer.TheVariants.{On, NoDate}
+use Rattle.std.specs.Prelude.{Err, Ok, Result}
 use Rattle.calendar.specs.Constants.{years_before_zero, last_year, year_shift, last_day}
 use Rattle.calendar.proofs.DayToDate.{found}
 use Rattle.calendar.proofs.Bounds.{month_le}
 use Rattle.calendar.proofs.WholeDates.{Upto, inside, outside, upto, sound_of, noon_law, noon_small}
-use Rattle.calendar.proofs.Existing.{Ok, ok}
+use Rattle.calendar.proofs.Existing.{Exists, ok}
 use Rattle.calendar.proofs.FirstBad.{Year, year, missing, year_of_index, index_of, is_same, bad_law}
 use Rattle.calendar.proofs.Formula.{literal}
 use Rattle.calendar.proofs.DateToDay.{numbered}
@@ -32,7 +30,7 @@ use Rattle.calendar.proofs.DateToDay.{numbered}
 abbrev pub date : ℤ → ℤ → ℤ → Date
 date y m d = record { year = y; month = m; day = d }
 
-pick_day : (b : Bool) (z n : ℤ) (r : Refusal) → cond b (Day z) (NoDay r) ≡ Day n → (b ≡ true) × (z ≡ n)
+pick_day : (b : Bool) (z n : ℤ) (r : Refusal) → cond b (Ok z) (Err r) ≡ Ok n → (b ≡ true) × (z ≡ n)
 pick_day true z n r e = (refl, cc)
 pick_day false z n r e = let x : ◌≡◌ {A = ℕ} 0 1 = cc in absurd (omega arith)
 
@@ -41,7 +39,7 @@ module _ (y m d : ℤ) (e : first_bad y m d ≡ 0) where
   year_back : pos (year_index y) -ℤ pos year_shift ≡ y
   year_back = go (year_of_index y)
     where
-      o : Ok (year_index y) (natural_or m 0) (natural_or d 0)
+      o : Exists (year_index y) (natural_or m 0) (natural_or d 0)
       o = ok _ _ _ (sound_of y m d e)
 
       go : Year y → pos (year_index y) -ℤ pos year_shift ≡ y
@@ -73,9 +71,9 @@ module _ (s : Shifted) (p : Sound s.index s.month s.day) where
   plain_noon = literal _ _ _ _ year_is p
 
 pub day_of_plain : (n : ℕ) (s : Shifted) → Sound s.index s.month s.day → noon s.index s.month s.day ≡ n
-    → day_of_date (plain s).year (plain s).month (plain s).day ≡ Day (pos n)
+    → day_of_date (plain s).year (plain s).month (plain s).day ≡ Ok (pos n)
 unfolding day_of_date
-day_of_plain n s p e = rw (plain_exists s p) (ap Day (plain_noon s p ∙ ap pos e))
+day_of_plain n s p e = rw (plain_exists s p) (ap Ok (plain_noon s p ∙ ap pos e))
 
 pub record NumberedAs (y m d n : ℤ) : Type 0 where
   pub k : ℕ
@@ -83,7 +81,7 @@ pub record NumberedAs (y m d n : ℤ) : Type 0 where
   pub small : k ≤ last_day
   pub back : plain (date_at k) ≡ date y m d
 
-pub numbered_as : (y m d n : ℤ) → day_of_date y m d ≡ Day n → NumberedAs y m d n
+pub numbered_as : (y m d n : ℤ) → day_of_date y m d ≡ Ok n → NumberedAs y m d n
 unfolding day_of_date
 numbered_as y m d n e =
     let p = pick_day (eqb (first_bad y m d) 0) (noon_number y m d) n (NoSuchDate (first_bad y m d)) e in
@@ -96,19 +94,19 @@ numbered_as y m d n e =
     }
 
 -- ---- the date that is looked for
-is_day_self : (n : ℕ) → is_day (pos n) (Day (pos n)) ≡ true
+is_day_self : (n : ℕ) → is_day (pos n) (Ok (pos n)) ≡ true
 unfolding is_day
 is_day_self n = rw (le-leb n n (omega arith))
 
-is_day_only : (n : ℕ) (a : DayAnswer) → is_day (pos n) a ≡ true → a ≡ Day (pos n)
+is_day_only : (n : ℕ) (a : Result ℤ Refusal) → is_day (pos n) a ≡ true → a ≡ Ok (pos n)
 unfolding is_day
-is_day_only n (NoDay r) e = absurd (false≢true e)
-is_day_only n (Day (negsuc k)) e = absurd (false≢true e)
-is_day_only n (Day (pos k)) e = go (leb n k) refl e
+is_day_only n (Err r) e = absurd (false≢true e)
+is_day_only n (Ok (negsuc k)) e = absurd (false≢true e)
+is_day_only n (Ok (pos k)) e = go (leb n k) refl e
   where
-    go : (b : Bool) → leb n k ≡ b → b && leb k n ≡ true → Day (pos k) ≡ Day (pos n)
+    go : (b : Bool) → leb n k ≡ b → b && leb k n ≡ true → ◌≡◌ {A = Result ℤ Refusal} (Ok (pos k)) (Ok (pos n))
     go false p e = absurd (false≢true e)
-    go true p e = ap (λ (x : ℕ). Day (pos x)) (omega (arith, leb-true n k p, leb-true k n e))
+    go true p e = ap (λ (x : ℕ). Ok (pos x)) (omega (arith, leb-true n k p, leb-true k n e))
 
 -- a search among written numbers finds the one date that has the number
 below : (n : ℤ) (w : Date) (c : ℕ) → written_as c ≡ w → has_number n w ≡ true → ((v : Date) → has_number n v ≡ true → v ≡ w)
@@ -157,18 +155,18 @@ looked_for n h =
     only v q = sym q.back ∙ ap (λ (x : ℕ). plain (date_at x)) (sym (ap nat_abs q.is))
 
 -- ---- what date_of_day answers
-pub no_date : (x : ℤ) (k : ℕ) → k ≡ natural_or x 5373485 → last_day < k → NoDate (NoSuchDate 5) ≡ date_of_day x
+pub no_date : (x : ℤ) (k : ℕ) → k ≡ natural_or x 5373485 → last_day < k → Err (NoSuchDate 5) ≡ date_of_day x
 unfolding date_of_day
 no_date x k e h = go (upto x last_day)
   where
-    go : Upto x last_day → NoDate (NoSuchDate 5) ≡ date_of_day x
+    go : Upto x last_day → Err (NoSuchDate 5) ≡ date_of_day x
     go (outside f b) = rw b
     go (inside n p q r b) = absurd (omega (arith, r 5373485))
 
-pub on_date : (x : ℤ) (k : ℕ) (d : Date) → k ≡ natural_or x 5373485 → k ≤ last_day → d ≡ plain (date_at k) → On d ≡ date_of_day x
+pub on_date : (x : ℤ) (k : ℕ) (d : Date) → k ≡ natural_or x 5373485 → k ≤ last_day → d ≡ plain (date_at k) → Ok d ≡ date_of_day x
 unfolding date_of_day
 on_date x k d e h f = go (upto x last_day)
   where
-    go : Upto x last_day → On d ≡ date_of_day x
+    go : Upto x last_day → Ok d ≡ date_of_day x
     go (outside g b) = absurd (omega (arith, g 5373485 (lit< tt)))
-    go (inside n p q r b) = let z : k ≡ n = omega (arith, r 5373485) in rw (b, p) (ap On (f ∙ ap (λ (j : ℕ). plain (date_at j)) z ∙ sym (looked_for n q)))
+    go (inside n p q r b) = let z : k ≡ n = omega (arith, r 5373485) in rw (b, p) (ap Ok (f ∙ ap (λ (j : ℕ). plain (date_at j)) z ∙ sym (looked_for n q)))

@@ -50,7 +50,7 @@ unfolding month_days
 other c m e = simp (ne_eqb m 2 e)
 
 -- a date that exists, as bounds
-pub record Ok (c m d : ℕ) : Type 0 where
+pub record Exists (c m d : ℕ) : Type 0 where
   pub least : first_index ≤ c
   pub small : c ≤ last_index
   pub month_least : 0 < m
@@ -68,7 +68,7 @@ gap_of k = by_lt (λ (t : Bool). ◌≡◌ {A = ℕ} (cond t 0 (cond (ltb k greg
     (λ h e. inl h)
     (λ h e. inr (ltb-false k gregorian_key (none (ltb k gregorian_key) 3 0 (lit< tt) e).0))
 
-pub ok : (c m d : ℕ) → Sound c m d → Ok c m d
+pub ok : (c m d : ℕ) → Sound c m d → Exists c m d
 unfolding bad_field
 ok c m d s =
     let a = none (eqb c 0) 1 _ (lit< tt) s.exists in
@@ -86,7 +86,7 @@ ok c m d s =
       gap = gap_of (key c m d) g.1;
     }
 
-pub sound : (c m d : ℕ) → Ok c m d → Sound c m d
+pub sound : (c m d : ℕ) → Exists c m d → Sound c m d
 unfolding bad_field
 sound c m d o =
     record {

@@ -18,9 +18,8 @@ use Rattle.calendar.specs.Calendar.{day_of_instant, ms_of_instant, date_numbered
 use Rattle.calendar.specs.Machine.Shifted.{year_index, Sound, noon, date_at, plain}
 use Rattle.calendar.specs.declared.Date.{Date}
 use Rattle.calendar.specs.declared.Shifted.{Shifted}
-use Rattle.calendar.specs.declared.DateAnswer.TheVariants.{On, NoDate}
-use Rattle.calendar.specs.declared.InstantAnswer.TheVariants.{At, NoInstant}
-use Rattle.calendar.specs.declared.MomentAnswer.TheVariants.{Moment, NoMoment}
+use Rattle.std.specs.Prelude.{Err, Ok, Result}
+use Rattle.calendar.specs.declared.Moment.{Moment}
 use Rattle.calendar.specs.Constants.{last_day, day_ms, last_ms}
 use Rattle.calendar.specs.Machine.Shifted.{epoch_ms}
 use Rattle.calendar.proofs.CallAnswers.{Fields, fields, instant_is, day_is, ms_is}
@@ -29,17 +28,23 @@ use Rattle.calendar.proofs.DayToDate.{found}
 use Rattle.calendar.proofs.WholeDates.{Upto, inside, outside, upto, noon_law, noon_small}
 
 -- ---- answers taken apart
-pick_date : (b : Bool) (z w : Date) (r : Refusal) → cond b (On z) (NoDate r) ≡ On w → (b ≡ true) × (z ≡ w)
+pick_date : (b : Bool) (z w : Date) (r : Refusal) → cond b (Ok z) (Err r) ≡ Ok w → (b ≡ true) × (z ≡ w)
 pick_date true z w r e = (refl, cc)
 pick_date false z w r e = let x : ◌≡◌ {A = ℕ} 0 1 = cc in absurd (omega arith)
 
-pick_instant : (b l : Bool) (z t : Instant) (q r : Refusal) → cond b (cond l (At z) (NoInstant q)) (NoInstant r) ≡ At t → (b ≡ true) × (l ≡ true) × (z ≡ t)
+pick_instant : (b l : Bool) (z t : Instant) (q r : Refusal) → cond b (cond l (Ok z) (Err q)) (Err r) ≡ Ok t → (b ≡ true) × (l ≡ true) × (z ≡ t)
 pick_instant true true z t q r e = (refl, refl, cc)
 pick_instant true false z t q r e = let x : ◌≡◌ {A = ℕ} 0 1 = cc in absurd (omega arith)
 pick_instant false l z t q r e = let x : ◌≡◌ {A = ℕ} 0 1 = cc in absurd (omega arith)
 
-pick_moment : (b : Bool) (z w : Date) (j k : ℤ) (r : Refusal) → cond b (Moment z j) (NoMoment r) ≡ Moment w k → (b ≡ true) × (z ≡ w) × (j ≡ k)
-pick_moment true z w j k r e = (refl, cc, cc)
+abbrev the_moment : Moment → Result Moment Refusal → Moment
+the_moment m (Ok x) = x
+the_moment m (Err r) = m
+
+pick_moment : (b : Bool) (z w : Date) (j k : ℤ) (r : Refusal) → cond {A = Result Moment Refusal} b (Ok (record { date = z; ms = j })) (Err r) ≡ Ok (record { date = w; ms = k }) → (b ≡ true) × (z ≡ w) × (j ≡ k)
+pick_moment true z w j k r e =
+    let m : Moment = record { date = z; ms = j } in
+    (refl, ap (λ (x : Result Moment Refusal). (the_moment m x).date) e, ap (λ (x : Result Moment Refusal). (the_moment m x).ms) e)
 pick_moment false z w j k r e = let x : ◌≡◌ {A = ℕ} 0 1 = cc in absurd (omega arith)
 
 -- ---- instants
@@ -84,11 +89,11 @@ instant_of_plain n k s p e h =
     rw (plain_exists s p, le-leb 0 k (omega arith), le-leb k last_ms (omega arith)) (ap (λ (z : ℤ). limited (instant z (pos k))) (plain_noon s p ∙ ap pos e))
 
 -- ---- what an answer that is no refusal says
-pub on_day : (k : ℕ) → k ≤ last_day → date_of_day (pos k) ≡ On (plain (date_at k))
+pub on_day : (k : ℕ) → k ≤ last_day → date_of_day (pos k) ≡ Ok (plain (date_at k))
 unfolding date_of_day
-on_day k h = rw (le-leb 0 k (omega arith), le-leb k last_day h) (ap On (looked_for k h))
+on_day k h = rw (le-leb 0 k (omega arith), le-leb k last_day h) (ap Ok (looked_for k h))
 
-pub same_date : {z w : Date} → On z ≡ On w → z ≡ w
+pub same_date : {z w : Date} → ◌≡◌ {A = Result Date Refusal} (Ok z) (Ok w) → z ≡ w
 same_date e = cc
 
 pub record Dated (n : ℤ) (w : Date) : Type 0 where
@@ -97,7 +102,7 @@ pub record Dated (n : ℤ) (w : Date) : Type 0 where
   pub small : k ≤ last_day
   pub found : plain (date_at k) ≡ w
 
-pub dated : (n : ℤ) (w : Date) → date_of_day n ≡ On w → Dated n w
+pub dated : (n : ℤ) (w : Date) → date_of_day n ≡ Ok w → Dated n w
 unfolding date_of_day
 dated n w e = go (upto n last_day)
   where
@@ -108,7 +113,7 @@ dated n w e = go (upto n last_day)
     go (inside k i l r b) = record { k = k; is = i; small = l; found = sym (looked_for k l) ∙ ap date_numbered (sym i) ∙ p.1 }
     go (outside g b) = absurd (false≢true (sym b ∙ p.0))
 
-limited_is : (t : Instant) → in_limit t.ms ≡ true → limited t.ms ≡ At t
+limited_is : (t : Instant) → in_limit t.ms ≡ true → limited t.ms ≡ Ok t
 limited_is t h = rw h
 
 -- the instant of a date
@@ -117,7 +122,7 @@ pub record Timed (y m d ms : ℤ) (t : Instant) : Type 0 where
   pub limit : in_limit t.ms ≡ true
   pub is : instant (noon_number y m d) ms ≡ t.ms
 
-pub timed : (y m d ms : ℤ) (t : Instant) → instant_of_date y m d ms ≡ At t → Timed y m d ms t
+pub timed : (y m d ms : ℤ) (t : Instant) → instant_of_date y m d ms ≡ Ok t → Timed y m d ms t
 unfolding instant_of_date
 timed y m d ms t e =
     let i = instant (noon_number y m d) ms in
@@ -127,29 +132,31 @@ timed y m d ms t e =
 
 -- the date of an instant
 pub moment_of : (t : Instant) (u : ℕ) → in_limit t.ms ≡ true → pos u ≡ t.ms +ℤ pos epoch_ms → u ≤ epoch_ms + t_limit
-    → date_of_instant t ≡ Moment (plain (date_at (u / day_ms))) (pos (u % day_ms))
+    → date_of_instant t ≡ Ok (record { date = plain (date_at (u / day_ms)); ms = pos (u % day_ms) })
 unfolding date_of_instant
 moment_of t u h e l =
     let d : date_numbered (day_of_instant t.ms) ≡ plain (date_at (u / day_ms)) =
     ap date_numbered (day_is t.ms u e) ∙ looked_for (u / day_ms) (omega arith) in
-    rw h (λ i. Moment (d i) (ms_is t.ms u e i))
+    rw h (λ i. Ok (record { date = d i; ms = ms_is t.ms u e i }))
 
-pub limit_of : (t : Instant) (w : Date) (k : ℤ) → date_of_instant t ≡ Moment w k → in_limit t.ms ≡ true
+pub limit_of : (t : Instant) (w : Date) (k : ℤ) → date_of_instant t ≡ Ok (record { date = w; ms = k }) → in_limit t.ms ≡ true
 unfolding date_of_instant
 limit_of t w k e = (pick_moment (in_limit t.ms) _ w _ k (PastLimit t) e).0
 
-pub same_moment : {z w : Date} {j k : ℤ} → Moment z j ≡ Moment w k → (z ≡ w) × (j ≡ k)
-same_moment e = (cc, cc)
+pub same_moment : {z w : Date} {j k : ℤ} → ◌≡◌ {A = Result Moment Refusal} (Ok (record { date = z; ms = j })) (Ok (record { date = w; ms = k })) → (z ≡ w) × (j ≡ k)
+same_moment {z} {w} {j} {k} e =
+    let m : Moment = record { date = z; ms = j } in
+    (ap (λ (x : Result Moment Refusal). (the_moment m x).date) e, ap (λ (x : Result Moment Refusal). (the_moment m x).ms) e)
 
 pub instant_back : (t : Instant) (w : Date) (k : ℤ) (u : ℕ) → in_limit t.ms ≡ true → pos u ≡ t.ms +ℤ pos epoch_ms → u ≤ epoch_ms + t_limit
-    → date_of_instant t ≡ Moment w k → instant_of_date w.year w.month w.day k ≡ At t
+    → date_of_instant t ≡ Ok (record { date = w; ms = k }) → instant_of_date w.year w.month w.day k ≡ Ok t
 instant_back t w k u h e l p =
     let q = same_moment (sym (moment_of t u h e l) ∙ p) in
     let f = found (u / day_ms) (omega arith) in
     rw (← q.0, ← q.1) (instant_of_plain (u / day_ms) (u % day_ms) (date_at (u / day_ms)) f.sound f.number (omega arith)
     ∙ ap limited (instant_again t.ms u e) ∙ limited_is t h)
 
-pub moment_back : (y m d ms : ℤ) (t : Instant) → Timed y m d ms t → date_of_instant t ≡ Moment (date y m d) ms
+pub moment_back : (y m d ms : ℤ) (t : Instant) → Timed y m d ms t → date_of_instant t ≡ Ok (record { date = date y m d; ms = ms })
 unfolding date_of_instant
 moment_back y m d ms t i =
     let a = i.all in
@@ -158,7 +165,7 @@ moment_back y m d ms t i =
     let v = sym r in
     let q = sym ((λ x. instant (noon_law y m d a.date x) (v x)) ∙ i.is) in
     rw i.limit
-    ((λ x. Moment (date_numbered (day_of_instant (q x))) (ms_of_instant (q x)))
-    ∙ (λ x. Moment (date_numbered (day_again n a.k a.small x)) (ms_again n a.k a.small x))
-    ∙ (λ x. Moment (looked_for n (noon_small y m d a.date) x) (pos a.k))
-    ∙ (λ x. Moment (plain_back y m d a.date x) (v x)))
+    ((λ x. Ok (record { date = date_numbered (day_of_instant (q x)); ms = ms_of_instant (q x) }))
+    ∙ (λ x. Ok (record { date = date_numbered (day_again n a.k a.small x); ms = ms_again n a.k a.small x }))
+    ∙ (λ x. Ok (record { date = looked_for n (noon_small y m d a.date) x; ms = pos a.k }))
+    ∙ (λ x. Ok (record { date = plain_back y m d a.date x; ms = v x })))

@@ -12,10 +12,7 @@ use Rattle.calendar.specs.Calendar.{date_of_instant}
 use Rattle.calendar.specs.Promises.{day_of, instant_of, OneDate, OneMoment, marked, AllRight}
 use Rattle.calendar.specs.Machine.Shifted.{date_at, plain}
 use Rattle.calendar.specs.declared.Date.{Date}
-use Rattle.calendar.specs.declared.DayAnswer.TheVariants.{Day}
-use Rattle.calendar.specs.declared.DateAnswer.TheVariants.{On}
-use Rattle.calendar.specs.declared.InstantAnswer.TheVariants.{At}
-use Rattle.calendar.specs.declared.MomentAnswer.TheVariants.{Moment}
+use Rattle.std.specs.Prelude.{Ok}
 use Rattle.calendar.specs.Constants.{last_day, day_ms}
 use Rattle.calendar.proofs.DayToDate.{found}
 use Rattle.calendar.proofs.DatesFound.{numbered_as, day_of_plain}
@@ -23,17 +20,17 @@ use Rattle.calendar.proofs.RoundTrips.{on_day, dated, same_date, since, timed, l
 use Rattle.calendar.proofs.RoundTrips.{moment_of, same_moment}
 
 -- A date, its day number, and back.
-pub date_day_date : (w : Date) (n : ℤ) → day_of w ≡ Day n → date_of_day n ≡ On w
+pub date_day_date : (w : Date) (n : ℤ) → day_of w ≡ Ok n → date_of_day n ≡ Ok w
 date_day_date w n e =
     let p = numbered_as w.year w.month w.day n e in
-    rw p.is (on_day p.k p.small ∙ ap On p.back)
+    rw p.is (on_day p.k p.small ∙ ap Ok p.back)
 
 -- A day number, its date, and back.
-pub day_date_day : (n : ℤ) (w : Date) → date_of_day n ≡ On w → day_of w ≡ Day n
+pub day_date_day : (n : ℤ) (w : Date) → date_of_day n ≡ Ok w → day_of w ≡ Ok n
 day_date_day n w e =
     let p = dated n w e in
     let f = found p.k p.small in
-    ap day_of (sym p.found) ∙ day_of_plain p.k (date_at p.k) f.sound f.number ∙ ap Day (sym p.is)
+    ap day_of (sym p.found) ∙ day_of_plain p.k (date_at p.k) f.sound f.number ∙ ap Ok (sym p.is)
 
 -- Every day number has exactly one date.
 pub one_date : (n : ℕ) → n ≤ last_day → OneDate (pos n)
@@ -42,11 +39,11 @@ one_date n h =
     record { the = plain (date_at n); has = day_date_day (pos n) (plain (date_at n)) e; only = λ w p. same_date (sym (date_day_date w (pos n) p) ∙ e) }
 
 -- A date with milliseconds, its instant, and back.
-pub moment_instant_moment : (w : Date) (ms : ℤ) (t : Instant) → instant_of w ms ≡ At t → date_of_instant t ≡ Moment w ms
+pub moment_instant_moment : (w : Date) (ms : ℤ) (t : Instant) → instant_of w ms ≡ Ok t → date_of_instant t ≡ Ok (record { date = w; ms = ms })
 moment_instant_moment w ms t e = moment_back w.year w.month w.day ms t (timed w.year w.month w.day ms t e)
 
 -- An instant, its date with milliseconds, and back.
-pub instant_moment_instant : (t : Instant) (w : Date) (ms : ℤ) → date_of_instant t ≡ Moment w ms → instant_of w ms ≡ At t
+pub instant_moment_instant : (t : Instant) (w : Date) (ms : ℤ) → date_of_instant t ≡ Ok (record { date = w; ms = ms }) → instant_of w ms ≡ Ok t
 instant_moment_instant t w ms e =
     let l = limit_of t w ms e in
     let s = since t.ms l in

@@ -22,7 +22,7 @@ use Rattle.calendar.specs.Constants.{years_before_zero, last_year, year_shift, l
 use Rattle.calendar.specs.Machine.Shifted.{last_index}
 use Rattle.calendar.proofs.DayToDate.{found}
 use Rattle.calendar.proofs.Bounds.{month_le, exists, year_known}
-use Rattle.calendar.proofs.Existing.{Ok, ok}
+use Rattle.calendar.proofs.Existing.{Exists, ok}
 use Rattle.calendar.proofs.FirstBad.{Year, year, missing, year_of_index, Field, low, good, high, field, bad_law}
 use Rattle.calendar.proofs.Formula.{literal}
 use Rattle.calendar.proofs.DateToDay.{numbered}
@@ -106,7 +106,7 @@ module _ (y m d : ℤ) (e : first_bad y m d ≡ 0) where
   pub noon_law : pos (noon (year_index y) (natural_or m 0) (natural_or d 0)) ≡ noon_number y m d
   noon_law = go (year_of_index y) (field m 12) (field d 31)
     where
-      o : Ok (year_index y) (natural_or m 0) (natural_or d 0)
+      o : Exists (year_index y) (natural_or m 0) (natural_or d 0)
       o = ok _ _ _ sound_of
 
       by_parts : (c k j : ℕ) → Is y c year_shift → year_index y ≡ c → m ≡ pos k → natural_or m 0 ≡ k → d ≡ pos j → natural_or d 0 ≡ j

@@ -36,14 +36,9 @@ use Rattle.calendar.specs.Constants.{years_before_zero, last_year, reform_year, 
 use Rattle.calendar.specs.Constants.{year_field, month_field, day_field, ms_field, number_field}
 use Rattle.calendar.specs.Constants.{four_years, year_shift, month_rate, rate_scale, day_shift, last_day, day_ms, last_ms, half_day_ms, epoch_day}
 use Rattle.calendar.specs.declared.Date.{Date}
-use Rattle.calendar.specs.declared.DayAnswer.{DayAnswer}
-use Rattle.calendar.specs.declared.DayAnswer.TheVariants.{Day, NoDay}
-use Rattle.calendar.specs.declared.DateAnswer.{DateAnswer}
-use Rattle.calendar.specs.declared.DateAnswer.TheVariants.{On, NoDate}
-use Rattle.calendar.specs.declared.InstantAnswer.{InstantAnswer}
-use Rattle.calendar.specs.declared.InstantAnswer.TheVariants.{At, NoInstant}
-use Rattle.calendar.specs.declared.MomentAnswer.{MomentAnswer}
-use Rattle.calendar.specs.declared.MomentAnswer.TheVariants.{Moment, NoMoment}
+use Rattle.std.specs.Prelude.{Err, Ok, Result}
+use Rattle.calendar.specs.declared.Moment.{Moment}
+use Rattle.units.specs.declared.Refusal.{Refusal}
 
 -- x is from a to b.
 abbrev pub between : ℤ → ℤ → ℤ → Bool
@@ -122,15 +117,15 @@ unfoldable pub noon_number : ℤ → ℤ → ℤ → ℤ
 noon_number y m d = formula (counted_year y m) (counted_month m) d (beta (gregorian y m d) (counted_year y m))
 
 -- Date to N.
-unfoldable pub day_of_date : ℤ → ℤ → ℤ → DayAnswer
-day_of_date y m d = cond (eqb (first_bad y m d) 0) (Day (noon_number y m d)) (NoDay (NoSuchDate (first_bad y m d)))
+unfoldable pub day_of_date : ℤ → ℤ → ℤ → Result ℤ Refusal
+day_of_date y m d = cond (eqb (first_bad y m d) 0) (Ok (noon_number y m d)) (Err (NoSuchDate (first_bad y m d)))
 
 -- ---- day numbers back to dates
 
 -- The answer is the day number n.
-unfoldable pub is_day : ℤ → DayAnswer → Bool
-is_day n (Day k) = between n k n
-is_day n (NoDay r) = false
+unfoldable pub is_day : ℤ → Result ℤ Refusal → Bool
+is_day n (Ok k) = between n k n
+is_day n (Err r) = false
 
 -- The date exists, and n is its day number.
 abbrev pub has_number : ℤ → Date → Bool
@@ -150,8 +145,8 @@ unfoldable pub date_numbered : ℤ → Date
 date_numbered n = date_below (10000 * (years_before_zero + last_year + 1)) n
 
 -- N to its date.
-unfoldable pub date_of_day : ℤ → DateAnswer
-date_of_day n = cond (between (pos 0) n (pos last_day)) (On (date_numbered n)) (NoDate (NoSuchDate number_field))
+unfoldable pub date_of_day : ℤ → Result Date Refusal
+date_of_day n = cond (between (pos 0) n (pos last_day)) (Ok (date_numbered n)) (Err (NoSuchDate number_field))
 
 -- ---- instants
 
@@ -160,15 +155,15 @@ unfoldable pub instant : ℤ → ℤ → ℤ
 instant n ms = pos day_ms *ℤ (n -ℤ pos epoch_day) +ℤ ms -ℤ pos half_day_ms
 
 -- t, or refusal 2 where it passes its limit.
-abbrev pub limited : ℤ → InstantAnswer
-limited t = cond (in_limit t) (At (record { ms = t })) (NoInstant (PastLimit (record { ms = t })))
+abbrev pub limited : ℤ → Result Instant Refusal
+limited t = cond (in_limit t) (Ok (record { ms = t })) (Err (PastLimit (record { ms = t })))
 
 -- Date with ms to t: refusal 1 comes before 2.
-unfoldable pub instant_of_date : ℤ → ℤ → ℤ → ℤ → InstantAnswer
+unfoldable pub instant_of_date : ℤ → ℤ → ℤ → ℤ → Result Instant Refusal
 instant_of_date y m d ms =
     cond (eqb (first_bad_of_four y m d ms) 0)
     (limited (instant (noon_number y m d) ms))
-    (NoInstant (NoSuchDate (first_bad_of_four y m d ms)))
+    (Err (NoSuchDate (first_bad_of_four y m d ms)))
 
 -- The N and the ms of t.
 abbrev pub day_of_instant : ℤ → ℤ
@@ -178,8 +173,8 @@ abbrev pub ms_of_instant : ℤ → ℤ
 ms_of_instant t = pos (modulo (t +ℤ pos half_day_ms) day_ms)
 
 -- t to its date with ms.
-unfoldable pub date_of_instant : Instant → MomentAnswer
+unfoldable pub date_of_instant : Instant → Result Moment Refusal
 date_of_instant t =
     cond (in_limit t.ms)
-    (Moment (date_numbered (day_of_instant t.ms)) (ms_of_instant t.ms))
-    (NoMoment (PastLimit t))
+    (Ok (record { date = date_numbered (day_of_instant t.ms); ms = ms_of_instant t.ms }))
+    (Err (PastLimit t))

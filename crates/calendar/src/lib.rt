@@ -77,79 +77,61 @@ struct Shifted {
     day: u64,
 }
 
-#[derive(Clone, Copy)]
-pub enum DayAnswer {
-    Day(i64),
-    NoDay(Refusal),
-}
-
-#[derive(Clone, Copy)]
-pub enum DateAnswer {
-    On(Date),
-    NoDate(Refusal),
-}
-
-#[derive(Clone, Copy)]
-pub enum InstantAnswer {
-    At(Instant),
-    NoInstant(Refusal),
-}
-
 // A date with the milliseconds from its 0h.
 #[derive(Clone, Copy)]
-pub enum MomentAnswer {
-    Moment(Date, i64),
-    NoMoment(Refusal),
+pub struct Moment {
+    pub date: Date,
+    pub ms: i64,
 }
 
 // The noon day number of a date.
-pub fn day_of_date(year: i64, month: i64, day: i64) -> DayAnswer
+pub fn day_of_date(year: i64, month: i64, day: i64) -> Result<i64, Refusal>
     ensures { result ≡ day_of_date year month day }
 {
     let bad = bad_of_date(year, month, day);
     if bad != 0 {
-        return DayAnswer::NoDay(Refusal::NoSuchDate(bad));
+        return Err(Refusal::NoSuchDate(bad));
     }
-    DayAnswer::Day(wide(noon_of_date(year, month, day)))
+    Ok(wide(noon_of_date(year, month, day)))
 }
 
 // The date of a noon day number.
-pub fn date_of_day(number: i64) -> DateAnswer
+pub fn date_of_day(number: i64) -> Result<Date, Refusal>
     ensures { result ≡ date_of_day number }
 {
     let n = natural_or(number, NO_DAY);
     if LAST_DAY < n {
-        return DateAnswer::NoDate(Refusal::NoSuchDate(NUMBER_FIELD));
+        return Err(Refusal::NoSuchDate(NUMBER_FIELD));
     }
-    DateAnswer::On(plain_date(n))
+    Ok(plain_date(n))
 }
 
 // The instant of a date and of the milliseconds from its 0h.
-pub fn instant_of_date(year: i64, month: i64, day: i64, ms: i64) -> InstantAnswer
+pub fn instant_of_date(year: i64, month: i64, day: i64, ms: i64) -> Result<Instant, Refusal>
     ensures { result ≡ instant_of_date year month day ms }
 {
     let bad = bad_of_four(year, month, day, ms);
     if bad != 0 {
-        return InstantAnswer::NoInstant(Refusal::NoSuchDate(bad));
+        return Err(Refusal::NoSuchDate(bad));
     }
     let t = Instant {
         ms: instant_at(noon_of_date(year, month, day), natural_or(ms, 0)),
     };
     if !in_limit(t) {
-        return InstantAnswer::NoInstant(Refusal::PastLimit(t));
+        return Err(Refusal::PastLimit(t));
     }
-    InstantAnswer::At(t)
+    Ok(t)
 }
 
 // The date of an instant, with the milliseconds from its 0h.
-pub fn date_of_instant(t: Instant) -> MomentAnswer
+pub fn date_of_instant(t: Instant) -> Result<Moment, Refusal>
     ensures { result ≡ date_of_instant t }
 {
     if !in_limit(t) {
-        return MomentAnswer::NoMoment(Refusal::PastLimit(t));
+        return Err(Refusal::PastLimit(t));
     }
     let u = since_start(t.ms);
     let date = plain_date(u / DAY_MS);
-    let rest = wide(u % DAY_MS);
-    MomentAnswer::Moment(date, rest)
+    let ms = wide(u % DAY_MS);
+    Ok(Moment { date, ms })
 }

@@ -9,7 +9,7 @@ use Rattle.arith.specs.Naturals.{natural_or}
 use Rattle.units.specs.Units.{minute_ms}
 use Rattle.units.specs.declared.Refusal.TheVariants.{NoSuchDate}
 use Rattle.calendar.specs.Calendar.{first_bad, first_bad_of_four, instant_of_date}
-use Rattle.calendar.specs.declared.InstantAnswer.TheVariants.{NoInstant}
+use Rattle.std.specs.Prelude.{Err}
 use Rattle.command_line.specs.Clock.{hours, minutes, seconds, hour_ms, second_ms, below, on_clock, ms_of_day, instant_of_clock}
 
 out_of : (x : ℤ) (k : ℕ) → k ≤ natural_or x k → below x k ≡ false
@@ -52,6 +52,6 @@ module _ (h m s : ℤ) {a b d : ℕ} (ea : a ≡ natural_or h hours) (eb : b ≡
       (e ∙ rw (ea, eb, ed) (sum h m s (omega arith) (omega arith) (omega arith)))
 
 -- A clock time that does not exist, on a date that does, is refused 1 at field 4.
-pub no_such_time : (y mo d h m s : ℤ) → on_clock h m s ≡ false → first_bad y mo d ≡ 0 → instant_of_clock y mo d h m s ≡ NoInstant (NoSuchDate 4)
+pub no_such_time : (y mo d h m s : ℤ) → on_clock h m s ≡ false → first_bad y mo d ≡ 0 → instant_of_clock y mo d h m s ≡ Err (NoSuchDate 4)
 unfolding ms_of_day instant_of_date first_bad_of_four
 no_such_time y mo d h m s e f = rw (e, f) refl

@@ -3,7 +3,9 @@ use Rattle.std.specs.Prelude.{Bool, false, cond, ℕ, ◌*◌, ◌/◌, ltb, ℤ
 use Rattle.units.specs.Units.{minute_ms}
 use Rattle.arith.specs.Naturals.{natural_or}
 use Rattle.calendar.specs.Calendar.{instant_of_date}
-use Rattle.calendar.specs.declared.InstantAnswer.{InstantAnswer}
+use Rattle.std.specs.Prelude.{Result}
+use Rattle.units.specs.declared.Instant.{Instant}
+use Rattle.units.specs.declared.Refusal.{Refusal}
 
 -- The hours of a day, the minutes of an hour, the seconds of a minute; an hour and a second in milliseconds. src/arguments.rt has the same names.
 abbrev pub hours : ℕ
@@ -36,7 +38,7 @@ ms_of_day hour minute second =
     cond (on_clock hour minute second) (pos hour_ms *ℤ hour +ℤ pos minute_ms *ℤ minute +ℤ pos second_ms *ℤ second) (negsuc 0)
 
 -- The instant of a date and a clock time.
-abbrev pub instant_of_clock : ℤ → ℤ → ℤ → ℤ → ℤ → ℤ → InstantAnswer
+abbrev pub instant_of_clock : ℤ → ℤ → ℤ → ℤ → ℤ → ℤ → Result Instant Refusal
 instant_of_clock year month day hour minute second = instant_of_date year month day (ms_of_day hour minute second)
 
 -- The minute of the day of a clock time; 0 where there is no such time.

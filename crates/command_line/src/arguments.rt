@@ -4,10 +4,10 @@ ghost use Rattle.command_line.specs.Machine.Arguments.{argument_limit};
 ghost use Rattle.command_line.specs.Clock.{ms_of_day, instant_of_clock, minute_of_day};
 
 use arith::signed::{natural_or, wide};
-use calendar::{InstantAnswer, instant_of_date};
-use decimals::reading::{Read, number_of};
+use calendar::instant_of_date;
+use decimals::reading::number_of;
 use std::env::Env;
-use units::MINUTE_MS;
+use units::{Instant, MINUTE_MS, Refusal};
 
 // The hours of a day, the minutes of an hour, the seconds of a minute; specs/Clock.antt has the same constants under the same names.
 const HOURS: u64 = 24;
@@ -25,7 +25,7 @@ const SECOND_MS: u64 = MINUTE_MS / SECONDS;
 const ARGUMENT_MOST: usize = 16;
 
 // Argument i. One that is missing or too long is read as an empty one, which is no number.
-pub fn number_argument(rt: &impl Env, i: usize) -> Read {
+pub fn number_argument(rt: &impl Env, i: usize) -> Option<i64> {
     let mut text = [0u8; ARGUMENT_MOST];
     match rt.arg(i, &mut text) {
         Ok(n) => number_of(&text[..n]),
@@ -41,26 +41,20 @@ pub struct Triple {
     pub third: i64,
 }
 
-#[derive(Clone, Copy)]
-pub enum Three {
-    Numbers(Triple),
-    Other,
-}
-
 // Arguments i, i + 1 and i + 2.
-pub fn three_arguments(rt: &impl Env, i: usize) -> Three
+pub fn three_arguments(rt: &impl Env, i: usize) -> Option<Triple>
     requires { i ≤ argument_limit }
 {
-    let Read::Number(first) = number_argument(rt, i) else {
-        return Three::Other;
+    let Some(first) = number_argument(rt, i) else {
+        return None;
     };
-    let Read::Number(second) = number_argument(rt, i + 1) else {
-        return Three::Other;
+    let Some(second) = number_argument(rt, i + 1) else {
+        return None;
     };
-    let Read::Number(third) = number_argument(rt, i + 2) else {
-        return Three::Other;
+    let Some(third) = number_argument(rt, i + 2) else {
+        return None;
     };
-    Three::Numbers(Triple {
+    Some(Triple {
         first,
         second,
         third,
@@ -94,7 +88,7 @@ pub fn instant_of_clock(
     hour: i64,
     minute: i64,
     second: i64,
-) -> InstantAnswer
+) -> Result<Instant, Refusal>
     ensures { result ≡ instant_of_clock year month day hour minute second }
 {
     let ms = ms_of_day(hour, minute, second);

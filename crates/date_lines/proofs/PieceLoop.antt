@@ -10,8 +10,9 @@ use lib.ListN.{length, get_or, drop, take, length-append, length-take, drop_of_l
 use lib.Seq.{sets, length-sets, drop-cons}
 use Rattle.buffers.proofs.Sets.{sets_append}
 use Rattle.calendar.specs.Calendar.{day_of_date}
-use Rattle.calendar.specs.declared.DayAnswer.{DayAnswer}
-use Rattle.calendar.specs.declared.DayAnswer.TheVariants.{Day, NoDay}
+use Rattle.std.specs.Prelude.{Err, Ok, Result}
+use Rattle.units.specs.declared.Refusal.{Refusal}
+use Rattle.std.specs.Prelude.{ℤ}
 use Rattle.arith.specs.Naturals.{natural_or}
 use Rattle.decimals.specs.Texts.{text, line_feed}
 use Rattle.decimals.specs.Decimals.{most_digits, decimal}
@@ -28,10 +29,10 @@ either : (b : Bool) (x y : List ℕ) (k : ℕ) → length x ≤ k → length y �
 either true x y k p q = p
 either false x y k p q = q
 
-day_length : (a : DayAnswer) → length (day_text a) ≤ reply_limit
+day_length : (a : Result ℤ Refusal) → length (day_text a) ≤ reply_limit
 unfolding text day_text refused
-day_length (Day n) = omega (arith, decimal_length most_digits (natural_or n 0), length-append (decimal most_digits (natural_or n 0)) (line_feed ∷ []))
-day_length (NoDay r) = lit≤ tt
+day_length (Ok n) = omega (arith, decimal_length most_digits (natural_or n 0), length-append (decimal most_digits (natural_or n 0)) (line_feed ∷ []))
+day_length (Err r) = lit≤ tt
 
 words : (f : ℕ) → length (fault_words f) ≤ 9
 unfolding text fault_words

@@ -10,8 +10,7 @@ use lib.Seq.{sets}
 use Rattle.units.specs.declared.Refusal.{Refusal}
 use Rattle.arith.specs.Naturals.{natural_or}
 use Rattle.calendar.specs.Calendar.{day_of_date}
-use Rattle.calendar.specs.declared.DayAnswer.{DayAnswer}
-use Rattle.calendar.specs.declared.DayAnswer.TheVariants.{Day, NoDay}
+use Rattle.std.specs.Prelude.{Err, Ok, Result}
 use Rattle.decimals.specs.Texts.{line_feed}
 use Rattle.decimals.specs.Decimals.{most_digits, decimal}
 use Rattle.decimals.specs.Writing.{Put}
@@ -23,17 +22,17 @@ use Rattle.date_lines.specs.declared.reader.Reading.{Reading}
 use Rattle.date_lines.specs.declared.reader.Reading.TheVariants.{Three, Bad}
 
 -- ---- replies
-pub day_put : (a : DayAnswer) (z : ℤ) (k at r : ℕ) (out result : List ℕ) → a ≡ Day z → k ≡ natural_or z 0 → Put out at (decimal most_digits k) r result
+pub day_put : (a : Result ℤ Refusal) (z : ℤ) (k at r : ℕ) (out result : List ℕ) → a ≡ Ok z → k ≡ natural_or z 0 → Put out at (decimal most_digits k) r result
     → Put out at (day_text a) (r + 1) (set result r line_feed)
 unfolding day_text
 day_put a z k at r out result e f h =
     rw (e, ← f) (put_both (decimal most_digits k) (line_feed ∷ []) at r (r + 1) out result (set result r line_feed) h (put_one line_feed r result))
 
-pub refused_put : (a : DayAnswer) (q : Refusal) (at r : ℕ) (out result : List ℕ) → a ≡ NoDay q → Put out at refused r result → Put out at (day_text a) r result
+pub refused_put : (a : Result ℤ Refusal) (q : Refusal) (at r : ℕ) (out result : List ℕ) → a ≡ Err q → Put out at refused r result → Put out at (day_text a) r result
 unfolding day_text
 refused_put a q at r out result e h = rw e h
 
-pub three_put : (w : Reading) (y m d : ℤ) (a : DayAnswer) (at r : ℕ) (out result : List ℕ) → w ≡ Three y m d → a ≡ day_of_date y m d
+pub three_put : (w : Reading) (y m d : ℤ) (a : Result ℤ Refusal) (at r : ℕ) (out result : List ℕ) → w ≡ Three y m d → a ≡ day_of_date y m d
     → Put out at (day_text a) r result → Put out at (reply w) r result
 unfolding reply
 three_put w y m d a at r out result e f h = rw (e, ← f) h
@@ -64,7 +63,7 @@ pub last_bad : (s : Line) (w : Reading) (f r : ℕ) (out result : List ℕ) → 
 unfolding last_reply reply
 last_bad s w f r out result e g h q = rw (← e, g, ne_eqb f fault_empty h) (omega (arith, q.0), q.1)
 
-pub last_three : (s : Line) (w : Reading) (y m d : ℤ) (a : DayAnswer) (r : ℕ) (out result : List ℕ) → w ≡ reading s → w ≡ Three y m d → a ≡ day_of_date y m d
+pub last_three : (s : Line) (w : Reading) (y m d : ℤ) (a : Result ℤ Refusal) (r : ℕ) (out result : List ℕ) → w ≡ reading s → w ≡ Three y m d → a ≡ day_of_date y m d
     → Put out 0 (day_text a) r result → AnsweredLast s out r result
 unfolding last_reply reply
 last_three s w y m d a r out result e g f q = rw (← e, g, ← f) (omega (arith, q.0), q.1)

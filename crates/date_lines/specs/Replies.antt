@@ -3,8 +3,9 @@ use Rattle.std.specs.Prelude.{◌≡◌, cond, List, [], ◌∷◌, ◌++◌, �
 use Rattle.std.proofs.lemmas.List.Edits.{sets}
 use Rattle.arith.specs.Naturals.{natural_or}
 use Rattle.calendar.specs.Calendar.{day_of_date}
-use Rattle.calendar.specs.declared.DayAnswer.{DayAnswer}
-use Rattle.calendar.specs.declared.DayAnswer.TheVariants.{Day, NoDay}
+use Rattle.std.specs.Prelude.{Err, Ok, Result}
+use Rattle.units.specs.declared.Refusal.{Refusal}
+use Rattle.std.specs.Prelude.{ℤ}
 use Rattle.decimals.specs.Texts.{text, line_feed}
 use Rattle.decimals.specs.Decimals.{most_digits, decimal}
 use Rattle.date_lines.specs.Lines.{fault_empty, fault_byte, fault_space, fault_large, fault_few, fresh, take, reading}
@@ -18,9 +19,9 @@ unfoldable pub refused : List ℕ
 refused = text "refused 1" ++ (line_feed ∷ [])
 
 -- A day number, or that there is none.
-unfoldable pub day_text : DayAnswer → List ℕ
-day_text (Day n) = decimal most_digits (natural_or n 0) ++ (line_feed ∷ [])
-day_text (NoDay r) = refused
+unfoldable pub day_text : Result ℤ Refusal → List ℕ
+day_text (Ok n) = decimal most_digits (natural_or n 0) ++ (line_feed ∷ [])
+day_text (Err r) = refused
 
 -- What is wrong with a line.
 unfoldable pub fault_words : ℕ → List ℕ

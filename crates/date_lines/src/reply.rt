@@ -6,22 +6,23 @@ ghost use Rattle.decimals.specs.Writing.{Put};
 use crate::reader::Reading;
 use crate::{FAULT_BYTE, FAULT_EMPTY, FAULT_FEW, FAULT_LARGE, FAULT_SPACE};
 use arith::signed::natural_or;
-use calendar::{DayAnswer, day_of_date};
+use calendar::day_of_date;
 use decimals::writing::{put_bytes, put_decimal};
 use decimals::{LINE_FEED, MOST_DIGITS};
+use units::Refusal;
 
 // Writes a day number, or that it is refused.
-pub fn put_day(answer: DayAnswer, out: &mut [u8], at: usize) -> usize
+pub fn put_day(answer: Result<i64, Refusal>, out: &mut [u8], at: usize) -> usize
     requires { at + reply_limit ≤ length out.old }
     ensures { Put out.old at (day_text answer) result out.new }
 {
     match answer {
-        DayAnswer::Day(n) => {
+        Ok(n) => {
             let next = put_decimal(natural_or(n, 0), MOST_DIGITS, out, at);
             out[next] = LINE_FEED;
             next + 1
         }
-        DayAnswer::NoDay(_) => put_bytes(b"refused 1\n", out, at),
+        Err(_) => put_bytes(b"refused 1\n", out, at),
     }
 }
 

@@ -11,8 +11,7 @@ use Rattle.integers.specs.Signs.{sgn}
 use Rattle.decimals.specs.Decimals.{minus_sign, zero_digit, nine_digit, written}
 use Rattle.decimals.specs.Numerals.{Digits, value, Decimal, Numeral, nine_digits, Decided, number, other}
 use Rattle.decimals.specs.Machine.Reading.{too_great, digits_after, all_digits, signed_read, number_of}
-use Rattle.decimals.specs.declared.reading.Read.{Read}
-use Rattle.decimals.specs.declared.reading.Read.TheVariants.{Number, Other}
+use Rattle.std.specs.Prelude.{None, Option, Some}
 
 pub grows : (v : ℕ) (ds : List ℕ) → v ≤ value v ds
 unfolding value
@@ -55,42 +54,42 @@ only_digits v (b ∷ bs) h n = go (dec_le zero_digit b) (dec_le b nine_digit) (d
         record { digits = (l, m, a.digits); small = a.small; is = s ∙ a.is }
 
 -- A text that is a number is read as this.
-pub numeral_taken : (bytes : List ℕ) (n : ℤ) → Numeral nine_digits bytes n → number_of bytes ≡ Number n
+pub numeral_taken : (bytes : List ℕ) (n : ℤ) → Numeral nine_digits bytes n → number_of bytes ≡ Some n
 unfolding number_of signed_read all_digits
 numeral_taken bytes n t = rw (t.bytes_are, t.is) (go t.minus t.first t.more t.decimal)
   where
     size : (minus : Bool) (b : ℕ) (ds : List ℕ) → Decimal nine_digits minus b ds
-        → signed_read minus (all_digits (b ∷ ds)) ≡ Number (sgn minus (value 0 (b ∷ ds)))
+        → signed_read minus (all_digits (b ∷ ds)) ≡ Some (sgn minus (value 0 (b ∷ ds)))
     size minus b ds d =
         let l = d.small in
         let k : value 0 (b ∷ ds) < too_great = omega arith in
         rw (digits_read 0 (b ∷ ds) d.digits k, ne_eqb (value 0 (b ∷ ds)) too_great (λ q. omega (arith, q)))
 
     go : (minus : Bool) (b : ℕ) (ds : List ℕ) → Decimal nine_digits minus b ds
-        → number_of (written minus (b ∷ ds)) ≡ Number (sgn minus (value 0 (b ∷ ds)))
+        → number_of (written minus (b ∷ ds)) ≡ Some (sgn minus (value 0 (b ∷ ds)))
     go true b ds d = size true b ds d
     go false b ds d =
         let l = d.digits.0 in
         rw (ne_eqb b minus_sign (λ q. omega (arith, q))) (size false b ds d)
 
 -- And only such a text.
-pub taken_numeral : (bytes : List ℕ) (n : ℤ) → number_of bytes ≡ Number n → Numeral nine_digits bytes n
+pub taken_numeral : (bytes : List ℕ) (n : ℤ) → number_of bytes ≡ Some n → Numeral nine_digits bytes n
 unfolding number_of signed_read all_digits
 taken_numeral [] n e = let z : ◌≡◌ {A = ℕ} 0 1 = cc in absurd (omega arith)
 taken_numeral (b ∷ bs) n e = go (ℕ_discrete b minus_sign)
   where
-    sized : (minus : Bool) (ds : List ℕ) → signed_read minus (all_digits ds) ≡ Number n → Numeral nine_digits (written minus ds) n
+    sized : (minus : Bool) (ds : List ℕ) → signed_read minus (all_digits ds) ≡ Some n → Numeral nine_digits (written minus ds) n
     sized minus [] e = let z : ◌≡◌ {A = ℕ} 0 1 = cc in absurd (omega arith)
     sized minus (d ∷ ds) e = at (ℕ_discrete (digits_after 0 (d ∷ ds)) too_great)
       where
         at : Dec (digits_after 0 (d ∷ ds) ≡ too_great) → Numeral nine_digits (written minus (d ∷ ds)) n
         at (yes q) =
-            let f : Other ≡ Number n = rw (eq-eqb (digits_after 0 (d ∷ ds)) too_great q) at e in
+            let f : None ≡ Some n = rw (eq-eqb (digits_after 0 (d ∷ ds)) too_great q) at e in
             let z : ◌≡◌ {A = ℕ} 0 1 = cc in
             absurd (omega arith)
         at (no q) =
             let a = only_digits 0 (d ∷ ds) (omega arith) q in
-            let f : Number (sgn minus (digits_after 0 (d ∷ ds))) ≡ Number n = rw (ne_eqb (digits_after 0 (d ∷ ds)) too_great q) at e in
+            let f : Some (sgn minus (digits_after 0 (d ∷ ds))) ≡ Some n = rw (ne_eqb (digits_after 0 (d ∷ ds)) too_great q) at e in
             let g : sgn minus (digits_after 0 (d ∷ ds)) ≡ n = cc in
             record {
               minus = minus;
@@ -103,23 +102,23 @@ taken_numeral (b ∷ bs) n e = go (ℕ_discrete b minus_sign)
 
     go : Dec (b ≡ minus_sign) → Numeral nine_digits (b ∷ bs) n
     go (yes p) =
-        let f : signed_read true (all_digits bs) ≡ Number n = rw (eq-eqb b minus_sign p) at e in
+        let f : signed_read true (all_digits bs) ≡ Some n = rw (eq-eqb b minus_sign p) at e in
         subst (λ (x : ℕ). Numeral nine_digits (x ∷ bs) n) (sym p) (sized true bs f)
     go (no p) =
-        let f : signed_read false (all_digits (b ∷ bs)) ≡ Number n = rw (ne_eqb b minus_sign p) at e in
+        let f : signed_read false (all_digits (b ∷ bs)) ≡ Some n = rw (ne_eqb b minus_sign p) at e in
         sized false (b ∷ bs) f
 
 -- So each text is decided by how it is read.
 pub taken_decides : (bytes : List ℕ) → Decided bytes (number_of bytes)
 taken_decides bytes = go (number_of bytes) refl
   where
-    go : (r : Read) → number_of bytes ≡ r → Decided bytes r
-    go (Number n) e = number n (taken_numeral bytes n e) refl
-    go Other e = other (λ n t. differs n (numeral_taken bytes n t)) refl
+    go : (r : Option ℤ) → number_of bytes ≡ r → Decided bytes r
+    go (Some n) e = number n (taken_numeral bytes n e) refl
+    go None e = other (λ n t. differs n (numeral_taken bytes n t)) refl
       where
-        differs : (n : ℤ) → number_of bytes ≡ Number n → ⊥
+        differs : (n : ℤ) → number_of bytes ≡ Some n → ⊥
         differs n q = let z : ◌≡◌ {A = ℕ} 0 1 = cc in omega arith
 
 -- What a way through the code returns is decided where it is what `number_of` gives.
-pub decided_as : (bytes : List ℕ) (r : Read) → r ≡ number_of bytes → Decided bytes r
+pub decided_as : (bytes : List ℕ) (r : Option ℤ) → r ≡ number_of bytes → Decided bytes r
 decided_as bytes r e = subst (Decided bytes) (sym e) (taken_decides bytes)

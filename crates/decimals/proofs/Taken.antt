@@ -10,7 +10,7 @@ use lib.ListN.{length, get_or, drop, drop_of_length-le}
 use lib.Seq.{drop-cons}
 use Rattle.decimals.specs.Decimals.{minus_sign, zero_digit, nine_digit}
 use Rattle.decimals.specs.Machine.Reading.{too_great, digits_after, all_digits, signed_read, number_of}
-use Rattle.decimals.specs.declared.reading.Read.TheVariants.{Other}
+use Rattle.std.specs.Prelude.{None}
 
 pub no_digits : (text : List ℕ) (from : ℕ) → length text ≤ from → too_great ≡ all_digits (drop from text)
 unfolding all_digits
@@ -46,11 +46,11 @@ module _ (text : List ℕ) (i v w : ℕ) (e : digits_after v (drop i text) ≡ w
       unfolding digits_after
       digits_more k = rw (le-ltb (get_or text i 0) zero_digit l, le-ltb nine_digit (get_or text i 0) m, lt-leb (too_great / 10) v k) at next
 
-pub signed_other : (below : Bool) (v : ℕ) → v ≡ too_great → Other ≡ signed_read below v
+pub signed_other : (below : Bool) (v : ℕ) → v ≡ too_great → None ≡ signed_read below v
 unfolding signed_read
 signed_other below v e = rw (eq-eqb v too_great e)
 
-pub number_none : (text : List ℕ) → length text ≡ 0 → Other ≡ number_of text
+pub number_none : (text : List ℕ) → length text ≡ 0 → None ≡ number_of text
 unfolding number_of
 number_none [] e = refl
 number_none (b ∷ bs) e = absurd (omega arith)

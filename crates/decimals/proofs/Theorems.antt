@@ -14,8 +14,7 @@ use Rattle.integers.specs.Signs.{negative, sgn}
 use Rattle.decimals.specs.Decimals.{zero_digit, most_digits, decimal, written, signed_decimal}
 use Rattle.decimals.specs.Numerals.{Digits, value, Numeral, nine_digits, Decided, number, other, OneReading}
 use Rattle.decimals.specs.Machine.Reading.{number_of}
-use Rattle.decimals.specs.declared.reading.Read.{Read}
-use Rattle.decimals.specs.declared.reading.Read.TheVariants.{Number, Other}
+use Rattle.std.specs.Prelude.{None, Option, Some}
 use Rattle.decimals.proofs.Numbers.{numeral_taken, taken_decides}
 
 -- ---- what is written
@@ -110,12 +109,12 @@ signed_numeral limit z h l = go (decimal most_digits (nat_abs z)) refl
 
 -- ---- what is read
 -- A text that is a number is read as this.
-pub number_read : (bytes : List ℕ) (r : Read) (n : ℤ) → Decided bytes r → Numeral nine_digits bytes n → r ≡ Number n
+pub number_read : (bytes : List ℕ) (r : Option ℤ) (n : ℤ) → Decided bytes r → Numeral nine_digits bytes n → r ≡ Some n
 number_read bytes r n (number m u e) t = e ∙ sym (numeral_taken bytes m u) ∙ numeral_taken bytes n t
 number_read bytes r n (other f e) t = absurd (f n t)
 
 -- And only such a text.
-pub read_number : (bytes : List ℕ) (r : Read) (n : ℤ) → Decided bytes r → r ≡ Number n → Numeral nine_digits bytes n
+pub read_number : (bytes : List ℕ) (r : Option ℤ) (n : ℤ) → Decided bytes r → r ≡ Some n → Numeral nine_digits bytes n
 read_number bytes r n (number m u e) h = let z : m ≡ n = cc in subst (Numeral nine_digits bytes) z u
 read_number bytes r n (other f e) h = let z : ◌≡◌ {A = ℕ} 0 1 = cc in absurd (omega arith)
 
@@ -123,10 +122,10 @@ read_number bytes r n (other f e) h = let z : ◌≡◌ {A = ℕ} 0 1 = cc in ab
 pub every_text : (bytes : List ℕ) → OneReading bytes
 every_text bytes = record { the = number_of bytes; decided = taken_decides bytes; only = only }
   where
-    only : (r : Read) → Decided bytes r → r ≡ number_of bytes
+    only : (r : Option ℤ) → Decided bytes r → r ≡ number_of bytes
     only r (number n t e) = e ∙ sym (numeral_taken bytes n t)
     only r (other f e) = e ∙ none (taken_decides bytes)
       where
-        none : Decided bytes (number_of bytes) → Other ≡ number_of bytes
+        none : Decided bytes (number_of bytes) → None ≡ number_of bytes
         none (number n t q) = absurd (f n t)
         none (other g q) = sym q

@@ -2,8 +2,7 @@
 use Rattle.std.specs.Prelude.{◌≡◌, Bool, List, [], ◌∷◌, ℕ, ◌+◌, ◌*◌, ◌-◌, ◌≤◌, ℤ}
 use Rattle.integers.specs.Signs.{sgn}
 use Rattle.decimals.specs.Decimals.{zero_digit, nine_digit, written}
-use Rattle.decimals.specs.declared.reading.Read.{Read}
-use Rattle.decimals.specs.declared.reading.Read.TheVariants.{Number, Other}
+use Rattle.std.specs.Prelude.{None, Option, Some}
 
 -- Bytes that are digits.
 abbrev pub Digits : List ℕ → Type 0
@@ -34,12 +33,12 @@ abbrev pub nine_digits : Bool → ℕ
 nine_digits minus = 999999999
 
 -- What a text is read as: the number that it is, or, where it is none, another text.
-pub data Decided (bytes : List ℕ) (r : Read) : Type 0 where
-  number : (n : ℤ) → Numeral nine_digits bytes n → r ≡ Number n → Decided bytes r
-  other : ((n : ℤ) → Numeral nine_digits bytes n → ⊥) → r ≡ Other → Decided bytes r
+pub data Decided (bytes : List ℕ) (r : Option ℤ) : Type 0 where
+  number : (n : ℤ) → Numeral nine_digits bytes n → r ≡ Some n → Decided bytes r
+  other : ((n : ℤ) → Numeral nine_digits bytes n → ⊥) → r ≡ None → Decided bytes r
 
 -- The text is read in one way.
 pub record OneReading (bytes : List ℕ) : Type 0 where
-  pub the : Read
+  pub the : Option ℤ
   pub decided : Decided bytes the
-  pub only : (r : Read) → Decided bytes r → r ≡ the
+  pub only : (r : Option ℤ) → Decided bytes r → r ≡ the

@@ -6,13 +6,6 @@ ghost use Rattle.decimals.specs.Machine.Reading.{too_great, all_digits, signed_r
 use crate::{MINUS_SIGN, NINE_DIGIT, ZERO_DIGIT};
 use arith::signed::of_parts;
 
-// What a text says: a whole number below a milliard in size; or another text.
-#[derive(Clone, Copy)]
-pub enum Read {
-    Number(i64),
-    Other,
-}
-
 // Past every number that is read; specs/Machine/Reading.antt has the same name.
 const TOO_GREAT: u64 = 1000000000;
 
@@ -42,22 +35,22 @@ fn digits(text: &[u8], from: usize) -> u64
     value
 }
 
-fn signed(below: bool, value: u64) -> Read
+fn signed(below: bool, value: u64) -> Option<i64>
     requires { value ≤ too_great }
     ensures { result ≡ signed_read below value }
 {
     if value == TOO_GREAT {
-        return Read::Other;
+        return None;
     }
-    Read::Number(of_parts(below, value))
+    Some(of_parts(below, value))
 }
 
 // A text as a number: digits, and a minus in front or none.
-pub fn number_of(text: &[u8]) -> Read
+pub fn number_of(text: &[u8]) -> Option<i64>
     ensures { Decided text.now result }
 {
     if text.len() == 0 {
-        return Read::Other;
+        return None;
     }
     if text[0] == MINUS_SIGN {
         return signed(true, digits(text, 1));

@@ -15,7 +15,7 @@ use Rattle.limits.specs.declared.Term.{Term}
 use Rattle.limits.specs.Limits.{no_tally}
 use Rattle.limits.proofs.Series.{good_allowed}
 use Rattle.packed.specs.declared.Content.{Content}
-use Rattle.packed.specs.declared.Checked.TheVariants.{Series, NoSeries}
+use Rattle.std.specs.Prelude.{Err, Ok, Result}
 use Rattle.packed.specs.Series.{Parsed, accepted, refused, read_block, read_blocks, read_series, ended, parse, checked, pack}
 use Rattle.packed_promises.specs.Bounds.{Where, over, total, coarse, early, after, unshortened}
 use Rattle.packed_promises.proofs.Appending.{series_append, series_bad}
@@ -28,7 +28,7 @@ use Rattle.end_to_end.specs.EndToEnd.{PackedSeries, Each, Found, at_end, goes_on
 
 -- ---- A series, and more bytes.
 
-unlike : {r : Refusal} {c : Content} → NoSeries r ≡ Series c → ⊥
+unlike : {r : Refusal} {c : Content} → ◌≡◌ {A = Result Content Refusal} (Err r) (Ok c) → ⊥
 unlike e = let z : ◌≡◌ {A = ℕ} 0 1 = cc in omega arith
 
 -- What `check` accepts is parsed to blocks.
@@ -40,11 +40,11 @@ pub blocks_of : (x : List ℕ) → PackedSeries x → BlocksOf x
 unfolding checked
 blocks_of x s = go (parse x) refl s.is
   where
-    go : (p : Parsed) → parse x ≡ p → checked p ≡ Series s.content → BlocksOf x
+    go : (p : Parsed) → parse x ≡ p → checked p ≡ Ok s.content → BlocksOf x
     go (accepted blocks) p q = record { blocks = blocks; is = p }
     go (refused r) p q = absurd (unlike q)
 
-pub followed : (x y : List ℕ) (b : ℕ) → PackedSeries x → checked (parse (x ++ (b ∷ y))) ≡ NoSeries (ByteAfterEnd (length x))
+pub followed : (x y : List ℕ) (b : ℕ) → PackedSeries x → checked (parse (x ++ (b ∷ y))) ≡ Err (ByteAfterEnd (length x))
 unfolding parse checked ended
 followed x y b s = let p = blocks_of x s in rw (series_append 0 x (b ∷ y) (to_end x p.blocks p.is))
 
@@ -69,12 +69,12 @@ before bytes blocks at b rest all e l =
     let p : parse (take at bytes) ≡ accepted blocks = ap parse t ∙ pack_parse blocks (good_allowed blocks g.many g.good) in
     (record { content = _; is = ap checked p }, omega (arith, l))
 
-pub front : (bytes : List ℕ) (at : ℕ) → AllBytes bytes → checked (parse bytes) ≡ NoSeries (ByteAfterEnd at)
+pub front : (bytes : List ℕ) (at : ℕ) → AllBytes bytes → checked (parse bytes) ≡ Err (ByteAfterEnd at)
     → PackedSeries (take at bytes) × (at < length bytes)
 unfolding parse checked ended
 front bytes at all = go (read_series 0 bytes) refl (series_placed bytes)
   where
-    go : (r : Read (List (List Term))) → read_series 0 bytes ≡ r → Placed bytes 0 r → checked (ended r) ≡ NoSeries (ByteAfterEnd at)
+    go : (r : Read (List (List Term))) → read_series 0 bytes ≡ r → Placed bytes 0 r → checked (ended r) ≡ Err (ByteAfterEnd at)
         → PackedSeries (take at bytes) × (at < length bytes)
     go (got blocks to []) p l q = absurd (unlike (sym q))
     go (got blocks to (b ∷ rest)) p (on l _) q = let e : to ≡ at = cc in before bytes blocks at b rest all (rw e at p) (rw e at l)
@@ -106,13 +106,13 @@ module _ (x y : List ℕ) (b : ℕ) (s : PackedSeries (x ++ (b ∷ y))) where
   ends_early {r = r} (after l) p = absurd (not_bad r (λ q. omega (arith, q)) p)
   ends_early {r = r} (unshortened l) p = absurd (not_bad r (λ q. omega (arith, q)) p)
 
-  pub cut_short : checked (parse x) ≡ NoSeries (EndedEarly (length x))
+  pub cut_short : checked (parse x) ≡ Err (EndedEarly (length x))
   unfolding parse checked ended
   cut_short = go (read_series 0 x) refl (series_placed x)
     where
-      go : (r : Read (List (List Term))) → read_series 0 x ≡ r → Placed x 0 r → checked (ended r) ≡ NoSeries (EndedEarly (length x))
+      go : (r : Read (List (List Term))) → read_series 0 x ≡ r → Placed x 0 r → checked (ended r) ≡ Err (EndedEarly (length x))
       go (got blocks at rest) p l = absurd (not_got blocks at rest p)
-      go (bad r) p (off w) = ap NoSeries (ends_early w.place p)
+      go (bad r) p (off w) = ap Err (ends_early w.place p)
 
 -- ---- One after the other.
 
@@ -127,7 +127,7 @@ finds x (y ∷ ys) h = go y refl (finds y ys h.1)
     go (b ∷ z) e f =
         let rest = joined (y ∷ ys) in
         let w : b ∷ (z ++ joined ys) ≡ rest = ap (λ (s : List ℕ). s ++ joined ys) e in
-        let c : checked (parse (x ++ rest)) ≡ NoSeries (ByteAfterEnd (length x)) = rw w at (followed x (z ++ joined ys) b h.0) in
+        let c : checked (parse (x ++ rest)) ≡ Err (ByteAfterEnd (length x)) = rw w at (followed x (z ++ joined ys) b h.0) in
         subst (λ (s : List ℕ). Found (x ++ rest) (s ∷ (y ∷ ys))) (take-append_seam x rest)
         (goes_on c (subst (λ (s : List ℕ). Found s (y ∷ ys)) (sym (drop-append_seam x rest)) f))
 

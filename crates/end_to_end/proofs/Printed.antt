@@ -12,7 +12,7 @@ use Rattle.packed_numbers.specs.Numbers.{AllBytes}
 use Rattle.limits.specs.declared.Term.{Term}
 use Rattle.packed.specs.Series.{Parsed, accepted, refused, parse}
 use Rattle.text_promises.proofs.Series as series
-use Rattle.printer.specs.declared.Printed.TheVariants.{Length, NoText}
+use Rattle.std.specs.Prelude.{Err, Ok, Result}
 use Rattle.printer.specs.Printer.{plain_text, text_fits, printed, printed_out}
 use Rattle.printer_promises.proofs.Theorems.{print_read, same_text}
 use Rattle.end_to_end.specs.EndToEnd.{PackedSeries, SeriesText, Prints, PrintedText}
@@ -32,20 +32,20 @@ printed_from x text p = go (parse x) refl p.answer p.written
     out = p.out
 
     fit : (blocks : List (List Term)) (b : Bool) → text_fits blocks out ≡ b → parse x ≡ accepted blocks
-        → printed (accepted blocks) out ≡ Length (length text) → take (length text) (printed_out (accepted blocks) out) ≡ text → PrintedFrom x text
+        → printed (accepted blocks) out ≡ Ok (length text) → take (length text) (printed_out (accepted blocks) out) ≡ text → PrintedFrom x text
     fit blocks true h e a w =
         let l : length (plain_text blocks) ≡ length text = length_of (rw h at a) in
         let t : take (length text) (sets out 0 (plain_text blocks)) ≡ text = rw h at w in
         record { blocks = blocks; parsed = e; is = sym (series.front (plain_text blocks) out (leb-true _ _ h)) ∙ (rw (sym l) at t) }
       where
-        length_of : {m n : ℕ} → Length m ≡ Length n → m ≡ n
+        length_of : {m n : ℕ} → ◌≡◌ {A = Result ℕ Refusal} (Ok m) (Ok n) → m ≡ n
         length_of q = cc
     fit blocks false h e a w = absurd (unlike (rw h at a))
       where
-        unlike : {r : Refusal} {n : ℕ} → NoText r ≡ Length n → ⊥
+        unlike : {r : Refusal} {n : ℕ} → ◌≡◌ {A = Result ℕ Refusal} (Err r) (Ok n) → ⊥
         unlike q = let z : ◌≡◌ {A = ℕ} 0 1 = cc in omega arith
 
-    go : (r : Parsed) → parse x ≡ r → printed r out ≡ Length (length text) → take (length text) (printed_out r out) ≡ text → PrintedFrom x text
+    go : (r : Parsed) → parse x ≡ r → printed r out ≡ Ok (length text) → take (length text) (printed_out r out) ≡ text → PrintedFrom x text
     go (accepted blocks) e a w = fit blocks (text_fits blocks out) refl e a w
     go (refused r) e a w = let z : ◌≡◌ {A = ℕ} 0 1 = cc in absurd (omega arith)
 

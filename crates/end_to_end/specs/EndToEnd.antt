@@ -6,14 +6,13 @@ use Rattle.std.specs.Prelude.{◌≡◌, List, [], ◌∷◌, ◌++◌, ℕ, ◌
 use Rattle.units.specs.declared.Refusal.TheVariants.{EndedEarly, ByteAfterEnd}
 use Rattle.packed_numbers.specs.Numbers.{AllBytes}
 use Rattle.packed.specs.declared.Content.{Content}
-use Rattle.packed.specs.declared.Checked.TheVariants.{Series, NoSeries}
+use Rattle.std.specs.Prelude.{Err, Ok}
 use Rattle.packed.specs.Series.{parse, checked}
 use Rattle.packed_promises.specs.Bounds.{packed_limit}
 use Rattle.series_lines.specs.declared.Outcome.TheVariants.{Accepted, Refused}
 use Rattle.series_lines.specs.Reader.{last_offset, told}
 use Rattle.series_lines.specs.Calls.{joined}
 use Rattle.text.specs.Reader.{whole}
-use Rattle.printer.specs.declared.Printed.TheVariants.{Length}
 use Rattle.printer.specs.Printer.{printed, printed_out}
 
 -- ---- What is stored.
@@ -21,7 +20,7 @@ use Rattle.printer.specs.Printer.{printed, printed_out}
 -- A packed series: `check` answers what it holds.
 pub record PackedSeries (x : List ℕ) : Type 0 where
   pub content : Content
-  pub is : checked (parse x) ≡ Series content
+  pub is : checked (parse x) ≡ Ok content
 
 -- A text that `read` accepts with this output.
 pub record ReadInto (out text : List ℕ) : Type 0 where
@@ -37,7 +36,7 @@ pub record SeriesText (text : List ℕ) : Type 0 where
 pub record Prints (x text : List ℕ) : Type 0 where
   pub are_bytes : AllBytes x
   pub out : List ℕ
-  pub answer : printed (parse x) out ≡ Length (length text)
+  pub answer : printed (parse x) out ≡ Ok (length text)
   pub written : take (length text) (printed_out (parse x) out) ≡ text
 
 -- A text that `print` writes for some packed bytes.
@@ -71,19 +70,19 @@ pub record KindsToldApart : Type 0 where
 -- What `check` finds in bytes, series after series: where it accepts the rest, this is the last one; where it refuses the rest with 9, the
 -- bytes before that offset are one, and the next begins there.
 pub data Found : List ℕ → List (List ℕ) → Type 0 where
-  at_end : {x : List ℕ} {c : Content} → checked (parse x) ≡ Series c → Found x (x ∷ [])
-  goes_on : {bytes : List ℕ} {at : ℕ} {xs : List (List ℕ)} → checked (parse bytes) ≡ NoSeries (ByteAfterEnd at)
+  at_end : {x : List ℕ} {c : Content} → checked (parse x) ≡ Ok c → Found x (x ∷ [])
+  goes_on : {bytes : List ℕ} {at : ℕ} {xs : List (List ℕ)} → checked (parse bytes) ≡ Err (ByteAfterEnd at)
       → Found (drop at bytes) xs → Found bytes (take at bytes ∷ xs)
 
 -- Packed series stored end to end are found, and nothing else is.
 pub record FoundByCheck : Type 0 where
   -- Where bytes follow a series, `check` refuses with 9 and the offset of the first of them,
-  pub followed : (x y : List ℕ) (b : ℕ) → PackedSeries x → checked (parse (x ++ (b ∷ y))) ≡ NoSeries (ByteAfterEnd (length x))
+  pub followed : (x y : List ℕ) (b : ℕ) → PackedSeries x → checked (parse (x ++ (b ∷ y))) ≡ Err (ByteAfterEnd (length x))
   -- and only there.
-  pub front : (bytes : List ℕ) (at : ℕ) → AllBytes bytes → checked (parse bytes) ≡ NoSeries (ByteAfterEnd at)
+  pub front : (bytes : List ℕ) (at : ℕ) → AllBytes bytes → checked (parse bytes) ≡ Err (ByteAfterEnd at)
       → PackedSeries (take at bytes) × (at < length bytes)
   -- Where only the beginning of a series is there, `check` refuses with 8 and the number of bytes.
-  pub cut_short : (x y : List ℕ) (b : ℕ) → PackedSeries (x ++ (b ∷ y)) → checked (parse x) ≡ NoSeries (EndedEarly (length x))
+  pub cut_short : (x y : List ℕ) (b : ℕ) → PackedSeries (x ++ (b ∷ y)) → checked (parse x) ≡ Err (EndedEarly (length x))
   -- So a list of series, joined, is found again,
   pub finds : (x : List ℕ) (xs : List (List ℕ)) → Each PackedSeries (x ∷ xs) → Found (joined (x ∷ xs)) (x ∷ xs)
   -- and what is found are series, which make up all of the bytes.

@@ -13,7 +13,8 @@ use Rattle.cosine.specs.Terms.{term_angle, term_value}
 use Rattle.rectangular.specs.declared.Vector.{Vector}
 use Rattle.rectangular.specs.declared.Frame.{Frame}
 use Rattle.rectangular.specs.declared.Frame.TheVariants.{Theory, Catalogues}
-use Rattle.rectangular.specs.declared.Sight.{Sight}
+use Rattle.std.specs.Prelude.{Option}
+use Rattle.rectangular.specs.declared.View.{View}
 use Rattle.rectangular.specs.Frames.{turned}
 use Rattle.rectangular.specs.Sight.{sight}
 use Rattle.rectangular.specs.Machine.Components.{Components, grown}
@@ -115,7 +116,7 @@ frame_catalogues (suc n) h = refl
 
 -- And a sight.
 pub sight_told : {f f' : Frame} → f ≡ f' → {l b r l' b' r' m n o m' n' o' : ℤ} → l ≡ l' → b ≡ b' → r ≡ r' → m ≡ m' → n ≡ n' → o ≡ o'
-    → {s : Sight} {z : SightFigures}
+    → {s : Option View} {z : SightFigures}
     → s ≡ sight f (record { longitude = l; latitude = b; radius = r }) (record { longitude = m; latitude = n; radius = o }) → z ≡ shown s
     → z ≡ shown (sight f' (record { longitude = l'; latitude = b'; radius = r' }) (record { longitude = m'; latitude = n'; radius = o' }))
 sight_told ef el eb er em en eo ps pz = pz ∙ ap shown ps ∙ rw (ef, el, eb, er, em, en, eo)

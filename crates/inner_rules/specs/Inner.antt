@@ -4,8 +4,8 @@ use Rattle.units.specs.Units.{a_limit, b_limit, c_limit}
 use Rattle.rectangular.specs.declared.Vector.{Vector}
 use Rattle.rectangular.specs.declared.Frame.{Frame}
 use Rattle.rectangular.specs.declared.Frame.TheVariants.{Theory, Catalogues}
-use Rattle.rectangular.specs.declared.Sight.{Sight}
-use Rattle.rectangular.specs.declared.Sight.TheVariants.{Usable, Unusable}
+use Rattle.std.specs.Prelude.{None, Option, Some}
+use Rattle.rectangular.specs.declared.View.{View}
 use Rattle.inner_rules.specs.declared.VectorFigures.{VectorFigures}
 use Rattle.inner_rules.specs.declared.SightFigures.{SightFigures}
 
@@ -45,8 +45,8 @@ unfoldable pub vector_figures : Vector → VectorFigures
 vector_figures v = record { x = v.x; y = v.y; z = v.z }
 
 -- A usable sight as 1 and its numbers; an unusable one is nothing but 0.
-unfoldable pub shown : Sight → SightFigures
-shown (Usable v) = record {
+unfoldable pub shown : Option View → SightFigures
+shown (Some v) = record {
   usable = 1;
   earth_x = v.earth.x;
   earth_y = v.earth.y;
@@ -56,7 +56,7 @@ shown (Usable v) = record {
   z = v.vector.z;
   distance = v.distance;
 }
-shown Unusable = record {
+shown None = record {
   usable = 0;
   earth_x = pos 0;
   earth_y = pos 0;

@@ -27,7 +27,7 @@ use nutation::{angles_at, mean_obliquity_at};
 use place::light_time::light;
 use rectangular::frames::turned;
 use rectangular::from_earth::sight;
-use rectangular::{Frame, Sight, Vector, length};
+use rectangular::{Frame, Vector, View, length};
 use units::{A_LIMIT, B_LIMIT, C_LIMIT, Coordinates, T_LIMIT};
 
 // The greatest component of a vector, and the greatest length, that is taken; the greatest component that is turned; the greatest |a|, b and |c|:
@@ -127,11 +127,11 @@ fn frame_of(turned: u64) -> Frame
 }
 
 // A sight as numbers.
-fn figures(s: Sight) -> SightFigures
+fn figures(s: Option<View>) -> SightFigures
     ensures { result ≡ shown s }
 {
     match s {
-        Sight::Unusable => SightFigures {
+        None => SightFigures {
             usable: 0,
             earth_x: 0,
             earth_y: 0,
@@ -141,7 +141,7 @@ fn figures(s: Sight) -> SightFigures
             z: 0,
             distance: 0,
         },
-        Sight::Usable(v) => SightFigures {
+        Some(v) => SightFigures {
             usable: 1,
             earth_x: v.earth.x,
             earth_y: v.earth.y,

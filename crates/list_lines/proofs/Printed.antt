@@ -8,14 +8,14 @@ use Rattle.units.specs.declared.Instant.{Instant}
 use Rattle.runs.specs.Runs.{most_minutes}
 use Rattle.sunlist.specs.Demand.{Demand3}
 use Rattle.sunlist.specs.SunList.{sun_list, sun_list_out}
-use Rattle.sunlist.specs.declared.ListAnswer.{ListAnswer}
-use Rattle.sunlist.specs.declared.ListAnswer.TheVariants.{Runs}
+use Rattle.std.specs.Prelude.{Ok, Result}
+use Rattle.units.specs.declared.Refusal.{Refusal}
 use Rattle.sunlist.proofs.Demand.{demand_3}
 use Rattle.list_lines.specs.List.{answer_text, lent_numbers, list_text}
 use Rattle.list_lines.specs.Printed.{Printed}
 
 pub printed : (planet earth : List ℕ) (t0 : Instant) (start : ℕ) (minutes keep_out : ℤ) (count : ℕ)
-    → sun_list planet earth t0 minutes keep_out most_minutes ≡ Runs count → Printed planet earth t0 start minutes keep_out
+    → sun_list planet earth t0 minutes keep_out most_minutes ≡ Ok count → Printed planet earth t0 start minutes keep_out
 unfolding answer_text list_text
 printed planet earth t0 start minutes keep_out count e =
     let out : List ℕ = sun_list_out planet earth t0 minutes keep_out lent_numbers in
@@ -25,5 +25,5 @@ printed planet earth t0 start minutes keep_out count e =
       numbers = out;
       runs = count / 2;
       demand = subst (λ (n : ℕ). Demand3 planet earth t0 minutes keep_out n out) even d;
-      told = ap (λ (a : ListAnswer). answer_text start out a) e;
+      told = ap (λ (a : Result ℕ Refusal). answer_text start out a) e;
     }

@@ -9,8 +9,7 @@ use lib.ListN.{length, length-append}
 use lib.Seq.{sets, length-sets}
 use Rattle.units.specs.declared.Instant.{Instant}
 use Rattle.units.specs.declared.Refusal.{Refusal}
-use Rattle.calendar.specs.declared.InstantAnswer.{InstantAnswer}
-use Rattle.calendar.specs.declared.InstantAnswer.TheVariants.{At, NoInstant}
+use Rattle.std.specs.Prelude.{Err, Ok, Result}
 use Rattle.buffers.proofs.Sets.{sets_append}
 use Rattle.decimals.specs.Texts.{text}
 use Rattle.decimals.specs.Writing.{Put}
@@ -18,8 +17,6 @@ use Rattle.refusal_words.specs.Words.{refusal_text}
 use Rattle.refusal_words.proofs.WrittenWords.{refusal_length}
 use Rattle.sunlist.specs.Demand.{first_minute, last_minute}
 use Rattle.sunlist.specs.SunList.{sun_list, sun_list_out}
-use Rattle.sunlist.specs.declared.ListAnswer.{ListAnswer}
-use Rattle.sunlist.specs.declared.ListAnswer.TheVariants.{Runs, NoList}
 use Rattle.sunlist.proofs.Call.{sun_list_promised}
 use Rattle.list_lines.specs.Lines.{run_text, run_most}
 use Rattle.list_lines.specs.List.{run_lines, runs_text, answer_text, lent_numbers, list_text, most_runs, list_most}
@@ -41,23 +38,23 @@ runs_length start numbers (suc n) h = omega (arith, lines_length start numbers 0
 
 -- A list that is answered has no more runs than a day can have.
 few_runs : (planet earth : List ℕ) (t0 : Instant) (minutes keep_out : ℤ) (count : ℕ)
-    → sun_list planet earth t0 minutes keep_out (length lent_numbers) ≡ Runs count → count / 2 ≤ most_runs
+    → sun_list planet earth t0 minutes keep_out (length lent_numbers) ≡ Ok count → count / 2 ≤ most_runs
 few_runs planet earth t0 minutes keep_out count e =
     let p = sun_list_promised planet earth t0 minutes keep_out lent_numbers _ _ refl refl in
     omega (arith, p.few count e)
 
-answer_length : (planet earth : List ℕ) (t0 : Instant) (minutes keep_out : ℤ) (start : ℕ) (numbers : List ℕ) (a : ListAnswer)
+answer_length : (planet earth : List ℕ) (t0 : Instant) (minutes keep_out : ℤ) (start : ℕ) (numbers : List ℕ) (a : Result ℕ Refusal)
     → sun_list planet earth t0 minutes keep_out (length lent_numbers) ≡ a → length (answer_text start numbers a) ≤ list_most
 unfolding answer_text
-answer_length planet earth t0 minutes keep_out start numbers (Runs count) e =
+answer_length planet earth t0 minutes keep_out start numbers (Ok count) e =
     runs_length start numbers (count / 2) (few_runs planet earth t0 minutes keep_out count e)
-answer_length planet earth t0 minutes keep_out start numbers (NoList r) e = omega (arith, refusal_length r)
+answer_length planet earth t0 minutes keep_out start numbers (Err r) e = omega (arith, refusal_length r)
 
-pub list_length : (planet earth : List ℕ) (from : InstantAnswer) (start : ℕ) (minutes keep_out : ℤ)
+pub list_length : (planet earth : List ℕ) (from : Result Instant Refusal) (start : ℕ) (minutes keep_out : ℤ)
     → length (list_text planet earth from start minutes keep_out) ≤ list_most
 unfolding list_text
-list_length planet earth (At t0) start minutes keep_out = answer_length planet earth t0 minutes keep_out start _ _ refl
-list_length planet earth (NoInstant r) start minutes keep_out = omega (arith, refusal_length r)
+list_length planet earth (Ok t0) start minutes keep_out = answer_length planet earth t0 minutes keep_out start _ _ refl
+list_length planet earth (Err r) start minutes keep_out = omega (arith, refusal_length r)
 
 -- ---- the lines of the runs: what is left to write gives what all give
 pub record LinesLeft (start : ℕ) (numbers : List ℕ) (runs : ℕ) (begun out : List ℕ) (at i : ℕ) : Type 0 where
@@ -116,31 +113,31 @@ module _ (out result : List ℕ) (z : ℕ) where
   some_runs start numbers (suc n) e h = h
 
   -- The call's answer a and output n are the definitions' b and m.
-  pub runs_answered : (start : ℕ) (n m : List ℕ) (a b : ListAnswer) (count : ℕ) → n ≡ m → a ≡ b → a ≡ Runs count
+  pub runs_answered : (start : ℕ) (n m : List ℕ) (a b : Result ℕ Refusal) (count : ℕ) → n ≡ m → a ≡ b → a ≡ Ok count
       → Put out 0 (runs_text start n (count / 2)) z result → Put out 0 (answer_text start m b) z result
   unfolding answer_text
   runs_answered start n m a b count d e f h = rw (← d, ← e, f) h
 
-  pub refusal_answered : (start : ℕ) (m : List ℕ) (a b : ListAnswer) (r : Refusal) → a ≡ b → a ≡ NoList r
+  pub refusal_answered : (start : ℕ) (m : List ℕ) (a b : Result ℕ Refusal) (r : Refusal) → a ≡ b → a ≡ Err r
       → Put out 0 (refusal_text r) z result → Put out 0 (answer_text start m b) z result
   unfolding answer_text
   refusal_answered start m a b r e f h = rw (← e, f) h
 
-  module _ (planet earth : List ℕ) (from : InstantAnswer) (start : ℕ) (minutes keep_out : ℤ) where
-    pub at_instant : (t0 : Instant) → from ≡ At t0
+  module _ (planet earth : List ℕ) (from : Result Instant Refusal) (start : ℕ) (minutes keep_out : ℤ) where
+    pub at_instant : (t0 : Instant) → from ≡ Ok t0
         → Put out 0 (answer_text start (sun_list_out planet earth t0 minutes keep_out lent_numbers)
         (sun_list planet earth t0 minutes keep_out (length lent_numbers))) z result
         → Put out 0 (list_text planet earth from start minutes keep_out) z result
     unfolding list_text
     at_instant t0 e h = rw e h
 
-    pub no_instant : (r : Refusal) → from ≡ NoInstant r → Put out 0 (refusal_text r) z result
+    pub no_instant : (r : Refusal) → from ≡ Err r → Put out 0 (refusal_text r) z result
         → Put out 0 (list_text planet earth from start minutes keep_out) z result
     unfolding list_text
     no_instant r e h = rw e h
 
   -- What stands in the machine is what was asked for.
-  pub same_window : (planet earth : List ℕ) (from asked : InstantAnswer) (start begin : ℕ) (m minutes k keep_out : ℤ)
+  pub same_window : (planet earth : List ℕ) (from asked : Result Instant Refusal) (start begin : ℕ) (m minutes k keep_out : ℤ)
       → Put out 0 (list_text planet earth from start m k) z result → from ≡ asked → start ≡ begin → m ≡ minutes → k ≡ keep_out
       → Put out 0 (list_text planet earth asked begin minutes keep_out) z result
   same_window planet earth from asked start begin m minutes k keep_out h d e f g = rw (← d, ← e, ← f, ← g) h

@@ -1,7 +1,7 @@
 -- What demand 3 says of all that the program `list` prints.
 use Rattle.std.specs.Prelude.{◌≡◌, List, ℕ, ◌*◌, ℤ}
 use Rattle.units.specs.declared.Instant.{Instant}
-use Rattle.calendar.specs.declared.InstantAnswer.TheVariants.{At}
+use Rattle.std.specs.Prelude.{Ok}
 use Rattle.sunlist.specs.Demand.{Demand3}
 use Rattle.list_lines.specs.List.{runs_text, list_text}
 
@@ -10,4 +10,4 @@ pub record Printed (planet earth : List ℕ) (t0 : Instant) (start : ℕ) (minut
   pub numbers : List ℕ
   pub runs : ℕ
   pub demand : Demand3 planet earth t0 minutes keep_out (2 * runs) numbers
-  pub told : list_text planet earth (At t0) start minutes keep_out ≡ runs_text start numbers runs
+  pub told : list_text planet earth (Ok t0) start minutes keep_out ≡ runs_text start numbers runs

@@ -7,13 +7,12 @@ ghost use Rattle.list_lines.specs.Lines.{run_most};
 ghost use Rattle.list_lines.specs.List.{run_lines, runs_text, answer_text, lent_numbers, list_text, most_runs, list_most};
 
 use crate::lines::{RUN_MOST, put_run};
-use calendar::InstantAnswer;
 use command_line::arguments::{Triple, instant_of_clock, minute_of_day};
 use decimals::writing::put_bytes;
 use refusal_words::put_refusal;
 use runs::MOST_MINUTES;
-use sunlist::{ListAnswer, sun_list};
-use units::Instant;
+use sunlist::sun_list;
+use units::{Instant, Refusal};
 
 // No window has more runs; specs/List.antt has the same name.
 const MOST_RUNS: usize = MOST_MINUTES as usize / 2;
@@ -66,8 +65,8 @@ fn put_answer(
     let mut numbers = [0u64; MOST_MINUTES as usize];
     let a = sun_list(planet, earth, t0, minutes, keep_out, &mut numbers);
     match a {
-        ListAnswer::NoList(r) => put_refusal(r, out, 0),
-        ListAnswer::Runs(count) => put_runs(start, &numbers, (count / 2) as usize, out),
+        Err(r) => put_refusal(r, out, 0),
+        Ok(count) => put_runs(start, &numbers, (count / 2) as usize, out),
     }
 }
 
@@ -75,7 +74,7 @@ fn put_answer(
 fn put_at(
     planet: &[u8],
     earth: &[u8],
-    from: InstantAnswer,
+    from: Result<Instant, Refusal>,
     start: u64,
     minutes: i64,
     keep_out: i64,
@@ -86,13 +85,13 @@ fn put_at(
         (list_text planet.now earth.now from start minutes keep_out) result out.new }
 {
     match from {
-        InstantAnswer::NoInstant(r) => put_refusal(r, out, 0),
-        InstantAnswer::At(t0) => put_answer(planet, earth, t0, start, minutes, keep_out, out),
+        Err(r) => put_refusal(r, out, 0),
+        Ok(t0) => put_answer(planet, earth, t0, start, minutes, keep_out, out),
     }
 }
 
 // The instant of year, month and day, and hour and minute.
-fn instant_of(date: Triple, window: Triple) -> InstantAnswer
+fn instant_of(date: Triple, window: Triple) -> Result<Instant, Refusal>
     ensures { result ≡ instant_of_clock date.first date.second date.third window.first window.second (pos 0) }
 {
     instant_of_clock(

@@ -11,9 +11,8 @@ ghost use Rattle.std.specs.Prelude.{◌≤◌};
 ghost use Rattle.command_line.specs.Machine.Arguments.{first_limit};
 
 use crate::answer::{LIST_MOST, put_list};
-use command_line::arguments::{Three, Triple, number_argument, three_arguments};
+use command_line::arguments::{Triple, number_argument, three_arguments};
 use command_line::files::{Both, first_bytes, read_both};
-use decimals::reading::Read;
 use std::env::Env;
 use std::fs::Files;
 use std::io;
@@ -34,13 +33,13 @@ enum Asked {
 fn window_asked(rt: &impl Env, first: usize) -> Asked
     requires { first ≤ first_limit }
 {
-    let Three::Numbers(date) = three_arguments(rt, first + 2) else {
+    let Some(date) = three_arguments(rt, first + 2) else {
         return Asked::Unclear;
     };
-    let Three::Numbers(window) = three_arguments(rt, first + 5) else {
+    let Some(window) = three_arguments(rt, first + 5) else {
         return Asked::Unclear;
     };
-    let Read::Number(keep_out) = number_argument(rt, first + 8) else {
+    let Some(keep_out) = number_argument(rt, first + 8) else {
         return Asked::Unclear;
     };
     Asked::For(date, window, keep_out)

@@ -9,7 +9,7 @@ use lib.Seq.{sets, sets-eq, take-append_seam}
 use Rattle.units.specs.declared.Refusal.TheVariants.{NoRoom}
 use Rattle.series_lines.specs.declared.Outcome.{Outcome}
 use Rattle.text.specs.Judge.{judgement}
-use Rattle.mending.specs.declared.Mending.TheVariants.{Mended, Unmended}
+use Rattle.std.specs.Prelude.{Err, Ok}
 use Rattle.mending.specs.Rule.{mended, changes, numbers}
 use Rattle.mending.specs.Answer.{text_fits, list_fits, mending, mending_out, mending_list}
 use Rattle.mending.specs.Machine.Runs.{Room}
@@ -21,14 +21,14 @@ written_first xs out after n h e w =
     rw (e, w, sets-eq xs out 0 (omega arith)) (take-append_seam xs (drop (0 + length xs) out))
 
 module _ (text out list : List ℕ) (n m : ℕ) (bytes : n ≡ length (mended text)) (count : m ≡ length (changes text)) where
-  pub text_over : length out < n → (Unmended (NoRoom n) ≡ mending text out list) × (out ≡ mending_out text out list) × (list ≡ mending_list text out list)
+  pub text_over : length out < n → (Err (NoRoom n) ≡ mending text out list) × (out ≡ mending_out text out list) × (list ≡ mending_list text out list)
   unfolding mending mending_out mending_list text_fits
   text_over h =
       let t = lt-leb (length (mended text)) (length out) (omega arith) in (rw (t, bytes), rw t, rw t)
 
   module _ (fits : n ≤ length out) where
     pub list_over : length list / 2 < m
-        → (Unmended (NoRoom m) ≡ mending text out list) × (out ≡ mending_out text out list) × (list ≡ mending_list text out list)
+        → (Err (NoRoom m) ≡ mending text out list) × (out ≡ mending_out text out list) × (list ≡ mending_list text out list)
     unfolding mending mending_out mending_list text_fits list_fits
     list_over h =
         let t = le-leb (length (mended text)) (length out) (omega arith) in
@@ -40,7 +40,7 @@ module _ (text out list : List ℕ) (n m : ℕ) (bytes : n ≡ length (mended te
 
       pub both_fit : (out_after list_after : List ℕ) (o : Outcome) → out_after ≡ sets out 0 (mended text)
           → list_after ≡ sets list 0 (numbers (changes text)) → o ≡ judgement (take n out_after)
-          → (Mended (record { length = n; changes = m; verdict = o }) ≡ mending text out list) × (out_after ≡ mending_out text out list)
+          → (Ok (record { length = n; changes = m; verdict = o }) ≡ mending text out list) × (out_after ≡ mending_out text out list)
           × (list_after ≡ mending_list text out list)
       unfolding mending mending_out mending_list text_fits list_fits
       both_fit out_after list_after o a b v =

@@ -28,13 +28,6 @@ pub struct Clean {
     pub verdict: Outcome,
 }
 
-// What mending answers: refused only where a buffer is too short, with the length of the text or the number of changes.
-#[derive(Clone, Copy)]
-pub enum Mending {
-    Mended(Clean),
-    Unmended(Refusal),
-}
-
 // The bytes that are dropped before a line feed.
 fn is_blank(byte: u8) -> bool
     ensures { result ≡ blank byte }
@@ -60,7 +53,7 @@ fn next_byte(from: usize, i: usize) -> usize
 }
 
 // Mends a text: out holds the mended text, and list an offset and a kind for each change; where either is too short, both stay as they were.
-pub fn mend(text: &[u8], out: &mut [u8], list: &mut [u64]) -> Mending
+pub fn mend(text: &[u8], out: &mut [u8], list: &mut [u64]) -> Result<Clean, Refusal>
     ensures { (result ≡ mending text.now out.old list.old)
         × (out.new ≡ mending_out text.now out.old list.old)
         × (list.new ≡ mending_list text.now out.old list.old) }
@@ -69,14 +62,14 @@ pub fn mend(text: &[u8], out: &mut [u8], list: &mut [u64]) -> Mending
     let length = counts.length;
     let changes = counts.changes;
     if out.len() < length {
-        return Mending::Unmended(Refusal::NoRoom(length));
+        return Err(Refusal::NoRoom(length));
     }
     if list.len() / CHANGE_NUMBERS < changes {
-        return Mending::Unmended(Refusal::NoRoom(changes));
+        return Err(Refusal::NoRoom(changes));
     }
     write(text, out, list);
     let verdict = judge(&out[..length]);
-    Mending::Mended(Clean {
+    Ok(Clean {
         length,
         changes,
         verdict,

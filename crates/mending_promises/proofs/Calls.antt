@@ -13,7 +13,7 @@ use Rattle.series_lines.specs.Reader.{last_offset}
 use Rattle.text.specs.Judge.{judgement}
 use Rattle.text_promises.proofs.Judgement.{with_room, judgement_accepts, never_seven, never_more}
 use Rattle.mending.specs.declared.Clean.{Clean}
-use Rattle.mending.specs.declared.Mending.TheVariants.{Mended, Unmended}
+use Rattle.std.specs.Prelude.{Err, Ok, Result}
 use Rattle.mending.specs.Rule.{Change, mended, changes, numbers}
 use Rattle.mending.specs.Answer.{text_fits, list_fits, mending, mending_out, mending_list}
 use Rattle.mending.proofs.Runs.{length_numbers}
@@ -40,16 +40,16 @@ unfolding read_off numbers
 read_back [] = refl
 read_back (c ∷ cs) = ap (λ (l : List Change). c ∷ l) (read_back cs)
 
-no_answer : {A : Type 0} (f : Refusal) (c : Clean) → Unmended f ≡ Mended c → A
+no_answer : {A : Type 0} (f : Refusal) (c : Clean) → ◌≡◌ {A = Result Clean Refusal} (Err f) (Ok c) → A
 no_answer f c e = let z : ◌≡◌ {A = ℕ} 0 1 = cc in absurd (omega arith)
 
-no_refusal : {A : Type 0} (c : Clean) (f : Refusal) → Mended c ≡ Unmended f → A
+no_refusal : {A : Type 0} (c : Clean) (f : Refusal) → ◌≡◌ {A = Result Clean Refusal} (Ok c) (Err f) → A
 no_refusal c f e = let z : ◌≡◌ {A = ℕ} 0 1 = cc in absurd (omega arith)
 
-same_clean : {c d : Clean} → Mended c ≡ Mended d → c ≡ d
+same_clean : {c d : Clean} → ◌≡◌ {A = Result Clean Refusal} (Ok c) (Ok d) → c ≡ d
 same_clean e = cc
 
-same_refusal : {f g : Refusal} → Unmended f ≡ Unmended g → f ≡ g
+same_refusal : {f g : Refusal} → ◌≡◌ {A = Result Clean Refusal} (Err f) (Err g) → f ≡ g
 same_refusal e = cc
 
 module _ (text out list : List ℕ) where
@@ -83,7 +83,7 @@ module _ (text out list : List ℕ) where
         }
 
   -- Every call that is answered.
-  pub answered : (c : Clean) → length text ≤ last_offset → mending text out list ≡ Mended c
+  pub answered : (c : Clean) → length text ≤ last_offset → mending text out list ≡ Ok c
       → Answered text out list c (mending_out text out list) (mending_list text out list)
   unfolding mending mending_out mending_list text_fits list_fits
   answered c h e =
@@ -96,7 +96,7 @@ module _ (text out list : List ℕ) where
       (λ p. no_answer _ c (rw p at e))
 
   -- Every call that is refused.
-  pub refused : (f : Refusal) → mending text out list ≡ Unmended f
+  pub refused : (f : Refusal) → mending text out list ≡ Err f
       → RefusedCall text out list f (mending_out text out list) (mending_list text out list)
   unfolding mending mending_out mending_list text_fits list_fits
   refused f e =

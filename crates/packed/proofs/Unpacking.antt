@@ -13,7 +13,7 @@ use Rattle.packed_numbers.specs.Numbers.{Read, got, bad, next}
 use Rattle.units.specs.Units.{series_limit, block_count}
 use Rattle.limits.specs.declared.Term.{Term}
 use Rattle.limits.specs.declared.Tally.{Tally}
-use Rattle.packed.specs.declared.Checked.TheVariants.{Series, NoSeries}
+use Rattle.std.specs.Prelude.{Err, Ok}
 use Rattle.limits.specs.Limits.{no_tally, after_block}
 use Rattle.packed.specs.Series.{read_block, read_blocks, read_series, accepted, refused, ended, parse, checked}
 use Rattle.limits.specs.Allowed.{term_count}
@@ -169,12 +169,12 @@ module _ (s : List ℕ) (rows sums : List (List ℕ)) (tally : Tally) (i k : ℕ
   unpacking_wide e wide f = f ∙ tallies_say sums l.done (all_tallies e) (sym l.place ∙ e)
 
 -- The answers.
-pub answer_refused : (s : List ℕ) (q : Refusal) (rows : List (List ℕ)) → parse s ≡ refused q → (NoSeries q ≡ checked (parse s)) × unpacked (parse s) rows
+pub answer_refused : (s : List ℕ) (q : Refusal) (rows : List (List ℕ)) → parse s ≡ refused q → (Err q ≡ checked (parse s)) × unpacked (parse s) rows
 unfolding checked unpacked
 answer_refused s q rows e = (rw e, rw e tt)
 
 pub answer_series : (s : List ℕ) (blocks : List (List Term)) (n : ℕ) (wide : Bool) (rows : List (List ℕ)) → parse s ≡ accepted blocks → n ≡ term_count blocks
     → wide ≡ good_for_wide blocks → Holds rows blocks
-    → (Series (record { terms = n; wide = wide }) ≡ checked (parse s)) × unpacked (parse s) rows
+    → (Ok (record { terms = n; wide = wide }) ≡ checked (parse s)) × unpacked (parse s) rows
 unfolding checked unpacked
 answer_series s blocks n wide rows e p q h = (rw (e, p, q), rw e h)

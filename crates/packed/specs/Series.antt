@@ -6,8 +6,8 @@ use Rattle.units.specs.declared.Refusal.TheVariants.{OverLimit, TotalOverLimit, 
 use Rattle.packed_numbers.specs.Numbers.{Read, got, bad, next, number, encode, folded, unfolded}
 use Rattle.units.specs.Units.{block_count}
 use Rattle.limits.specs.declared.Term.{Term}
-use Rattle.packed.specs.declared.Checked.{Checked}
-use Rattle.packed.specs.declared.Checked.TheVariants.{Series, NoSeries}
+use Rattle.std.specs.Prelude.{Err, Ok, Result}
+use Rattle.packed.specs.declared.Content.{Content}
 use Rattle.limits.specs.declared.Tally.{Tally}
 use Rattle.limits.specs.Allowed.{term_count}
 use Rattle.limits.specs.Wide.{good_for_wide}
@@ -75,9 +75,9 @@ unfoldable pub parse : List ℕ → Parsed
 parse bytes = ended (read_series 0 bytes)
 
 -- What a check of a packed series answers.
-unfoldable pub checked : Parsed → Checked
-checked (accepted blocks) = Series (record { terms = term_count blocks; wide = good_for_wide blocks })
-checked (refused r) = NoSeries r
+unfoldable pub checked : Parsed → Result Content Refusal
+checked (accepted blocks) = Ok (record { terms = term_count blocks; wide = good_for_wide blocks })
+checked (refused r) = Err r
 
 -- The packed form: the numbers in their order, a and c folded.
 unfoldable pub pack_term : Term → List ℕ

@@ -18,15 +18,8 @@ pub struct Content {
     pub wide: bool,
 }
 
-// What checking a packed series answers.
-#[derive(Clone, Copy)]
-pub enum Checked {
-    Series(Content),
-    NoSeries(Refusal),
-}
-
 // Checks a packed series: what it holds, or the refusal.
-pub fn check(bytes: &[u8]) -> Checked
+pub fn check(bytes: &[u8]) -> Result<Content, Refusal>
     ensures { result ≡ checked (parse bytes.now) }
 {
     let mut table: Table = [[0; 3]; TABLE_ROWS];

@@ -8,9 +8,9 @@ ghost use Rattle.packed.specs.Series.{read_term, read_terms, read_block, parse, 
 ghost use Rattle.packed.specs.Machine.Table.{Sized, ends, unpacked};
 ghost use Rattle.packed.specs.Machine.Answers.{Begun, walked, stored, Filled};
 
+use crate::Content;
 use crate::terms::{TermRead, read_term_at};
 use crate::wide::{Tallies, is_wide};
-use crate::{Checked, Content};
 use limits::{Sizes, Tally, block_factor};
 use packed_numbers::{Number, magnitude, number_at};
 use units::{BLOCK_COUNT, Refusal, SERIES_LIMIT};
@@ -102,7 +102,7 @@ fn take_block(bytes: &[u8], at: usize, k: usize, tally: Tally, table: &mut Table
 
 // Reads a packed series into a term table. The answer is what it holds, or the refusal; after a refusal the table holds
 // nothing that can be relied on.
-pub fn unpack(bytes: &[u8], table: &mut Table) -> Checked
+pub fn unpack(bytes: &[u8], table: &mut Table) -> Result<Content, Refusal>
     requires { Sized table.old }
     ensures { (result ≡ checked (parse bytes.now)) × unpacked (parse bytes.now) table.new × Sized table.new }
 {
@@ -114,7 +114,7 @@ pub fn unpack(bytes: &[u8], table: &mut Table) -> Checked
         let w = take_block(bytes, i, k, s, table);
         match w {
             Walk::Stopped(r) => {
-                return Checked::NoSeries(r);
+                return Err(r);
             }
             Walk::Moved(to, more) => {
                 table[TERM_ROWS + k] = [more.terms, 0, 0];
@@ -126,9 +126,9 @@ pub fn unpack(bytes: &[u8], table: &mut Table) -> Checked
         }
     }
     if i < bytes.len() {
-        return Checked::NoSeries(Refusal::ByteAfterEnd(i));
+        return Err(Refusal::ByteAfterEnd(i));
     }
-    Checked::Series(Content {
+    Ok(Content {
         terms: s.terms,
         wide: is_wide(&tallies),
     })

@@ -7,7 +7,6 @@ use native.Mathlib.Omega.{arith}
 use lib.IntN.{nat_abs}
 use Rattle.units.specs.Units.{t_limit, in_limit}
 use Rattle.units.proofs.Limit.{size_within}
-use Rattle.units.specs.Refusals.{number}
 use Rattle.units.specs.declared.Instant.{Instant}
 use Rattle.units.specs.declared.Refusal.{Refusal}
 use Rattle.limits.specs.declared.Term.{Term}
@@ -20,14 +19,8 @@ use Rattle.place.specs.declared.Apparent.{Apparent}
 use Rattle.place.specs.declared.Equatorial.{Equatorial}
 use Rattle.place.specs.declared.Geocentric.{Geocentric}
 use Rattle.rectangular.specs.declared.View.{View}
-use Rattle.rectangular.specs.declared.Sight.{Sight}
-use Rattle.rectangular.specs.declared.Sight.TheVariants.{Usable, Unusable}
-use Rattle.place.specs.declared.Sighting.{Sighting}
-use Rattle.place.specs.declared.Sighting.TheVariants.{Seen, NoSight}
+use Rattle.std.specs.Prelude.{Err, None, Ok, Option, Result, Some}
 use Rattle.place.specs.declared.MountPlace.{MountPlace}
-use Rattle.place.specs.declared.Mount.TheVariants.{At, Refused}
-use Rattle.place.specs.declared.PlaceAnswer.{PlaceAnswer}
-use Rattle.place.specs.declared.PlaceAnswer.TheVariants.{Place, NoPlace}
 use Rattle.place.specs.Apparent.{earlier, apparent, equatorial}
 use Rattle.place.specs.Place.{sight_at, taken_again, taken, of_series, sighting_by, sighting, of_sighting, place_answer_by, place_answer}
 use Rattle.place.specs.Mount.{mount_place, mount, mount_answer, Small}
@@ -39,34 +32,34 @@ use Rattle.place.proofs.Rebuilt.{at_equator}
 
 -- ---- what is seen is within its sizes, and so is its instant
 
-same_seen : (g h : Geocentric) → Seen g ≡ Seen h → g ≡ h
+same_seen : (g h : Geocentric) → ◌≡◌ {A = Result Geocentric Refusal} (Ok g) (Ok h) → g ≡ h
 same_seen g h e = cc
 
-not_seen : (r : Refusal) (g : Geocentric) → NoSight r ≡ Seen g → ⊥
+not_seen : (r : Refusal) (g : Geocentric) → ◌≡◌ {A = Result Geocentric Refusal} (Err r) (Ok g) → ⊥
 not_seen r g e = let z : ◌≡◌ {A = ℕ} 0 1 = cc in omega arith
 
-again_clear : (d : ℕ) (s : Sight) (g : Geocentric) → ((v : View) → s ≡ Usable v → Clear v.vector v.distance) → d < 2 ^ 46 → taken_again d s ≡ Seen g
+again_clear : (d : ℕ) (s : Option View) (g : Geocentric) → ((v : View) → s ≡ Some v → Clear v.vector v.distance) → d < 2 ^ 46 → taken_again d s ≡ Ok g
     → Clear g.vector g.distance
 unfolding taken_again
-again_clear d (Usable v) g f l e =
+again_clear d (Some v) g f l e =
     subst (λ (h : Geocentric). Clear h.vector h.distance) (same_seen _ g e) (record { vector_in = (f v refl).vector_in; distance_in = l })
-again_clear d Unusable g f l e = absurd (not_seen _ g e)
+again_clear d None g f l e = absurd (not_seen _ g e)
 
 -- What is seen after a test has passed it.
-after_test : (b : Bool) (s : Sighting) (r : Refusal) (g : Geocentric) → cond b s (NoSight r) ≡ Seen g → (b ≡ true) × (s ≡ Seen g)
+after_test : (b : Bool) (s : Result Geocentric Refusal) (r : Refusal) (g : Geocentric) → cond b s (Err r) ≡ Ok g → (b ≡ true) × (s ≡ Ok g)
 after_test true s r g e = (refl, e)
 after_test false s r g e = absurd (not_seen r g e)
 
-taken_clear : (P E : List (List Term)) (t : Instant) (s : Sight) (g : Geocentric) → ((v : View) → s ≡ Usable v → Clear v.vector v.distance)
-    → taken four_millennia P E t s ≡ Seen g → Clear g.vector g.distance
+taken_clear : (P E : List (List Term)) (t : Instant) (s : Option View) (g : Geocentric) → ((v : View) → s ≡ Some v → Clear v.vector v.distance)
+    → taken four_millennia P E t s ≡ Ok g → Clear g.vector g.distance
 unfolding taken
-taken_clear P E t (Usable v) g k e =
+taken_clear P E t (Some v) g k e =
     let u = earlier t v.distance in
     let i = (after_test (in_limit u.ms) _ _ g e).1 in
     again_clear v.distance (sight_at P E u) g (at_clear P E u) (k v refl).distance_in (after_test (both_asked four_millennia P E u.ms) _ _ g i).1
-taken_clear P E t Unusable g k e = absurd (not_seen _ g e)
+taken_clear P E t None g k e = absurd (not_seen _ g e)
 
-series_clear : (p q : Parsed) (t : Instant) (g : Geocentric) → of_series four_millennia p q t ≡ Seen g → Clear g.vector g.distance
+series_clear : (p q : Parsed) (t : Instant) (g : Geocentric) → of_series four_millennia p q t ≡ Ok g → Clear g.vector g.distance
 unfolding of_series
 series_clear (refused r) q t g e = absurd (not_seen r g e)
 series_clear (accepted P) (refused r) t g e = absurd (not_seen r g (earth_refused P (refused r) t r refl ∙ e))
@@ -78,7 +71,7 @@ pub record Good (t : Instant) (g : Geocentric) : Type 0 where
   pub in_time : nat_abs t.ms ≤ t_limit
   pub clear : Clear g.vector g.distance
 
-seen_good : (planet earth : List ℕ) (t : Instant) (g : Geocentric) → sighting planet earth t ≡ Seen g → Good t g
+seen_good : (planet earth : List ℕ) (t : Instant) (g : Geocentric) → sighting planet earth t ≡ Ok g → Good t g
 unfolding sighting_by
 seen_good planet earth t g e =
     let h = after_test (in_limit t.ms) _ _ g e in
@@ -91,17 +84,17 @@ apparent_in t v a c e =
 
 -- ---- the answers
 
-module _ (planet earth : List ℕ) (t : Instant) (s : Sighting) (e : s ≡ sighting planet earth t) where
-  pub no_place : (r : Refusal) → s ≡ NoSight r → NoPlace r ≡ place_answer planet earth t
+module _ (planet earth : List ℕ) (t : Instant) (s : Result Geocentric Refusal) (e : s ≡ sighting planet earth t) where
+  pub no_place : (r : Refusal) → s ≡ Err r → Err r ≡ place_answer planet earth t
   unfolding place_answer_by of_sighting
-  no_place r f = let h : sighting planet earth t ≡ NoSight r = sym e ∙ f in rw h
+  no_place r f = let h : sighting planet earth t ≡ Err r = sym e ∙ f in rw h
 
-  pub place_is : (g : Geocentric) (a : Apparent) (p : Equatorial) → s ≡ Seen g → a ≡ apparent t g.vector → p ≡ equatorial a.vector g.distance
-      → Place p ≡ place_answer planet earth t
+  pub place_is : (g : Geocentric) (a : Apparent) (p : Equatorial) → s ≡ Ok g → a ≡ apparent t g.vector → p ≡ equatorial a.vector g.distance
+      → Ok p ≡ place_answer planet earth t
   unfolding place_answer_by of_sighting
-  place_is g a p f k l = let h : sighting planet earth t ≡ Seen g = sym e ∙ f in rw (l, k, h)
+  place_is g a p f k l = let h : sighting planet earth t ≡ Ok g = sym e ∙ f in rw (l, k, h)
 
-  pub good : (g : Geocentric) → s ≡ Seen g → Good t g
+  pub good : (g : Geocentric) → s ≡ Ok g → Good t g
   good g f = seen_good planet earth t g (sym e ∙ f)
 
 -- ---- the numbers of a place
@@ -114,27 +107,27 @@ equatorial_small v d h = record {
   distance_in = omega arith;
 }
 
-sighting_small : (t : Instant) (s : Sighting) (p : Equatorial) → ((g : Geocentric) → s ≡ Seen g → Good t g) → of_sighting t s ≡ Place p → Small p
+sighting_small : (t : Instant) (s : Result Geocentric Refusal) (p : Equatorial) → ((g : Geocentric) → s ≡ Ok g → Good t g) → of_sighting t s ≡ Ok p → Small p
 unfolding of_sighting
-sighting_small t (Seen g) p f e =
+sighting_small t (Ok g) p f e =
     let h : equatorial (apparent t g.vector).vector g.distance ≡ p = cc in
     subst Small h (equatorial_small (apparent t g.vector).vector g.distance (f g refl).clear.distance_in)
-sighting_small t (NoSight r) p f e = absurd (let z : ◌≡◌ {A = ℕ} 0 1 = cc in omega arith)
+sighting_small t (Err r) p f e = absurd (let z : ◌≡◌ {A = ℕ} 0 1 = cc in omega arith)
 
-pub place_small : (planet earth : List ℕ) (t : Instant) (p : Equatorial) → place_answer planet earth t ≡ Place p → Small p
+pub place_small : (planet earth : List ℕ) (t : Instant) (p : Equatorial) → place_answer planet earth t ≡ Ok p → Small p
 unfolding place_answer_by
 place_small planet earth t p e = sighting_small t (sighting planet earth t) p (seen_good planet earth t) e
 
 -- ---- the mount's answer
 
-module _ (planet earth : List ℕ) (t : Instant) (a : PlaceAnswer) (e : a ≡ place_answer planet earth t) where
-  pub mount_refused : (r : Refusal) (n : ℕ) → a ≡ NoPlace r → n ≡ number r → Refused n ≡ mount_answer planet earth t
+module _ (planet earth : List ℕ) (t : Instant) (a : Result Equatorial Refusal) (e : a ≡ place_answer planet earth t) where
+  pub mount_refused : (r : Refusal) → a ≡ Err r → Err r ≡ mount_answer planet earth t
   unfolding mount_answer mount
-  mount_refused r n f k = let h : place_answer planet earth t ≡ NoPlace r = sym e ∙ f in rw (k, h)
+  mount_refused r f = let h : place_answer planet earth t ≡ Err r = sym e ∙ f in rw h
 
-  pub mount_at : (p : Equatorial) (m : MountPlace) → a ≡ Place p → m ≡ mount_place p → At m ≡ mount_answer planet earth t
+  pub mount_at : (p : Equatorial) (m : MountPlace) → a ≡ Ok p → m ≡ mount_place p → Ok m ≡ mount_answer planet earth t
   unfolding mount_answer mount
-  mount_at p m f k = let h : place_answer planet earth t ≡ Place p = sym e ∙ f in rw (k, h)
+  mount_at p m f k = let h : place_answer planet earth t ≡ Ok p = sym e ∙ f in rw (k, h)
 
-  pub figures_ask : (p : Equatorial) → a ≡ Place p → Small p
+  pub figures_ask : (p : Equatorial) → a ≡ Ok p → Small p
   figures_ask p f = place_small planet earth t p (sym e ∙ f)

@@ -1,16 +1,13 @@
--- The mount's answer (RULES, "Places"): three doubles, or the number of a refusal.
+-- The mount's answer (RULES, "Places"): three doubles, or the refusal.
 use Rattle.std.specs.Prelude.{List, ℕ, ◌^◌, ◌≤◌, ℤ, pos, nat_abs, Float}
 use Rattle.std.specs.Float.{binary64}
 use Rattle.std.specs.Float.Ieee.{of_int, div}
 use Rattle.units.specs.Units.{parts}
 use Rattle.units.specs.declared.Instant.{Instant}
-use Rattle.units.specs.Refusals.{number}
 use Rattle.place.specs.declared.Equatorial.{Equatorial}
 use Rattle.place.specs.declared.MountPlace.{MountPlace}
-use Rattle.place.specs.declared.Mount.{Mount}
-use Rattle.place.specs.declared.Mount.TheVariants.{At, Refused}
-use Rattle.place.specs.declared.PlaceAnswer.{PlaceAnswer}
-use Rattle.place.specs.declared.PlaceAnswer.TheVariants.{Place, NoPlace}
+use Rattle.std.specs.Prelude.{Err, Ok, Result}
+use Rattle.units.specs.declared.Refusal.{Refusal}
 use Rattle.place.specs.Place.{place_answer}
 
 -- One division of doubles, rounded once; both numbers are exact as doubles before it.
@@ -30,11 +27,11 @@ mount_place p = record {
   distance = astronomical_units p.distance;
 }
 
-unfoldable pub mount : PlaceAnswer → Mount
-mount (Place p) = At (mount_place p)
-mount (NoPlace r) = Refused (number r)
+unfoldable pub mount : Result Equatorial Refusal → Result MountPlace Refusal
+mount (Ok p) = Ok (mount_place p)
+mount (Err r) = Err r
 
-unfoldable pub mount_answer : (planet earth : List ℕ) → Instant → Mount
+unfoldable pub mount_answer : (planet earth : List ℕ) → Instant → Result MountPlace Refusal
 mount_answer planet earth t = mount (place_answer planet earth t)
 
 -- The numbers of a place are small enough that each is exact as a double.

@@ -7,16 +7,16 @@ ghost use Rattle.packed.specs.Machine.Table.{table_blocks};
 ghost use Rattle.series.specs.Machine.Table.{Table};
 ghost use Rattle.place.specs.Place.{sight_at, taken_again, of_series, sighting as sighting_of};
 
+use crate::Geocentric;
 use crate::steps::earlier;
-use crate::{Geocentric, Sighting};
 use limits::wide::may_ask;
 use rectangular::from_earth::sight;
-use rectangular::{Frame, Sight};
-use series::table::{Checked, TABLE_ROWS, Table, coordinates, fill};
+use rectangular::{Frame, View};
+use series::table::{TABLE_ROWS, Table, coordinates, fill};
 use units::{Instant, Refusal, in_limit};
 
 // Planet and Earth at an instant at which both series may be asked, from their term tables, in the frame of the catalogues.
-fn both_at(planet: &Table, earth: &Table, t: Instant) -> Sight
+fn both_at(planet: &Table, earth: &Table, t: Instant) -> Option<View>
     requires { (nat_abs t.ms ≤ t_limit) × Table planet.now × Table earth.now
         × (both_asked four_millennia (table_blocks planet.now) (table_blocks earth.now) t.ms ≡ true) }
     ensures { result ≡ sight_at (table_blocks planet.now) (table_blocks earth.now) t }
@@ -27,70 +27,59 @@ fn both_at(planet: &Table, earth: &Table, t: Instant) -> Sight
 }
 
 // The sight at the earlier instant, with D at t.
-fn again(distance: u64, s: Sight) -> Sighting
+fn again(distance: u64, s: Option<View>) -> Result<Geocentric, Refusal>
     ensures { result ≡ taken_again distance s }
 {
-    match s {
-        Sight::Unusable => Sighting::NoSight(Refusal::NotUsable(0)),
-        Sight::Usable(g) => {
-            let vector = g.vector;
-            Sighting::Seen(Geocentric { vector, distance })
-        }
-    }
+    let Some(seen) = s else {
+        return Err(Refusal::NotUsable(0));
+    };
+    let vector = seen.vector;
+    Ok(Geocentric { vector, distance })
 }
 
 // At t, and again at t less the light time. `wide` says whether both series are good for the wide range.
-fn taken(planet: &Table, earth: &Table, wide: bool, t: Instant) -> Sighting
+fn taken(planet: &Table, earth: &Table, wide: bool, t: Instant) -> Result<Geocentric, Refusal>
     requires { (nat_abs t.ms ≤ t_limit) × Table planet.now × Table earth.now
         × (wide ≡ (good_for_wide (table_blocks planet.now) && good_for_wide (table_blocks earth.now))) }
     ensures { result ≡ of_series four_millennia (accepted (table_blocks planet.now)) (accepted (table_blocks earth.now)) t }
 {
     if !may_ask(wide, t) {
-        return Sighting::NoSight(Refusal::TooFar(t));
+        return Err(Refusal::TooFar(t));
     }
-    let first = both_at(planet, earth, t);
-    match first {
-        Sight::Unusable => Sighting::NoSight(Refusal::NotUsable(0)),
-        Sight::Usable(g) => {
-            let distance = g.distance;
-            let before = earlier(t, distance);
-            if !in_limit(before) {
-                return Sighting::NoSight(Refusal::PastLimit(before));
-            }
-            if !may_ask(wide, before) {
-                return Sighting::NoSight(Refusal::TooFar(before));
-            }
-            let second = both_at(planet, earth, before);
-            again(distance, second)
-        }
+    let Some(first) = both_at(planet, earth, t) else {
+        return Err(Refusal::NotUsable(0));
+    };
+    let distance = first.distance;
+    let before = earlier(t, distance);
+    if !in_limit(before) {
+        return Err(Refusal::PastLimit(before));
     }
+    if !may_ask(wide, before) {
+        return Err(Refusal::TooFar(before));
+    }
+    let second = both_at(planet, earth, before);
+    again(distance, second)
 }
 
 // From the packed series, each unpacked once. Takes every input.
-pub fn sighting(planet: &[u8], earth: &[u8], t: Instant) -> Sighting
+pub fn sighting(planet: &[u8], earth: &[u8], t: Instant) -> Result<Geocentric, Refusal>
     ensures { result ≡ sighting_of planet.now earth.now t }
 {
     if !in_limit(t) {
-        return Sighting::NoSight(Refusal::PastLimit(t));
+        return Err(Refusal::PastLimit(t));
     }
     let mut table: Table = [[0; 3]; TABLE_ROWS];
-    match fill(planet, &mut table) {
-        Checked::NoSeries(r) => Sighting::NoSight(r),
-        Checked::Series(content) => with_earth(&table, content.wide, earth, t),
-    }
+    let content = fill(planet, &mut table)?;
+    with_earth(&table, content.wide, earth, t)
 }
 
 // With the planet's term table, and whether its series is good for the wide range.
-fn with_earth(planet: &Table, wide: bool, earth: &[u8], t: Instant) -> Sighting
+fn with_earth(planet: &Table, wide: bool, earth: &[u8], t: Instant) -> Result<Geocentric, Refusal>
     requires { (nat_abs t.ms ≤ t_limit) × Table planet.now × (wide ≡ good_for_wide (table_blocks planet.now)) }
     ensures { result ≡ of_series four_millennia (accepted (table_blocks planet.now)) (parse earth.now) t }
 {
     let mut table: Table = [[0; 3]; TABLE_ROWS];
-    match fill(earth, &mut table) {
-        Checked::NoSeries(r) => Sighting::NoSight(r),
-        Checked::Series(content) => {
-            let good = content.wide;
-            taken(planet, &table, wide & good, t)
-        }
-    }
+    let content = fill(earth, &mut table)?;
+    let good = content.wide;
+    taken(planet, &table, wide & good, t)
 }

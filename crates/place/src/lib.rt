@@ -23,13 +23,6 @@ pub struct Geocentric {
     pub distance: u64,
 }
 
-// What is seen at t: the geocentric vector at t less the light time, with D at t; or the refusal.
-#[derive(Clone, Copy)]
-pub enum Sighting {
-    Seen(Geocentric),
-    NoSight(Refusal),
-}
-
 // The apparent equatorial vector, in parts, with the nutation in longitude and the true obliquity as angles, in 10^-16 radian.
 #[derive(Clone, Copy)]
 pub struct Apparent {
@@ -49,13 +42,6 @@ pub struct Equatorial {
     pub distance: i64,
 }
 
-// What `apparent_place` answers.
-#[derive(Clone, Copy)]
-pub enum PlaceAnswer {
-    Place(Equatorial),
-    NoPlace(Refusal),
-}
-
 // The mount's figures: degrees, degrees and AU.
 #[derive(Clone, Copy)]
 pub struct MountPlace {
@@ -64,36 +50,21 @@ pub struct MountPlace {
     pub distance: f64,
 }
 
-// What `mount_place` answers: the three figures, or the number of the refusal.
-#[derive(Clone, Copy)]
-pub enum Mount {
-    At(MountPlace),
-    Refused(u64),
-}
-
 // The apparent place of a planet at an instant, in the frame of the catalogues, from the packed series of planet and Earth. The answer's distance is that at t.
-pub fn apparent_place(planet: &[u8], earth: &[u8], t: Instant) -> PlaceAnswer
+pub fn apparent_place(planet: &[u8], earth: &[u8], t: Instant) -> Result<Equatorial, Refusal>
     ensures { result ≡ place_answer planet.now earth.now t }
 {
-    let s = sighting(planet, earth, t);
-    match s {
-        Sighting::NoSight(r) => PlaceAnswer::NoPlace(r),
-        Sighting::Seen(g) => {
-            let v = g.vector;
-            let a = apparent(t, v);
-            let w = a.vector;
-            PlaceAnswer::Place(equatorial(w, g.distance))
-        }
-    }
+    let g = sighting(planet, earth, t)?;
+    let v = g.vector;
+    let a = apparent(t, v);
+    let w = a.vector;
+    Ok(equatorial(w, g.distance))
 }
 
 // The same for a mount.
-pub fn mount_place(planet: &[u8], earth: &[u8], t: Instant) -> Mount
+pub fn mount_place(planet: &[u8], earth: &[u8], t: Instant) -> Result<MountPlace, Refusal>
     ensures { result ≡ mount_answer planet.now earth.now t }
 {
-    let p = apparent_place(planet, earth, t);
-    match p {
-        PlaceAnswer::NoPlace(r) => Mount::Refused(r.number()),
-        PlaceAnswer::Place(e) => Mount::At(figures(e)),
-    }
+    let p = apparent_place(planet, earth, t)?;
+    Ok(figures(p))
 }

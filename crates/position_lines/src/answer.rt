@@ -7,11 +7,10 @@ ghost use Rattle.position_lines.specs.Lines.{place_most};
 ghost use Rattle.position_lines.specs.Position.{answer_text, position_text};
 
 use crate::lines::put_place;
-use calendar::InstantAnswer;
 use command_line::arguments::{Triple, instant_of_clock};
-use place::{PlaceAnswer, apparent_place};
+use place::apparent_place;
 use refusal_words::put_refusal;
-use units::Instant;
+use units::{Instant, Refusal};
 
 // The place at an instant, or its refusal.
 fn put_answer(planet: &[u8], earth: &[u8], t: Instant, out: &mut [u8]) -> usize
@@ -20,24 +19,24 @@ fn put_answer(planet: &[u8], earth: &[u8], t: Instant, out: &mut [u8]) -> usize
 {
     let a = apparent_place(planet, earth, t);
     match a {
-        PlaceAnswer::NoPlace(r) => put_refusal(r, out, 0),
-        PlaceAnswer::Place(p) => put_place(p, out),
+        Err(r) => put_refusal(r, out, 0),
+        Ok(p) => put_place(p, out),
     }
 }
 
 // The same where the instant may be refused.
-fn put_at(planet: &[u8], earth: &[u8], when: InstantAnswer, out: &mut [u8]) -> usize
+fn put_at(planet: &[u8], earth: &[u8], when: Result<Instant, Refusal>, out: &mut [u8]) -> usize
     requires { place_most ≤ length out.old }
     ensures { Put out.old 0 (position_text planet.now earth.now when) result out.new }
 {
     match when {
-        InstantAnswer::NoInstant(r) => put_refusal(r, out, 0),
-        InstantAnswer::At(t) => put_answer(planet, earth, t, out),
+        Err(r) => put_refusal(r, out, 0),
+        Ok(t) => put_answer(planet, earth, t, out),
     }
 }
 
 // The instant of year, month and day, and hour, minute and second.
-fn instant_of(date: Triple, clock: Triple) -> InstantAnswer
+fn instant_of(date: Triple, clock: Triple) -> Result<Instant, Refusal>
     ensures { result ≡ instant_of_clock date.first date.second date.third clock.first clock.second clock.third }
 {
     instant_of_clock(

@@ -12,7 +12,7 @@ ghost use Rattle.command_line.specs.Machine.Arguments.{first_limit};
 
 use crate::answer::put_position;
 use crate::lines::PLACE_MOST;
-use command_line::arguments::{Three, Triple, three_arguments};
+use command_line::arguments::{Triple, three_arguments};
 use command_line::files::{Both, PACKED_ROOM, first_bytes, read_both};
 use std::env::Env;
 use std::fs::Files;
@@ -29,10 +29,10 @@ enum Asked {
 fn time_asked(rt: &impl Env, first: usize) -> Asked
     requires { first ≤ first_limit }
 {
-    let Three::Numbers(date) = three_arguments(rt, first + 2) else {
+    let Some(date) = three_arguments(rt, first + 2) else {
         return Asked::Unclear;
     };
-    let Three::Numbers(clock) = three_arguments(rt, first + 5) else {
+    let Some(clock) = three_arguments(rt, first + 5) else {
         return Asked::Unclear;
     };
     Asked::For(date, clock)

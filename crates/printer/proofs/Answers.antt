@@ -8,34 +8,33 @@ use lib.ListN.{length}
 use Rattle.units.specs.declared.Refusal.{Refusal}
 use Rattle.units.specs.declared.Refusal.TheVariants.{NoRoom}
 use Rattle.limits.specs.declared.Term.{Term}
-use Rattle.packed.specs.declared.Checked.TheVariants.{NoSeries}
+use Rattle.std.specs.Prelude.{Err, Ok}
 use Rattle.units.specs.Units.{series_limit}
 use Rattle.packed.specs.Series.{Parsed, accepted, refused, parse, checked}
 use Rattle.limits.specs.Allowed.{term_count}
 use Rattle.packed.specs.Machine.Table.{ends, table_blocks, unpacked}
 use Rattle.packed_promises.proofs.Theorems.{accepted_allowed}
-use Rattle.printer.specs.declared.Printed.TheVariants.{Length, NoText}
 use Rattle.printer.specs.Printer.{plain_text, text_fits, printed, printed_out}
 use Rattle.printer.specs.Machine.Writing.{Wrote, Ordered}
 use Rattle.printer.proofs.TableText.{ends_ordered}
 
 -- The text fits, or not.
 module _ (blocks : List (List Term)) (out : List ℕ) (n : ℕ) (e : n ≡ length (plain_text blocks)) where
-  pub table_over : length out < n → (NoText (NoRoom n) ≡ printed (accepted blocks) out) × (out ≡ printed_out (accepted blocks) out)
+  pub table_over : length out < n → (Err (NoRoom n) ≡ printed (accepted blocks) out) × (out ≡ printed_out (accepted blocks) out)
   unfolding printed printed_out text_fits
   table_over h = let f = lt-leb (length (plain_text blocks)) (length out) (rw e at h) in (rw (f, e), rw f)
 
   pub table_fits : (to : ℕ) (after : List ℕ) → n ≤ length out → Wrote (plain_text blocks) 0 out to after
-      → (Length n ≡ printed (accepted blocks) out) × (after ≡ printed_out (accepted blocks) out)
+      → (Ok n ≡ printed (accepted blocks) out) × (after ≡ printed_out (accepted blocks) out)
   unfolding printed printed_out text_fits
   table_fits to after h w = let f = le-leb (length (plain_text blocks)) (length out) (rw e at h) in (rw (f, e), rw f w.holds)
 
 -- A refused series.
-pub print_refused : (s out : List ℕ) (q : Refusal) → checked (parse s) ≡ NoSeries q → (NoText q ≡ printed (parse s) out) × (out ≡ printed_out (parse s) out)
+pub print_refused : (s out : List ℕ) (q : Refusal) → checked (parse s) ≡ Err q → (Err q ≡ printed (parse s) out) × (out ≡ printed_out (parse s) out)
 unfolding checked printed printed_out
 print_refused s out q e = go (parse s) e
   where
-    go : (p : Parsed) → checked p ≡ NoSeries q → (NoText q ≡ printed p out) × (out ≡ printed_out p out)
+    go : (p : Parsed) → checked p ≡ Err q → (Err q ≡ printed p out) × (out ≡ printed_out p out)
     go (accepted blocks) e = let z : ◌≡◌ {A = ℕ} 0 1 = cc in absurd (omega arith)
     go (refused r) e = let p : r ≡ q = cc in (rw p, refl)
 
@@ -44,11 +43,11 @@ pub record Opened (s : List ℕ) (rows : List (List ℕ)) : Type 0 where
   pub is : parse s ≡ accepted (table_blocks rows)
   pub ordered : Ordered 0 (ends rows)
 
-pub opened : (s : List ℕ) (rows : List (List ℕ)) → ((q : Refusal) → checked (parse s) ≡ NoSeries q → ⊥) → unpacked (parse s) rows → Opened s rows
+pub opened : (s : List ℕ) (rows : List (List ℕ)) → ((q : Refusal) → checked (parse s) ≡ Err q → ⊥) → unpacked (parse s) rows → Opened s rows
 unfolding checked unpacked
 opened s rows n u = go (parse s) refl n u
   where
-    go : (p : Parsed) → parse s ≡ p → ((q : Refusal) → checked p ≡ NoSeries q → ⊥) → unpacked p rows → Opened s rows
+    go : (p : Parsed) → parse s ≡ p → ((q : Refusal) → checked p ≡ Err q → ⊥) → unpacked p rows → Opened s rows
     go (accepted blocks) f n h =
         record { is = f ∙ ap accepted (sym h.table); ordered = rw h.places (ends_ordered 0 blocks (plus (accepted_allowed s blocks f).few)) }
       where

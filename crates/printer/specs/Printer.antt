@@ -9,8 +9,8 @@ use Rattle.units.specs.declared.Refusal.TheVariants.{NoRoom}
 use Rattle.limits.specs.declared.Term.{Term}
 use Rattle.packed.specs.Series.{Parsed, accepted, refused}
 use Rattle.series_lines.specs.Grammar.{count_digits, part_digits, Decimal, CountLine, TermLine, Block, blocks_bytes}
-use Rattle.printer.specs.declared.Printed.{Printed}
-use Rattle.printer.specs.declared.Printed.TheVariants.{Length, NoText}
+use Rattle.std.specs.Prelude.{Err, Ok, Result}
+use Rattle.units.specs.declared.Refusal.{Refusal}
 
 -- The last n digits of v, leading zeros too.
 unfoldable pub last_digits : ℕ → ℕ → List ℕ
@@ -81,9 +81,9 @@ text_limit = block_count * count_line_limit + series_limit * term_line_limit
 unfoldable pub text_fits : List (List Term) → List ℕ → Bool
 text_fits blocks out = leb (length (plain_text blocks)) (length out)
 
-unfoldable pub printed : Parsed → List ℕ → Printed
-printed (accepted blocks) out = cond (text_fits blocks out) (Length (length (plain_text blocks))) (NoText (NoRoom (length (plain_text blocks))))
-printed (refused r) out = NoText r
+unfoldable pub printed : Parsed → List ℕ → Result ℕ Refusal
+printed (accepted blocks) out = cond (text_fits blocks out) (Ok (length (plain_text blocks))) (Err (NoRoom (length (plain_text blocks))))
+printed (refused r) out = Err r
 
 unfoldable pub printed_out : Parsed → List ℕ → List ℕ
 printed_out (accepted blocks) out = cond (text_fits blocks out) (sets out 0 (plain_text blocks)) out

@@ -12,7 +12,6 @@ ghost use Rattle.printer.specs.Printer.{printed, printed_out};
 ghost use Rattle.printer.specs.Machine.Writing.{Ordered};
 
 use blocks::{put_blocks, text_length};
-use packed::Checked;
 use packed::table::{TABLE_ROWS, Table, unpack};
 use series_lines::lexer::{COUNT_DIGITS, PART_DIGITS};
 use units::{BLOCK_COUNT, Refusal, SERIES_LIMIT};
@@ -28,36 +27,26 @@ const TERM_LINE_LIMIT: u64 = 2 + (5 + 1 + 6) + 3 * (1 + PART_DIGITS) + 2 + 1;
 pub const TEXT_LIMIT: usize = (BLOCK_COUNT * COUNT_LINE_LIMIT
     + SERIES_LIMIT * TERM_LINE_LIMIT) as usize;
 
-// What printing answers: the length of the text, or the refusal.
-#[derive(Clone, Copy)]
-pub enum Printed {
-    Length(usize),
-    NoText(Refusal),
-}
-
 // Prints the blocks of a term table, where their text fits.
-fn print_table(table: &Table, out: &mut [u8]) -> Printed
+fn print_table(table: &Table, out: &mut [u8]) -> Result<usize, Refusal>
     requires { Sized table.now × Ordered 0 (ends table.now) }
     ensures { (result ≡ printed (accepted (table_blocks table.now)) out.old)
         × (out.new ≡ printed_out (accepted (table_blocks table.now)) out.old) }
 {
     let n = text_length(table);
     if out.len() < n {
-        return Printed::NoText(Refusal::NoRoom(n));
+        return Err(Refusal::NoRoom(n));
     }
     put_blocks(table, out);
-    Printed::Length(n)
+    Ok(n)
 }
 
 // Prints the plain text of a packed series into out: its length, or the refusal of the series, or 7 with the length that it would need.
-pub fn print(packed: &[u8], out: &mut [u8]) -> Printed
+pub fn print(packed: &[u8], out: &mut [u8]) -> Result<usize, Refusal>
     ensures { (result ≡ printed (parse packed.now) out.old)
         × (out.new ≡ printed_out (parse packed.now) out.old) }
 {
     let mut table: Table = [[0; 3]; TABLE_ROWS];
-    let read = unpack(packed, &mut table);
-    match read {
-        Checked::NoSeries(r) => Printed::NoText(r),
-        Checked::Series(_) => print_table(&table, out),
-    }
+    let _content = unpack(packed, &mut table)?;
+    print_table(&table, out)
 }

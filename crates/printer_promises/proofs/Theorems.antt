@@ -18,7 +18,7 @@ use Rattle.text.specs.Reader.{whole}
 use Rattle.series_lines.specs.Grammar.{Block, blocks_bytes, blocks_of_lines, GoodText, InLimits}
 use Rattle.text_promises.proofs.Theorems.{read_text, accepted_text}
 use Rattle.text_promises.proofs.Series.{front, text_allowed, reads_packed}
-use Rattle.printer.specs.declared.Printed.TheVariants.{Length}
+use Rattle.std.specs.Prelude.{Ok}
 use Rattle.printer.specs.Printer.{plain_block, plain_text, text_limit, text_fits, printed, printed_out}
 use Rattle.printer_promises.specs.Plain.{PlainText}
 use Rattle.printer_promises.proofs.Spacing.{text_plain}
@@ -65,7 +65,7 @@ print_read x out blocks b e h =
 
 -- A plain text, as the reader takes it, is printed back as it was, from the bytes that the reader gives for it.
 pub read_print : (ks : List Block) (out : List ℕ) → GoodText ks → InLimits ks → PlainText (blocks_bytes ks) → length (blocks_bytes ks) ≤ length out
-    → (printed (parse (pack (blocks_of_lines ks))) out ≡ Length (length (blocks_bytes ks)))
+    → (printed (parse (pack (blocks_of_lines ks))) out ≡ Ok (length (blocks_bytes ks)))
     × (printed_out (parse (pack (blocks_of_lines ks))) out ≡ sets out 0 (blocks_bytes ks))
 unfolding printed printed_out text_fits plain_text
 read_print ks out g l p h =
@@ -75,13 +75,13 @@ read_print ks out g l p h =
 
 -- So an accepted plain text is printed back as it was, from the bytes that the reader wrote.
 pub accepted_printed : (text buffer out : List ℕ) (n : ℕ) → told (whole text buffer).reader ≡ Accepted n → PlainText text → length text ≤ length out
-    → (printed (parse (take n (whole text buffer).out)) out ≡ Length (length text))
+    → (printed (parse (take n (whole text buffer).out)) out ≡ Ok (length text))
     × (printed_out (parse (take n (whole text buffer).out)) out ≡ sets out 0 text)
 accepted_printed text buffer out n e p h =
     let r = accepted_text text buffer n e in
     let b = reads_packed text buffer n r in
     let q = read_print r.ks out r.good r.limits (rw r.is at p) (rw r.is at h) in (
-      ap (λ (s : List ℕ). printed (parse s) out) b ∙ (q.0 ∙ ap (λ (t : List ℕ). Length (length t)) (sym r.is)),
+      ap (λ (s : List ℕ). printed (parse s) out) b ∙ (q.0 ∙ ap (λ (t : List ℕ). Ok (length t)) (sym r.is)),
       ap (λ (s : List ℕ). printed_out (parse s) out) b ∙ (q.1 ∙ ap (λ (t : List ℕ). sets out 0 t) (sym r.is)),
     )
 

@@ -12,8 +12,7 @@ use Rattle.rectangular.specs.declared.Vector.{Vector}
 use Rattle.rectangular.specs.declared.View.{View}
 use Rattle.rectangular.specs.declared.Frame.{Frame}
 use Rattle.rectangular.specs.declared.Frame.TheVariants.{Theory}
-use Rattle.rectangular.specs.declared.Sight.{Sight}
-use Rattle.rectangular.specs.declared.Sight.TheVariants.{Usable, Unusable}
+use Rattle.std.specs.Prelude.{None, Option, Some}
 use Rattle.rectangular.specs.Vectors.{geocentric, length}
 use Rattle.rectangular.specs.Rectangular.{place}
 use Rattle.rectangular.specs.Frames.{in_frame}
@@ -45,11 +44,11 @@ module _ (p e : Vector) (hp : Components (2 ^ 44) p) (he : Components (2 ^ 44) e
       usable_is : usable rp re (length (geocentric p e)) ≡ b
       usable_is = sym (pb ∙ rw (cell rp (radius_in rp up), cell re (radius_in re ue), pd, pg))
 
-      pub distance_refused : not b ≡ true → Unusable ≡ sight_from rp re p e
+      pub distance_refused : not b ≡ true → None ≡ sight_from rp re p e
       unfolding sight_from
       distance_refused h = rw (usable_is ∙ not-true b h)
 
-      pub seen_is : not b ≡ false → Usable (record { earth = e; vector = g; distance = d }) ≡ sight_from rp re p e
+      pub seen_is : not b ≡ false → Some (record { earth = e; vector = g; distance = d }) ≡ sight_from rp re p e
       unfolding sight_from
       seen_is h = rw (usable_is ∙ not-false b h, pd, pg)
 
@@ -60,7 +59,7 @@ module _ (rp re : ℤ) (cp : Cell rp ≡ rp) (ce : Cell re ≡ re) where
     told : (radius_usable rp && radius_usable re) ≡ b
     told = ap₂ (λ (x y : ℤ). radius_usable x && radius_usable y) (sym cp) (sym ce) ∙ sym pb
 
-    pub radii_refused : not b ≡ true → (p e : Vector) → Unusable ≡ sight_from rp re p e
+    pub radii_refused : not b ≡ true → (p e : Vector) → None ≡ sight_from rp re p e
     unfolding sight_from usable
     radii_refused h p e = rw (fails (radius_usable rp) (radius_usable re) _ (told ∙ not-true b h))
       where
@@ -72,30 +71,30 @@ module _ (rp re : ℤ) (cp : Cell rp ≡ rp) (ce : Cell re ≡ re) where
     pub radii_pass : not b ≡ false → (radius_usable rp ≡ true) × (radius_usable re ≡ true)
     radii_pass h = both (radius_usable rp) (radius_usable re) (told ∙ not-false b h)
 
-  pub sight_told : (p e p' e' : Vector) (r : Sight) → p ≡ p' → e ≡ e' → r ≡ sight_from (Cell rp) (Cell re) p e → r ≡ sight_from rp re p' e'
+  pub sight_told : (p e p' e' : Vector) (r : Option View) → p ≡ p' → e ≡ e' → r ≡ sight_from (Cell rp) (Cell re) p e → r ≡ sight_from rp re p' e'
   sight_told p e p' e' r pp pe h = h ∙ rw (cp, ce, pp, pe)
 
 -- ---- What a sight tells its callers.
 
 module _ (rp re : ℤ) (p e : Vector) where
-  seen_then : (b : Bool) (v : View) → cond b (Usable (view_from p e)) Unusable ≡ Usable v → (b ≡ true) × (v ≡ view_from p e)
+  seen_then : (b : Bool) (v : View) → cond b (Some (view_from p e)) None ≡ Some v → (b ≡ true) × (v ≡ view_from p e)
   seen_then true v h = (refl, cc)
   seen_then false v h = let z : ◌≡◌ {A = ℕ} 0 1 = cc in absurd (omega arith)
 
-  unseen_then : (b : Bool) → cond b (Usable (view_from p e)) Unusable ≡ Unusable → b ≡ false
+  unseen_then : (b : Bool) → cond b (Some (view_from p e)) None ≡ None → b ≡ false
   unseen_then true h = let z : ◌≡◌ {A = ℕ} 0 1 = cc in absurd (omega arith)
   unseen_then false h = refl
 
-  from_unusable : sight_from rp re p e ≡ Unusable → usable rp re (length (geocentric p e)) ≡ false
+  from_unusable : sight_from rp re p e ≡ None → usable rp re (length (geocentric p e)) ≡ false
   unfolding sight_from
   from_unusable h = unseen_then (usable rp re (length (geocentric p e))) h
 
-  from_usable : (v : View) → sight_from rp re p e ≡ Usable v → (usable rp re (length (geocentric p e)) ≡ true) × (v ≡ view_from p e)
+  from_usable : (v : View) → sight_from rp re p e ≡ Some v → (usable rp re (length (geocentric p e)) ≡ true) × (v ≡ view_from p e)
   unfolding sight_from
   from_usable v h = seen_then (usable rp re (length (geocentric p e))) v h
 
 -- In a frame: how large what is seen is.
-module _ (f : Frame) (planet earth : Coordinates) (v : View) (h : sight f planet earth ≡ Usable v) where
+module _ (f : Frame) (planet earth : Coordinates) (v : View) (h : sight f planet earth ≡ Some v) where
   pub sight_in : Components (grown greatest_radius + grown greatest_radius) v.vector × (v.distance < 2 ^ 46)
   unfolding sight
   sight_in =
@@ -107,11 +106,11 @@ module _ (f : Frame) (planet earth : Coordinates) (v : View) (h : sight f planet
 
 -- In the theory's frame.
 module _ (planet earth : Coordinates) where
-  pub sight_unusable : sight Theory planet earth ≡ Unusable → places_usable planet earth ≡ false
+  pub sight_unusable : sight Theory planet earth ≡ None → places_usable planet earth ≡ false
   unfolding sight in_frame places_usable distance
   sight_unusable h = from_unusable _ _ _ _ h
 
-  pub sight_usable : (v : View) → sight Theory planet earth ≡ Usable v → (places_usable planet earth ≡ true) × (v ≡ view planet earth)
+  pub sight_usable : (v : View) → sight Theory planet earth ≡ Some v → (places_usable planet earth ≡ true) × (v ≡ view planet earth)
   unfolding sight in_frame places_usable distance
   sight_usable v h = from_usable _ _ _ _ v h
 

@@ -6,8 +6,7 @@ use Rattle.units.specs.declared.Coordinates.{Coordinates}
 use Rattle.rectangular.specs.declared.Vector.{Vector}
 use Rattle.rectangular.specs.declared.View.{View}
 use Rattle.rectangular.specs.declared.Frame.{Frame}
-use Rattle.rectangular.specs.declared.Sight.{Sight}
-use Rattle.rectangular.specs.declared.Sight.TheVariants.{Usable, Unusable}
+use Rattle.std.specs.Prelude.{None, Option, Some}
 use Rattle.rectangular.specs.Vectors.{geocentric, length}
 use Rattle.rectangular.specs.Rectangular.{place}
 use Rattle.rectangular.specs.Frames.{in_frame}
@@ -38,11 +37,11 @@ abbrev pub view_from : (planet earth : Vector) → View
 view_from p e = record { earth = e; vector = geocentric p e; distance = length (geocentric p e) }
 
 -- The same where both R and D are usable.
-unfoldable pub sight_from : (planet_radius earth_radius : ℤ) (planet earth : Vector) → Sight
-sight_from rp re p e = cond (usable rp re (length (geocentric p e))) (Usable (view_from p e)) Unusable
+unfoldable pub sight_from : (planet_radius earth_radius : ℤ) (planet earth : Vector) → Option View
+sight_from rp re p e = cond (usable rp re (length (geocentric p e))) (Some (view_from p e)) None
 
 -- A planet and Earth in a frame.
-unfoldable pub sight : Frame → (planet earth : Coordinates) → Sight
+unfoldable pub sight : Frame → (planet earth : Coordinates) → Option View
 sight f planet earth = sight_from planet.radius earth.radius (in_frame f (place planet)) (in_frame f (place earth))
 
 -- In the theory's frame, for the Sun list: D, whether both places are usable, and what is then seen.

@@ -4,7 +4,7 @@ ghost use Rattle.rectangular.specs.Sight.{radius_usable, usable as usable_of, si
 ghost use Rattle.rectangular.specs.Machine.Components.{Components};
 
 use crate::frames::place_in;
-use crate::{Frame, Sight, Vector, View, geocentric, length};
+use crate::{Frame, Vector, View, geocentric, length};
 use arith::signed::wide;
 use units::{Coordinates, PARTS};
 
@@ -43,16 +43,16 @@ fn usable_distance(planet: i64, earth: i64, distance: u64) -> bool
 }
 
 // For two R that are usable, and both vectors in one frame: the geocentric vector and D, if D is usable.
-fn seen(planet: i64, earth: i64, p: Vector, e: Vector) -> Sight
+fn seen(planet: i64, earth: i64, p: Vector, e: Vector) -> Option<View>
     requires { (radius_usable planet ≡ true) × (radius_usable earth ≡ true) × Components (2 ^ 44) p × Components (2 ^ 44) e }
     ensures { result ≡ sight_from planet earth p e }
 {
     let vector = geocentric(p, e);
     let distance = length(vector);
     if !usable_distance(planet, earth, distance) {
-        return Sight::Unusable;
+        return None;
     }
-    Sight::Usable(View {
+    Some(View {
         earth: e,
         vector,
         distance,
@@ -60,11 +60,11 @@ fn seen(planet: i64, earth: i64, p: Vector, e: Vector) -> Sight
 }
 
 // Both bodies in one frame. Both R are tested before the vectors are worked.
-pub fn sight(frame: Frame, planet: Coordinates, earth: Coordinates) -> Sight
+pub fn sight(frame: Frame, planet: Coordinates, earth: Coordinates) -> Option<View>
     ensures { result ≡ sight_of frame planet earth }
 {
     if !usable_radii(planet.radius, earth.radius) {
-        return Sight::Unusable;
+        return None;
     }
     let p = place_in(frame, planet);
     let e = place_in(frame, earth);

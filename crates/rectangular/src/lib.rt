@@ -42,13 +42,6 @@ pub struct View {
     pub distance: u64,
 }
 
-// A planet and Earth at one instant: their places are usable, or not.
-#[derive(Clone, Copy)]
-pub enum Sight {
-    Usable(View),
-    Unusable,
-}
-
 // From a radius and the angles of B and L, in 10^-16 radian.
 pub fn from_angles(radius: i64, latitude: u64, longitude: u64) -> Vector
     requires { (nat_abs radius < 2 ^ 63) × (latitude < 2 ^ 63) × (longitude < 2 ^ 63) }

@@ -13,8 +13,7 @@ use Rattle.limits.specs.Allowed.{Allowed}
 use Rattle.limits.specs.Wide.{good_for_wide, reaches}
 use Rattle.limits.proofs.Reach.{reaches_is}
 use Rattle.packed.specs.declared.Content.{Content}
-use Rattle.packed.specs.declared.Checked.{Checked}
-use Rattle.packed.specs.declared.Checked.TheVariants.{Series, NoSeries}
+use Rattle.std.specs.Prelude.{Err, Ok, Result}
 use Rattle.packed.specs.Series.{Parsed, accepted, refused, parse, checked}
 use Rattle.packed.specs.Machine.Table.{Sized, Holds, table_blocks, unpacked}
 use Rattle.series.specs.Machine.Table.{Table, TableOf, filled}
@@ -47,12 +46,12 @@ pub record SeriesIn (bytes : List ℕ) (rows : List (List ℕ)) (c : Content) : 
   pub table : Table rows
   pub wide : c.wide ≡ good_for_wide (table_blocks rows)
 
-accepted_of : (p : Parsed) (c : Content) → checked p ≡ Series c → (bs : List (List Term)) × (p ≡ accepted bs) × (c.wide ≡ good_for_wide bs)
+accepted_of : (p : Parsed) (c : Content) → checked p ≡ Ok c → (bs : List (List Term)) × (p ≡ accepted bs) × (c.wide ≡ good_for_wide bs)
 unfolding checked
 accepted_of (accepted bs) c e = (bs, refl, (cc))
 accepted_of (refused r) c e = let z : ◌≡◌ {A = ℕ} 0 1 = cc in absurd (omega arith)
 
-pub series_in : (bytes : List ℕ) (rows : List (List ℕ)) (k : Checked) (c : Content) → k ≡ Series c → k ≡ checked (parse bytes)
+pub series_in : (bytes : List ℕ) (rows : List (List ℕ)) (k : Result Content Refusal) (c : Content) → k ≡ Ok c → k ≡ checked (parse bytes)
     → filled (parse bytes) rows → SeriesIn bytes rows c
 series_in bytes rows k c e f u =
     let p = accepted_of (parse bytes) c (sym f ∙ e) in
@@ -70,7 +69,7 @@ module _ (bytes : List ℕ) (rows : List (List ℕ)) (c : Content) (u : SeriesIn
   pub told_far : not b ≡ true → reaches (table_blocks rows) t ≡ false
   told_far f = sym (reaches_is (table_blocks rows) t c.wide u.wide) ∙ sym e ∙ not-true b f
 
-pub refused_of : (p : Parsed) (k : Checked) (r : Refusal) → k ≡ NoSeries r → k ≡ checked p → p ≡ refused r
+pub refused_of : (p : Parsed) (k : Result Content Refusal) (r : Refusal) → k ≡ Err r → k ≡ checked p → p ≡ refused r
 unfolding checked
 refused_of (accepted bs) k r e f = let z : ◌≡◌ {A = ℕ} 0 1 = cc in absurd (omega arith)
 refused_of (refused q) k r e f = let v : q ≡ r = cc in ap refused v

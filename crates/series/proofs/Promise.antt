@@ -12,7 +12,7 @@ use Rattle.limits.specs.declared.Term.{Term}
 use Rattle.limits.specs.Allowed.{Allowed}
 use Rattle.limits.specs.Wide.{reaches}
 use Rattle.packed.specs.Series.{parse, accepted}
-use Rattle.series.specs.declared.CoordinatesAnswer.TheVariants.{At}
+use Rattle.std.specs.Prelude.{Ok}
 use Rattle.series.specs.Sums.{coordinates_answer, coordinates, longitude_blocks, latitude_blocks, radius_blocks}
 use Rattle.series.specs.Exact.{exact_longitude, exact_latitude, exact_radius, NearExact}
 use Rattle.series.proofs.Reach.{in_reach}
@@ -29,7 +29,7 @@ coordinates_near t bs a h e =
 
 -- Whatever bytes and whatever instant the call is given: where it answers coordinates, the bytes are a series, and the coordinates
 -- are near its exact sums.
-pub P2 : (bytes : List ℕ) (t : Instant) (c : Coordinates) → coordinates_answer bytes t ≡ At c
+pub P2 : (bytes : List ℕ) (t : Instant) (c : Coordinates) → coordinates_answer bytes t ≡ Ok c
     → (blocks : List (List Term)) × (parse bytes ≡ accepted blocks) × NearExact c t.ms blocks
 P2 bytes t c e =
     let a = answered bytes t c e in (

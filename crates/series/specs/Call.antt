@@ -4,8 +4,8 @@ use Rattle.units.specs.declared.Instant.{Instant}
 use Rattle.units.specs.declared.Coordinates.{Coordinates}
 use Rattle.limits.specs.declared.Term.{Term}
 use Rattle.packed.specs.Series.{parse, accepted}
-use Rattle.series.specs.declared.CoordinatesAnswer.{CoordinatesAnswer}
-use Rattle.series.specs.declared.CoordinatesAnswer.TheVariants.{At}
+use Rattle.std.specs.Prelude.{Ok, Result}
+use Rattle.units.specs.declared.Refusal.{Refusal}
 use Rattle.series.specs.Sums.{coordinates_answer}
 use Rattle.series.specs.Exact.{NearExact}
 
@@ -16,6 +16,6 @@ pub record NearSeries (bytes : List ℕ) (t : Instant) (c : Coordinates) : Type 
   pub near : NearExact c t.ms blocks
 
 -- Of the bytes, the instant and the answer r.
-pub record CoordinatesPromised (bytes : List ℕ) (t : Instant) (r : CoordinatesAnswer) : Type 0 where
+pub record CoordinatesPromised (bytes : List ℕ) (t : Instant) (r : Result Coordinates Refusal) : Type 0 where
   pub answer : r ≡ coordinates_answer bytes t
-  pub near_series : (c : Coordinates) → r ≡ At c → NearSeries bytes t c
+  pub near_series : (c : Coordinates) → r ≡ Ok c → NearSeries bytes t c

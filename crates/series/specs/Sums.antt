@@ -9,8 +9,8 @@ use Rattle.limits.specs.declared.Term.{Term}
 use Rattle.limits.specs.Wide.{Range, four_millennia}
 use Rattle.packed.specs.Series.{Parsed, accepted, refused, parse}
 use Rattle.pieces.specs.Sums.{block_sum}
-use Rattle.series.specs.declared.CoordinatesAnswer.{CoordinatesAnswer}
-use Rattle.series.specs.declared.CoordinatesAnswer.TheVariants.{At, NoCoordinates}
+use Rattle.std.specs.Prelude.{Err, Ok, Result}
+use Rattle.units.specs.declared.Refusal.{Refusal}
 
 -- V of the blocks of a coordinate, from some power on: the sum of the first, and what is above it carried by t/T.
 unfoldable pub running_sum : ℤ → List (List Term) → ℤ
@@ -37,13 +37,13 @@ coordinates t blocks = record {
 
 -- What the call answers over a range of time. An instant that the range does not take is refused before the series, and one at which this series
 -- may not be asked after it: 2, what the series is refused for, 17 (RULES, "Refusals and what they leave").
-unfoldable pub of_parsed : Range → Instant → Parsed → CoordinatesAnswer
-of_parsed range t (accepted blocks) = cond (range.asked blocks t.ms) (At (coordinates t.ms blocks)) (NoCoordinates (TooFar t))
-of_parsed range t (refused r) = NoCoordinates r
+unfoldable pub of_parsed : Range → Instant → Parsed → Result Coordinates Refusal
+of_parsed range t (accepted blocks) = cond (range.asked blocks t.ms) (Ok (coordinates t.ms blocks)) (Err (TooFar t))
+of_parsed range t (refused r) = Err r
 
-unfoldable pub coordinates_by : Range → List ℕ → Instant → CoordinatesAnswer
-coordinates_by range bytes t = cond (range.taken t.ms) (of_parsed range t (parse bytes)) (NoCoordinates (PastLimit t))
+unfoldable pub coordinates_by : Range → List ℕ → Instant → Result Coordinates Refusal
+coordinates_by range bytes t = cond (range.taken t.ms) (of_parsed range t (parse bytes)) (Err (PastLimit t))
 
 -- What it answers: up to four millennia.
-abbrev pub coordinates_answer : List ℕ → Instant → CoordinatesAnswer
+abbrev pub coordinates_answer : List ℕ → Instant → Result Coordinates Refusal
 coordinates_answer bytes t = coordinates_by four_millennia bytes t

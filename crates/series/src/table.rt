@@ -9,17 +9,16 @@ ghost use Rattle.series.specs.Machine.Table.{Table, filled};
 
 use crate::sums::{COORDINATE_BLOCKS, coordinate};
 use cosine::term::prepare;
+use packed::Content;
 use packed::table::unpack;
-use units::{Coordinates, Instant};
-
-pub type Checked = packed::Checked;
+use units::{Coordinates, Instant, Refusal};
 
 pub type Table = packed::table::Table;
 
 pub const TABLE_ROWS: usize = packed::table::TABLE_ROWS;
 
 // Reads a packed series into the table. The answer is what it holds, or the refusal, after which the table is of no use.
-pub fn fill(packed: &[u8], table: &mut Table) -> Checked
+pub fn fill(packed: &[u8], table: &mut Table) -> Result<Content, Refusal>
     requires { Sized table.old }
     ensures { (result ≡ checked (parse packed.now)) × filled (parse packed.now) table.new }
 {

@@ -13,7 +13,7 @@ use Rattle.packed.specs.Series.{accepted, parse, judged, read_a, read_b, read_c,
 use Rattle.packed_promises.proofs.Theorems.{padded}
 use Rattle.limits.specs.Wide.{reaches}
 use Rattle.series.specs.Sums.{of_parsed, coordinates_answer}
-use Rattle.series.specs.declared.CoordinatesAnswer.TheVariants.{At as AtCoordinates}
+use Rattle.std.specs.Prelude.{Ok}
 use Rattle.series.proofs.Answering.{answers_parsed}
 use Rattle.series.proofs.Figures.{constant_rate, figures as rate_figures}
 use Rattle.place.proofs.Light.{light_times}
@@ -32,7 +32,7 @@ rate_parsed = refl
 
 rate_answer : coordinates_answer rate_bytes rate_instant ≡ rate_coordinates
 unfolding of_parsed within reaches
-rate_answer = sym (answers_parsed rate_bytes rate_instant (accepted constant_rate) refl rate_parsed) ∙ ap AtCoordinates rate_figures
+rate_answer = sym (answers_parsed rate_bytes rate_instant (accepted constant_rate) refl rate_parsed) ∙ ap Ok rate_figures
 
 -- A case and the cases after it.
 infixr 5 ◌&◌

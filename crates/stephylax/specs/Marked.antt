@@ -7,8 +7,9 @@ use Rattle.calendar.specs.Promises.{Figure, Right as RightDate, marked as marked
 use Rattle.cosine.specs.Cosine.{cosine}
 use Rattle.packed.specs.Series.{Parsed, refused, parse}
 use Rattle.series.specs.Sums.{coordinates_answer}
-use Rattle.series.specs.declared.CoordinatesAnswer.{CoordinatesAnswer}
-use Rattle.series.specs.declared.CoordinatesAnswer.TheVariants.{At as AtCoordinates}
+use Rattle.std.specs.Prelude.{Ok, Result}
+use Rattle.units.specs.declared.Coordinates.{Coordinates}
+use Rattle.units.specs.declared.Refusal.{Refusal}
 use Rattle.place.specs.Apparent.{light_time}
 
 -- A figure of the calendar (calendar/specs/Promises.antt has the nine); an angle and its cosine; a distance and its light time; packed
@@ -17,7 +18,7 @@ pub data Case : Type 0 where
   date : Figure → Case
   cosine_at : ℤ → ℤ → Case
   light : ℕ → ℤ → Case
-  coordinates_at : List ℕ → Instant → CoordinatesAnswer → Case
+  coordinates_at : List ℕ → Instant → Result Coordinates Refusal → Case
   packed : List ℕ → Parsed → Case
 
 -- The definitions that the library is proved against give the case's answer.
@@ -42,8 +43,8 @@ rate_bytes =
 abbrev pub rate_instant : Instant
 rate_instant = record { ms = neg_ℤ (pos 15778800000000) }
 
-abbrev pub rate_coordinates : CoordinatesAnswer
-rate_coordinates = AtCoordinates (record { longitude = neg_ℤ (pos 150000000000); latitude = pos 0; radius = pos 0 })
+abbrev pub rate_coordinates : Result Coordinates Refusal
+rate_coordinates = Ok (record { longitude = neg_ℤ (pos 150000000000); latitude = pos 0; radius = pos 0 })
 
 -- The calendar's figures, then other cases.
 abbrev pub after_dates : List Figure → List Case → List Case

@@ -18,7 +18,7 @@ use Rattle.limits.specs.declared.Term.{Term}
 use Rattle.limits.specs.Wide.{four_millennia}
 use Rattle.packed.specs.Series.{Parsed, accepted, refused, parse}
 use Rattle.runs.specs.Runs.{run_numbers}
-use Rattle.sunlist.specs.declared.ListAnswer.TheVariants.{Runs, NoList}
+use Rattle.std.specs.Prelude.{Err, Ok}
 use Rattle.sunlist.specs.SunList.{minute, window_fits, decision_at, first_bad, window_flags, Outcome, numbers, no_numbers, of_minutes}
 use Rattle.sunlist.specs.SunList.{first_unasked, of_blocks, of_series, outcome_by, outcome, answered, written}
 use Rattle.sunlist.specs.SunList.{sun_list_by, sun_list_out_by, sun_list, sun_list_out}
@@ -53,11 +53,11 @@ passed : (b : Bool) (r : Refusal) (o : Outcome) (xs : List ℕ) → cond b (no_n
 passed true r o xs e = refused_not r xs e
 passed false r o xs e = (refl, e)
 
-fitted : (b : Bool) (n count : ℕ) → cond b (Runs n) (NoList (NoRoom n)) ≡ Runs count → (b ≡ true) × (count ≡ n)
+fitted : (b : Bool) (n count : ℕ) → cond b (Ok n) (Err (NoRoom n)) ≡ Ok count → (b ≡ true) × (count ≡ n)
 fitted true n count e = (refl, cc)
 fitted false n count e = let z : ◌≡◌ {A = ℕ} 0 1 = cc in absurd (omega arith)
 
-ran : (room : ℕ) (o : Outcome) (count : ℕ) → answered room o ≡ Runs count → (xs : List ℕ) × (o ≡ numbers xs) × (length xs ≤ room) × (count ≡ length xs)
+ran : (room : ℕ) (o : Outcome) (count : ℕ) → answered room o ≡ Ok count → (xs : List ℕ) × (o ≡ numbers xs) × (length xs ≤ room) × (count ≡ length xs)
 unfolding answered
 ran room (numbers xs) count e = let h = fitted (leb (length xs) room) (length xs) count e in (xs, refl, leb-true _ _ h.0, h.1)
 ran room (no_numbers r) count e = let z : ◌≡◌ {A = ℕ} 0 1 = cc in absurd (omega arith)
@@ -97,7 +97,7 @@ unfolding written
 put out o xs e h = ap (written out) e ∙ ap (λ (b : Bool). cond b (sets out 0 xs) out) (le-leb _ _ h)
 
 pub answered_is : (planet earth : List ℕ) (t0 : Instant) (minutes keep_out : ℤ) (out : List ℕ) (count : ℕ)
-    → sun_list planet earth t0 minutes keep_out (length out) ≡ Runs count → Answered planet earth t0 minutes keep_out out count
+    → sun_list planet earth t0 minutes keep_out (length out) ≡ Ok count → Answered planet earth t0 minutes keep_out out count
 unfolding sun_list_by sun_list_out_by outcome_by
 answered_is planet earth t0 minutes keep_out out count e =
     let r = ran (length out) (outcome planet earth t0 minutes keep_out) count e in

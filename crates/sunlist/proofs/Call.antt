@@ -6,8 +6,8 @@ use native.Mathlib.Omega.{arith}
 use lib.IntN.{ℤ, nat_abs}
 use lib.ListN.{length}
 use Rattle.units.specs.declared.Instant.{Instant}
-use Rattle.sunlist.specs.declared.ListAnswer.{ListAnswer}
-use Rattle.sunlist.specs.declared.ListAnswer.TheVariants.{Runs}
+use Rattle.std.specs.Prelude.{Ok, Result}
+use Rattle.units.specs.declared.Refusal.{Refusal}
 use Rattle.runs.specs.Runs.{most_minutes}
 use Rattle.sunlist.specs.SunList.{sun_list, sun_list_out}
 use Rattle.sunlist.specs.Demand.{first_minute, Demand3}
@@ -42,7 +42,7 @@ module _ (planet earth : List ℕ) (t0 : Instant) (minutes keep_out : ℤ) (coun
       let n = ap nat_abs d.window in
       omega arith
 
-pub sun_list_promised : (planet earth : List ℕ) (t0 : Instant) (minutes keep_out : ℤ) (before : List ℕ) (r : ListAnswer) (after : List ℕ)
+pub sun_list_promised : (planet earth : List ℕ) (t0 : Instant) (minutes keep_out : ℤ) (before : List ℕ) (r : Result ℕ Refusal) (after : List ℕ)
     → r ≡ sun_list planet earth t0 minutes keep_out (length before)
     → after ≡ sun_list_out planet earth t0 minutes keep_out before
     → SunListPromised planet earth t0 minutes keep_out before r after
@@ -55,7 +55,7 @@ sun_list_promised planet earth t0 minutes keep_out before r after e o = record {
       few planet earth t0 minutes keep_out count after (demand count h) (fits_is minutes keep_out w).minutes_in.most;
 }
   where
-    demand : (count : ℕ) → r ≡ Runs count → Demand3 planet earth t0 minutes keep_out count after
+    demand : (count : ℕ) → r ≡ Ok count → Demand3 planet earth t0 minutes keep_out count after
     demand count h =
         subst (λ (s : List ℕ). Demand3 planet earth t0 minutes keep_out count s) (sym o)
         (demand_3 planet earth t0 minutes keep_out before count (sym e ∙ h))

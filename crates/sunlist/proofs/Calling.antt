@@ -15,8 +15,7 @@ use Rattle.limits.specs.Wide.{four_millennia}
 use Rattle.packed.specs.Series.{parse}
 use Rattle.arith.proofs.Cells.{Cell}
 use Rattle.separation.specs.Arcminutes.{greatest_keep_out}
-use Rattle.sunlist.specs.declared.ListAnswer.{ListAnswer}
-use Rattle.sunlist.specs.declared.ListAnswer.TheVariants.{NoList}
+use Rattle.std.specs.Prelude.{Err, Result}
 use Rattle.runs.specs.Runs.{most_minutes}
 use Rattle.sunlist.specs.SunList.{minute, window_fits, Outcome, no_numbers, of_series, outcome_by, outcome, answered, written}
 use Rattle.sunlist.specs.SunList.{sun_list_by, sun_list_out_by}
@@ -48,18 +47,18 @@ pub record FiguresRead (minutes keep_out : ℤ) (n k : ℕ) (fit : Bool) : Type 
 
 module _ (planet earth : List ℕ) (t0 : Instant) (minutes keep_out : ℤ) (out : List ℕ) (n k : ℕ) (b : Bool) (w : FiguresRead minutes keep_out n k b) where
   -- An answer and what the output then holds are those that the call promises.
-  abbrev Told : ListAnswer → List ℕ → Type 0
+  abbrev Told : Result ℕ Refusal → List ℕ → Type 0
   Told r now = SunListPromised planet earth t0 minutes keep_out out r now
 
-  told : (o : Outcome) (r : ListAnswer) (now : List ℕ) → outcome planet earth t0 minutes keep_out ≡ o → r ≡ answered (length out) o → now ≡ written out o
+  told : (o : Outcome) (r : Result ℕ Refusal) (now : List ℕ) → outcome planet earth t0 minutes keep_out ≡ o → r ≡ answered (length out) o → now ≡ written out o
       → Told r now
   unfolding sun_list_by sun_list_out_by
   told o r now e p q =
       sun_list_promised planet earth t0 minutes keep_out out r now (p ∙ ap (answered (length out)) (sym e)) (q ∙ ap (written out) (sym e))
 
-  no_list : (x : Refusal) → outcome planet earth t0 minutes keep_out ≡ no_numbers x → Told (NoList x) out
+  no_list : (x : Refusal) → outcome planet earth t0 minutes keep_out ≡ no_numbers x → Told (Err x) out
   unfolding answered written
-  no_list x e = told (no_numbers x) (NoList x) out e refl refl
+  no_list x e = told (no_numbers x) (Err x) out e refl refl
 
   n_natural : n ≡ natural_or minutes 0
   n_natural = w.n_is ∙ ap (λ (z : ℤ). natural_or z 0) w.minutes_cell
@@ -70,7 +69,7 @@ module _ (planet earth : List ℕ) (t0 : Instant) (minutes keep_out : ℤ) (out 
   fits_told : window_fits minutes keep_out ≡ b
   fits_told = fits_natural minutes keep_out ∙ sym (ap₂ (λ (x y : ℕ). window_fits (pos x) (pos y)) n_natural k_natural) ∙ sym w.fit_is
 
-  pub bad_window : b ≡ false → Told (NoList BadWindow) out
+  pub bad_window : b ≡ false → Told (Err BadWindow) out
   unfolding outcome_by
   bad_window e = no_list BadWindow (rw (fits_told ∙ e))
 
@@ -87,7 +86,7 @@ module _ (planet earth : List ℕ) (t0 : Instant) (minutes keep_out : ℤ) (out 
     pub in_range : (1 ≤ n) × (n ≤ most_minutes) × (k ≤ greatest_keep_out)
     in_range = let f = fits_is minutes keep_out good in rw (n_nat_abs, k_nat_abs) (f.minutes_in.least, f.minutes_in.most, f.keep_out_in.most)
 
-    pub first_refused : in_limit t0.ms ≡ false → Told (NoList (PastLimit t0)) out
+    pub first_refused : in_limit t0.ms ≡ false → Told (Err (PastLimit t0)) out
     unfolding outcome_by
     first_refused h = no_list (PastLimit t0) (rw (good, h))
 
@@ -95,7 +94,7 @@ module _ (planet earth : List ℕ) (t0 : Instant) (minutes keep_out : ℤ) (out 
       last_is : last ≡ minute t0 (nat_abs minutes - 1)
       last_is = hl ∙ ap (λ (m : ℕ). minute t0 (m - 1)) n_nat_abs
 
-      pub last_refused : in_limit last.ms ≡ false → Told (NoList (PastLimit last)) out
+      pub last_refused : in_limit last.ms ≡ false → Told (Err (PastLimit last)) out
       unfolding outcome_by
       last_refused g =
           let f : in_limit (minute t0 (nat_abs minutes - 1)).ms ≡ false = ap (λ (t : Instant). in_limit t.ms) (sym last_is) ∙ g in
@@ -108,7 +107,7 @@ module _ (planet earth : List ℕ) (t0 : Instant) (minutes keep_out : ℤ) (out 
             let f : in_limit (minute t0 (n - 1)).ms ≡ true = ap (λ (t : Instant). in_limit t.ms) (sym hl) ∙ g in
             record { few = r.1; angle = r.2; start = size_within t_limit _ h; within = λ j l. minute_in t_limit t0 n j h f l }
 
-        pub series_told : (r : ListAnswer) (now : List ℕ) → Answers (of_series four_millennia (parse planet) (parse earth) t0 n k) out r now → Told r now
+        pub series_told : (r : Result ℕ Refusal) (now : List ℕ) → Answers (of_series four_millennia (parse planet) (parse earth) t0 n k) out r now → Told r now
         unfolding outcome_by
         series_told r now p =
             let f : in_limit (minute t0 (nat_abs minutes - 1)).ms ≡ true = ap (λ (t : Instant). in_limit t.ms) (sym last_is) ∙ g in

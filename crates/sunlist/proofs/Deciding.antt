@@ -13,9 +13,8 @@ use Rattle.units.specs.declared.Coordinates.{Coordinates}
 use Rattle.cosine.specs.Cosine.{sine}
 use Rattle.rectangular.specs.declared.Vector.{Vector}
 use Rattle.rectangular.specs.declared.View.{View}
-use Rattle.rectangular.specs.declared.Sight.{Sight}
+use Rattle.std.specs.Prelude.{None, Option, Some}
 use Rattle.rectangular.specs.declared.Frame.TheVariants.{Theory}
-use Rattle.rectangular.specs.declared.Sight.TheVariants.{Usable, Unusable as Unusable_sight}
 use Rattle.rectangular.specs.Vectors.{geocentric, sun, squared, length, unit}
 use Rattle.rectangular.specs.Rectangular.{place}
 use Rattle.rectangular.specs.Sight.{greatest_radius, distance, places_usable, view, sight}
@@ -216,13 +215,13 @@ module _ (k : ℕ) (planet earth : Coordinates) (ok : places_usable planet earth
 -- ---- decide
 
 -- A sight that is not usable.
-module _ (k : ℕ) (planet earth : Coordinates) (s : Sight) (ps : s ≡ sight Theory planet earth) where
-  pub not_decided : s ≡ Unusable_sight → Unusable ≡ decide k planet earth
+module _ (k : ℕ) (planet earth : Coordinates) (s : Option View) (ps : s ≡ sight Theory planet earth) where
+  pub not_decided : s ≡ None → Unusable ≡ decide k planet earth
   unfolding decide
   not_decided h = let u : places_usable planet earth ≡ false = sight_unusable planet earth (sym ps ∙ h) in rw u
 
   -- A usable one: its view v, then its figures f.
-  module _ (v : View) (h : s ≡ Usable v) where
+  module _ (v : View) (h : s ≡ Some v) where
     pub usable_told : (places_usable planet earth ≡ true) × (v ≡ view planet earth)
     usable_told = sight_usable planet earth v (sym ps ∙ h)
 

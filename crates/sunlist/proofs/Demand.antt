@@ -20,7 +20,7 @@ use Rattle.separation.proofs.Core.{within_is_listed, listed_is_within}
 use Rattle.runs.specs.Runs.{run_numbers, flag, flags}
 use Rattle.runs.proofs.Runs.{FlagsOf, runs_are}
 use Rattle.runs.proofs.Maximal.{RunsOf, runs_of}
-use Rattle.sunlist.specs.declared.ListAnswer.TheVariants.{Runs}
+use Rattle.std.specs.Prelude.{Ok}
 use Rattle.sunlist.specs.SunList.{minute, good, flag_of, decision_at, window_flags, sun_list, sun_list_out}
 use Rattle.sunlist.specs.Demand.{exact_coordinates, first_minute, last_minute, InRun, Demand3}
 use Rattle.sunlist.proofs.Failing.{all_pass}
@@ -130,7 +130,7 @@ module _ (planet_bytes earth_bytes : List ℕ) (t0 : Instant) (minutes keep_out 
 
 -- The theorem.
 pub demand_3 : (planet earth : List ℕ) (t0 : Instant) (minutes keep_out : ℤ) (out : List ℕ) (count : ℕ)
-    → sun_list planet earth t0 minutes keep_out (length out) ≡ Runs count
+    → sun_list planet earth t0 minutes keep_out (length out) ≡ Ok count
     → Demand3 planet earth t0 minutes keep_out count (sun_list_out planet earth t0 minutes keep_out out)
 demand_3 planet earth t0 minutes keep_out out count e =
     let a = answered_is planet earth t0 minutes keep_out out count e in

@@ -19,8 +19,8 @@ use Rattle.packed.specs.Machine.Table.{table_blocks}
 use Rattle.series.specs.Sums.{coordinates}
 use Rattle.runs.specs.Runs.{run_numbers, most_minutes}
 use Rattle.sunlist.specs.declared.Decision.{Decision}
-use Rattle.sunlist.specs.declared.ListAnswer.{ListAnswer}
-use Rattle.sunlist.specs.declared.ListAnswer.TheVariants.{NoList}
+use Rattle.std.specs.Prelude.{Err, Result}
+use Rattle.units.specs.declared.Refusal.{Refusal}
 use Rattle.sunlist.specs.Minute.{decide}
 use Rattle.sunlist.specs.SunList.{minute, decision_at, first_failing, first_bad, window_flags, Outcome, numbers, of_minutes}
 use Rattle.sunlist.specs.SunList.{first_unasked, of_blocks, answered, written}
@@ -29,7 +29,7 @@ use Rattle.sunlist.specs.Machine.Window.{Window, asked_at, Flagged}
 use Rattle.sunlist.proofs.Failing.{same_failing, all_pass}
 
 -- An outcome by another name.
-pub answers_as : (o p : Outcome) (before : List ℕ) (r : ListAnswer) (after : List ℕ) → o ≡ p → Answers o before r after → Answers p before r after
+pub answers_as : (o p : Outcome) (before : List ℕ) (r : Result ℕ Refusal) (after : List ℕ) → o ≡ p → Answers o before r after → Answers p before r after
 answers_as o p before r after e a = (a.0 ∙ ap (answered (length before)) e, a.1 ∙ ap (written before) e)
 
 -- ---- decide_at
@@ -61,7 +61,7 @@ decided t0 k j t planet earth p e d h hp he hd =
 -- ---- list_in
 
 module _ (at : ℕ → Decision) (n bad : ℕ) (flags out : List ℕ) (f : Flagged at n bad flags) where
-  bad_told : bad < n → Answers (of_minutes at n) out (NoList (NotUsable bad)) out
+  bad_told : bad < n → Answers (of_minutes at n) out (Err (NotUsable bad)) out
   unfolding of_minutes answered written
   bad_told h = let l : first_bad at 0 n < n = subst (λ (b : ℕ). b < n) f.bad_is h in rw (lt-ltb (first_bad at 0 n) n l, f.bad_is) (refl, refl)
 
@@ -85,7 +85,7 @@ module _ (at : ℕ → Decision) (n m bad : ℕ) (flags room out : List ℕ) (f 
   filled : Flagged at n bad flags
   filled = subst (λ (i : ℕ). Flagged at i bad flags) (sym e) f
 
-  pub part_bad : bad < n → Answers (of_minutes at n) out (NoList (NotUsable bad)) out
+  pub part_bad : bad < n → Answers (of_minutes at n) out (Err (NotUsable bad)) out
   part_bad h = bad_told at n bad flags out filled h
 
   module _ (h : n ≤ bad) where
@@ -106,11 +106,11 @@ module _ (planet earth : List (List Term)) (t0 : Instant) (n k far : ℕ) (wide 
   far_is : far ≡ first_unasked four_millennia planet earth t0 n
   far_is = f ∙ same_failing _ _ (λ j. ap (λ (b : Bool). asked_at t0 b j) w ∙ both_is planet earth (minute t0 j).ms _ _ refl refl) 0 n
 
-  pub far_told : (t : Instant) → t ≡ minute t0 far → far < n → Answers (of_blocks four_millennia planet earth t0 n k) out (NoList (TooFar t)) out
+  pub far_told : (t : Instant) → t ≡ minute t0 far → far < n → Answers (of_blocks four_millennia planet earth t0 n k) out (Err (TooFar t)) out
   unfolding of_blocks answered written
   far_told t e h =
       let l : first_unasked four_millennia planet earth t0 n < n = subst (λ (m : ℕ). m < n) far_is h in
-      rw (lt-ltb (first_unasked four_millennia planet earth t0 n) n l) (ap (λ (s : Instant). NoList (TooFar s)) (e ∙ ap (minute t0) far_is), refl)
+      rw (lt-ltb (first_unasked four_millennia planet earth t0 n) n l) (ap (λ (s : Instant). Err (TooFar s)) (e ∙ ap (minute t0) far_is), refl)
 
   module _ (h : n ≤ far) where
     past : n ≤ first_unasked four_millennia planet earth t0 n

@@ -7,7 +7,7 @@ use Rattle.units.specs.declared.Refusal.{Refusal}
 use Rattle.limits.specs.declared.Term.{Term}
 use Rattle.limits.specs.Wide.{four_millennia}
 use Rattle.packed.specs.Series.{Parsed, accepted, refused}
-use Rattle.sunlist.specs.declared.ListAnswer.TheVariants.{NoList}
+use Rattle.std.specs.Prelude.{Err}
 use Rattle.sunlist.specs.SunList.{Outcome, of_blocks, of_series, answered, written}
 use Rattle.sunlist.specs.Machine.Answers.{Answers}
 
@@ -16,11 +16,11 @@ module _ (p e : Parsed) (t0 : Instant) (n k : ℕ) (out : List ℕ) where
   abbrev told : Outcome
   told = of_series four_millennia p e t0 n k
 
-  pub planet_refused : (r : Refusal) → p ≡ refused r → Answers told out (NoList r) out
+  pub planet_refused : (r : Refusal) → p ≡ refused r → Answers told out (Err r) out
   unfolding of_series answered written
   planet_refused r h = rw h (refl, refl)
 
-  pub earth_refused : (planet : List (List Term)) (r : Refusal) → p ≡ accepted planet → e ≡ refused r → Answers told out (NoList r) out
+  pub earth_refused : (planet : List (List Term)) (r : Refusal) → p ≡ accepted planet → e ≡ refused r → Answers told out (Err r) out
   unfolding of_series answered written
   earth_refused planet r h g = rw (h, g) (refl, refl)
 

@@ -18,7 +18,7 @@ use Rattle.units.specs.declared.Instant.{Instant}
 use Rattle.units.specs.declared.Refusal.TheVariants.{NoRoom}
 use Rattle.arith.proofs.Cells.{Cell, cell}
 use Rattle.separation.specs.Arcminutes.{least_keep_out, greatest_keep_out}
-use Rattle.sunlist.specs.declared.ListAnswer.TheVariants.{Runs, NoList}
+use Rattle.std.specs.Prelude.{Err, Ok}
 use Rattle.runs.specs.Runs.{most_minutes}
 use Rattle.sunlist.specs.SunList.{minute, window_fits, first_failing, numbers, answered, written}
 use Rattle.sunlist.specs.Machine.Window.{asked_at}
@@ -81,12 +81,12 @@ module _ (t0 : Instant) (wide : Bool) (w : wide ≡ false) (j : ℕ) (t : Instan
   near_asked f = ap₂ ◌||◌ (near_is ∙ told_within near_limit t.ms b h f) w
 
 -- ---- write_runs
-pub no_room : (xs out : List ℕ) (n : ℕ) → n ≡ length xs → length out < n → (NoList (NoRoom n) ≡ answered (length out) (numbers xs))
+pub no_room : (xs out : List ℕ) (n : ℕ) → n ≡ length xs → length out < n → (Err (NoRoom n) ≡ answered (length out) (numbers xs))
     × (out ≡ written out (numbers xs))
 unfolding answered written
 no_room xs out n e h = let l : length out < length xs = omega arith in rw (lt-leb (length xs) (length out) l, e) (refl, refl)
 
-pub all_written : (xs out now : List ℕ) (n : ℕ) → n ≡ length xs → n ≤ length out → now ≡ sets out 0 xs → (Runs n ≡ answered (length out) (numbers xs))
+pub all_written : (xs out now : List ℕ) (n : ℕ) → n ≡ length xs → n ≤ length out → now ≡ sets out 0 xs → (Ok n ≡ answered (length out) (numbers xs))
     × (now ≡ written out (numbers xs))
 unfolding answered written
 all_written xs out now n e h f = let l : length xs ≤ length out = omega arith in rw (le-leb (length xs) (length out) l, e) (refl, f)

@@ -15,8 +15,7 @@ use Rattle.separation.specs.Arcminutes.{least_keep_out, greatest_keep_out}
 use Rattle.runs.specs.Runs.{listed_flag, run_numbers, most_minutes}
 use Rattle.sunlist.specs.declared.Decision.{Decision}
 use Rattle.sunlist.specs.declared.Decision.TheVariants.{Listed, Clear, Unusable}
-use Rattle.sunlist.specs.declared.ListAnswer.{ListAnswer}
-use Rattle.sunlist.specs.declared.ListAnswer.TheVariants.{Runs, NoList}
+use Rattle.std.specs.Prelude.{Err, Ok, Result}
 use Rattle.sunlist.specs.Minute.{decide}
 
 -- Minute j of a window that begins at t0.
@@ -103,16 +102,16 @@ outcome_by range planet earth t0 minutes keep_out =
     (no_numbers BadWindow)
 
 -- Last, 7. Both counts are of numbers. A refusal leaves the output untouched, a success what lies past the numbers.
-unfoldable pub answered : ℕ → Outcome → ListAnswer
-answered room (numbers xs) = cond (leb (length xs) room) (Runs (length xs)) (NoList (NoRoom (length xs)))
-answered room (no_numbers r) = NoList r
+unfoldable pub answered : ℕ → Outcome → Result ℕ Refusal
+answered room (numbers xs) = cond (leb (length xs) room) (Ok (length xs)) (Err (NoRoom (length xs)))
+answered room (no_numbers r) = Err r
 
 unfoldable pub written : List ℕ → Outcome → List ℕ
 written out (numbers xs) = cond (leb (length xs) (length out)) (sets out 0 xs) out
 written out (no_numbers r) = out
 
 -- Over a range of time: what the call answers with an output of this many places, and what an output then holds.
-unfoldable pub sun_list_by : Range → (planet earth : List ℕ) → Instant → (minutes keep_out : ℤ) → (room : ℕ) → ListAnswer
+unfoldable pub sun_list_by : Range → (planet earth : List ℕ) → Instant → (minutes keep_out : ℤ) → (room : ℕ) → Result ℕ Refusal
 sun_list_by range planet earth t0 minutes keep_out room = answered room (outcome_by range planet earth t0 minutes keep_out)
 
 unfoldable pub sun_list_out_by : Range → (planet earth : List ℕ) → Instant → (minutes keep_out : ℤ) → (out : List ℕ) → List ℕ
@@ -122,7 +121,7 @@ sun_list_out_by range planet earth t0 minutes keep_out out = written out (outcom
 abbrev pub outcome : (planet earth : List ℕ) → Instant → (minutes keep_out : ℤ) → Outcome
 outcome planet earth t0 minutes keep_out = outcome_by four_millennia planet earth t0 minutes keep_out
 
-abbrev pub sun_list : (planet earth : List ℕ) → Instant → (minutes keep_out : ℤ) → (room : ℕ) → ListAnswer
+abbrev pub sun_list : (planet earth : List ℕ) → Instant → (minutes keep_out : ℤ) → (room : ℕ) → Result ℕ Refusal
 sun_list planet earth t0 minutes keep_out room = sun_list_by four_millennia planet earth t0 minutes keep_out room
 
 abbrev pub sun_list_out : (planet earth : List ℕ) → Instant → (minutes keep_out : ℤ) → (out : List ℕ) → List ℕ

@@ -31,13 +31,6 @@ pub enum Decision {
     Unusable,
 }
 
-// What `sun_list` answers: how many numbers it has written, two for each run, or the refusal.
-#[derive(Clone, Copy)]
-pub enum ListAnswer {
-    Runs(u64),
-    NoList(Refusal),
-}
-
 // The list of minutes, from t0 on, at which the planet stands within the keep-out (and an arcminute) of the Sun: two numbers for
 // each run, its first and last minute. Every input is taken; a refusal leaves the output as it was.
 pub fn sun_list(
@@ -47,20 +40,20 @@ pub fn sun_list(
     minutes: i64,
     keep_out: i64,
     out: &mut [u64],
-) -> ListAnswer
+) -> Result<u64, Refusal>
     ensures { SunListPromised planet.now earth.now t0 minutes keep_out out.old result out.new }
 {
     let n = natural_or(minutes, 0);
     let k = natural_or(keep_out, 0);
     if !fits(n, k) {
-        return ListAnswer::NoList(Refusal::BadWindow);
+        return Err(Refusal::BadWindow);
     }
     if !in_limit(t0) {
-        return ListAnswer::NoList(Refusal::PastLimit(t0));
+        return Err(Refusal::PastLimit(t0));
     }
     let last = minute(t0, n - 1);
     if !in_limit(last) {
-        return ListAnswer::NoList(Refusal::PastLimit(last));
+        return Err(Refusal::PastLimit(last));
     }
     of_series(planet, earth, t0, n as usize, k, out)
 }

@@ -9,10 +9,10 @@ ghost use Rattle.sunlist.specs.SunList.{of_minutes, of_blocks, of_series as seri
 ghost use Rattle.sunlist.specs.Machine.Answers.{Tables, decided_at, Answers};
 ghost use Rattle.sunlist.specs.Machine.Window.{Window, Flagged};
 
+use crate::Decision;
 use crate::one_minute::decide;
 use crate::window::{FLAGS_ROOM, UNUSABLE_FLAG, first_far, flag, minute, write_runs};
-use crate::{Decision, ListAnswer};
-use series::table::{Checked, TABLE_ROWS, Table, coordinates, fill};
+use series::table::{TABLE_ROWS, Table, coordinates, fill};
 use units::{Instant, Refusal};
 
 // Minute j decided.
@@ -52,13 +52,13 @@ fn list_in(
     planet: &Table,
     earth: &Table,
     out: &mut [u64],
-) -> ListAnswer
+) -> Result<u64, Refusal>
     requires { (most_minutes ≤ length room.old) × Window t0 n k × Tables planet.now earth.now t0 n }
     ensures { Answers (of_minutes (decided_at planet.now earth.now t0 k) n) out.old result out.new }
 {
     let bad = flag_minutes(&mut room[..n], t0, k, planet, earth);
     if bad < n {
-        return ListAnswer::NoList(Refusal::NotUsable(bad as u64));
+        return Err(Refusal::NotUsable(bad as u64));
     }
     write_runs(&room[..n], out)
 }
@@ -73,7 +73,7 @@ fn list_of(
     planet: &Table,
     earth: &Table,
     out: &mut [u64],
-) -> ListAnswer
+) -> Result<u64, Refusal>
     requires { Window t0 n k × Table planet.now × Table earth.now
         × (wide ≡ (good_for_wide (table_blocks planet.now) && good_for_wide (table_blocks earth.now))) }
     ensures { Answers (of_blocks four_millennia (table_blocks planet.now) (table_blocks earth.now) t0 n k)
@@ -81,7 +81,7 @@ fn list_of(
 {
     let far = first_far(t0, n, wide);
     if far < n {
-        return ListAnswer::NoList(Refusal::TooFar(minute(t0, far as u64)));
+        return Err(Refusal::TooFar(minute(t0, far as u64)));
     }
     let mut room = [0u8; FLAGS_ROOM];
     list_in(&mut room, t0, n, k, planet, earth, out)
@@ -96,19 +96,15 @@ fn with_planet(
     n: usize,
     k: u64,
     out: &mut [u64],
-) -> ListAnswer
+) -> Result<u64, Refusal>
     requires { Window t0 n k × Table planet.now × (wide ≡ good_for_wide (table_blocks planet.now)) }
     ensures { Answers (series_outcome four_millennia (accepted (table_blocks planet.now)) (parse earth.now) t0 n k)
         out.old result out.new }
 {
     let mut table: Table = [[0; 3]; TABLE_ROWS];
-    match fill(earth, &mut table) {
-        Checked::NoSeries(r) => ListAnswer::NoList(r),
-        Checked::Series(content) => {
-            let good = content.wide;
-            list_of(t0, n, k, wide & good, planet, &table, out)
-        }
-    }
+    let content = fill(earth, &mut table)?;
+    let good = content.wide;
+    list_of(t0, n, k, wide & good, planet, &table, out)
 }
 
 // From the two packed series.
@@ -119,14 +115,12 @@ pub fn of_series(
     n: usize,
     k: u64,
     out: &mut [u64],
-) -> ListAnswer
+) -> Result<u64, Refusal>
     requires { Window t0 n k }
     ensures { Answers (series_outcome four_millennia (parse planet.now) (parse earth.now) t0 n k)
         out.old result out.new }
 {
     let mut table: Table = [[0; 3]; TABLE_ROWS];
-    match fill(planet, &mut table) {
-        Checked::NoSeries(r) => ListAnswer::NoList(r),
-        Checked::Series(content) => with_planet(&table, content.wide, earth, t0, n, k, out),
-    }
+    let content = fill(planet, &mut table)?;
+    with_planet(&table, content.wide, earth, t0, n, k, out)
 }

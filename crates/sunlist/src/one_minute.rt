@@ -11,7 +11,7 @@ use crate::{Decision, Figures};
 use arith::signed::{add, mul};
 use cosine::working::sine_at;
 use rectangular::from_earth::sight;
-use rectangular::{Frame, Sight, Vector, View, geocentric, length, sun, unit};
+use rectangular::{Frame, Vector, View, geocentric, length, sun, unit};
 use units::{Coordinates, TURN};
 
 // Arcminutes in a turn, as in separation/specs/Arcminutes.antt, and half arcminutes.
@@ -73,8 +73,8 @@ pub fn decide(planet: Coordinates, earth: Coordinates, k: u64) -> Decision
     ensures { result ≡ decide_of k planet earth }
 {
     match sight(Frame::Theory, planet, earth) {
-        Sight::Unusable => Decision::Unusable,
-        Sight::Usable(v) => {
+        None => Decision::Unusable,
+        Some(v) => {
             let f = figures(planet, earth, v, k);
             let q = f.separation;
             let t = f.threshold;

@@ -5,7 +5,7 @@ ghost use Rattle.runs.specs.Runs.{run_numbers, most_minutes};
 ghost use Rattle.sunlist.specs.SunList.{window_fits, minute as minute_of, first_failing, flag_of, numbers, answered, written};
 ghost use Rattle.sunlist.specs.Machine.Window.{asked_at};
 
-use crate::{Decision, ListAnswer};
+use crate::Decision;
 use arith::signed::{add, wide};
 use runs::{LISTED_FLAG, MOST_MINUTES};
 use units::{Instant, MINUTE_MS, Refusal, near};
@@ -81,15 +81,15 @@ pub fn flag(d: Decision) -> u8
 }
 
 // Writes the runs of a window's flags, where they fit.
-pub fn write_runs(window: &[u8], out: &mut [u64]) -> ListAnswer
+pub fn write_runs(window: &[u8], out: &mut [u64]) -> Result<u64, Refusal>
     requires { length window.now ≤ most_minutes }
     ensures { (result ≡ answered (length out.old) (numbers (run_numbers window.now)))
         × (out.new ≡ written out.old (numbers (run_numbers window.now))) }
 {
     let n = runs::count(window);
     if out.len() < n {
-        return ListAnswer::NoList(Refusal::NoRoom(n));
+        return Err(Refusal::NoRoom(n));
     }
     runs::write(window, out);
-    ListAnswer::Runs(n as u64)
+    Ok(n as u64)
 }

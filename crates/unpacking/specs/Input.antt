@@ -4,8 +4,8 @@ use Rattle.units.specs.declared.Refusal.TheVariants.{NoRoom}
 use Rattle.packed.specs.Series.{parse}
 use Rattle.packed_promises.specs.Bounds.{early_limit}
 use Rattle.printer.specs.Printer.{text_limit, printed, printed_out}
-use Rattle.printer.specs.declared.Printed.{Printed}
-use Rattle.printer.specs.declared.Printed.TheVariants.{NoText}
+use Rattle.std.specs.Prelude.{Err, Result}
+use Rattle.units.specs.declared.Refusal.{Refusal}
 
 -- The input is the first n bytes of the buffer; or the buffer is full, and the input goes on.
 pub data Input (n : ℕ) (buffer : List ℕ) : List ℕ → Type 0 where
@@ -19,11 +19,11 @@ pub record Roomy (n : ℕ) (buffer out : List ℕ) : Type 0 where
   pub text : text_limit ≤ length out
 
 -- The answer and the text are those of the whole input, and there is never too little room for the text.
-pub record Answered (input before : List ℕ) (r : Printed) (after : List ℕ) : Type 0 where
+pub record Answered (input before : List ℕ) (r : Result ℕ Refusal) (after : List ℕ) : Type 0 where
   pub answer : r ≡ printed (parse input) before
   pub text : after ≡ printed_out (parse input) before
-  pub room : (k : ℕ) → r ≡ NoText (NoRoom k) → ⊥
+  pub room : (k : ℕ) → r ≡ Err (NoRoom k) → ⊥
 
 -- So for every input of which the buffer holds n bytes.
-abbrev pub AnswersAny : ℕ → List ℕ → List ℕ → Printed → List ℕ → Type 0
+abbrev pub AnswersAny : ℕ → List ℕ → List ℕ → Result ℕ Refusal → List ℕ → Type 0
 AnswersAny n buffer before r after = (input : List ℕ) → Input n buffer input → Answered input before r after

@@ -6,13 +6,14 @@ ghost use Rattle.unpacking.specs.Input.{Roomy, AnswersAny};
 
 use command_line::files::{PACKED_ROOM, read_full, write_first};
 use command_line::words::write_refusal;
-use printer::{Printed, TEXT_LIMIT};
+use printer::TEXT_LIMIT;
 use std::io;
 use std::io::{Read, Write};
+use units::Refusal;
 
 // The text of the input, of which the first n packed bytes are all or, where they fill the buffer, the beginning: whatever follows,
 // the whole input is then refused as they are, by the theorem `decided` of packed_promises/proofs/Theorems.antt.
-fn text_of(packed: &[u8], n: usize, text: &mut [u8]) -> Printed
+fn text_of(packed: &[u8], n: usize, text: &mut [u8]) -> Result<usize, Refusal>
     requires { Roomy n packed.now text.old }
     ensures { AnswersAny n packed.now text.old result text.new }
 {
@@ -31,8 +32,8 @@ fn convert<W: Write, E: Write>(
 {
     let printed = text_of(packed, n, text);
     match printed {
-        Printed::Length(k) => write_first(output, text, k),
-        Printed::NoText(refusal) => write_refusal(errors, refusal),
+        Ok(k) => write_first(output, text, k),
+        Err(refusal) => write_refusal(errors, refusal),
     }
 }
 

@@ -3,10 +3,10 @@ use mathlib.Core.Path.{sym, ap, ◌∙◌}
 use Rattle.answers.specs.Answers.{checked_shown}
 use Rattle.answers.proofs.of_checked.Goals as goal
 
-pub returns-in-Series : goal.returns-in-Series
+pub returns-in-Ok : goal.returns-in-Ok
 unfolding checked_shown
-returns-in-Series c = c.of_content.ensures ∙ ap checked_shown (sym c.in-Series.is)
+returns-in-Ok c = c.of_content.ensures ∙ ap checked_shown (sym c.in-Ok.is)
 
-pub returns-in-NoSeries : goal.returns-in-NoSeries
+pub returns-in-Err : goal.returns-in-Err
 unfolding checked_shown
-returns-in-NoSeries c = c.refused_examined.ensures ∙ ap checked_shown (sym c.in-NoSeries.is)
+returns-in-Err c = c.refused_examined.ensures ∙ ap checked_shown (sym c.in-Err.is)

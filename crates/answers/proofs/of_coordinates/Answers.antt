@@ -5,12 +5,12 @@ use Rattle.answers.proofs.Held.{three_held}
 use borrow.Author.Rules.{rules}
 use Rattle.answers.proofs.of_coordinates.Goals as goal
 
-pub returns-in-At : goal.returns-in-At
+pub returns-in-Ok : goal.returns-in-Ok
 unfolding coordinates_shown
-returns-in-At c =
-    let p = c.in-At.c in
-    three_held p.longitude p.latitude p.radius (search rules) (search rules) (search rules) ∙ ap coordinates_shown (sym c.in-At.is)
+returns-in-Ok c =
+    let p = c.in-Ok.c in
+    three_held p.longitude p.latitude p.radius (search rules) (search rules) (search rules) ∙ ap coordinates_shown (sym c.in-Ok.is)
 
-pub returns-in-NoCoordinates : goal.returns-in-NoCoordinates
+pub returns-in-Err : goal.returns-in-Err
 unfolding coordinates_shown
-returns-in-NoCoordinates c = c.refused_three.ensures ∙ ap coordinates_shown (sym c.in-NoCoordinates.is)
+returns-in-Err c = c.refused_three.ensures ∙ ap coordinates_shown (sym c.in-Err.is)

@@ -6,12 +6,12 @@ use Rattle.answers.proofs.Held.{moment_held}
 use borrow.Author.Rules.{rules}
 use Rattle.answers.proofs.of_date.Goals as goal
 
-pub returns-in-On : goal.returns-in-On
+pub returns-in-Ok : goal.returns-in-Ok
 unfolding date_shown
-returns-in-On c =
-    let d = c.in-On.d in
-    moment_held d.year d.month d.day (pos 0) (search rules) (search rules) (search rules) (search rules) ∙ ap date_shown (sym c.in-On.is)
+returns-in-Ok c =
+    let d = c.in-Ok.d in
+    moment_held d.year d.month d.day (pos 0) (search rules) (search rules) (search rules) (search rules) ∙ ap date_shown (sym c.in-Ok.is)
 
-pub returns-in-NoDate : goal.returns-in-NoDate
+pub returns-in-Err : goal.returns-in-Err
 unfolding date_shown
-returns-in-NoDate c = c.refused_moment.ensures ∙ ap date_shown (sym c.in-NoDate.is)
+returns-in-Err c = c.refused_moment.ensures ∙ ap date_shown (sym c.in-Err.is)

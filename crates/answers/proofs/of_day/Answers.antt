@@ -5,10 +5,10 @@ use Rattle.answers.proofs.Held.{one_held}
 use borrow.Author.Rules.{rules}
 use Rattle.answers.proofs.of_day.Goals as goal
 
-pub returns-in-Day : goal.returns-in-Day
+pub returns-in-Ok : goal.returns-in-Ok
 unfolding day_shown
-returns-in-Day c = one_held c.in-Day.n (search rules) ∙ ap day_shown (sym c.in-Day.is)
+returns-in-Ok c = one_held c.in-Ok.n (search rules) ∙ ap day_shown (sym c.in-Ok.is)
 
-pub returns-in-NoDay : goal.returns-in-NoDay
+pub returns-in-Err : goal.returns-in-Err
 unfolding day_shown
-returns-in-NoDay c = c.refused_one.ensures ∙ ap day_shown (sym c.in-NoDay.is)
+returns-in-Err c = c.refused_one.ensures ∙ ap day_shown (sym c.in-Err.is)

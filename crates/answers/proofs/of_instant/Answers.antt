@@ -5,10 +5,10 @@ use Rattle.answers.proofs.Held.{one_held}
 use borrow.Author.Rules.{rules}
 use Rattle.answers.proofs.of_instant.Goals as goal
 
-pub returns-in-At : goal.returns-in-At
+pub returns-in-Ok : goal.returns-in-Ok
 unfolding instant_shown
-returns-in-At c = one_held c.in-At.t.ms (search rules) ∙ ap instant_shown (sym c.in-At.is)
+returns-in-Ok c = one_held c.in-Ok.t.ms (search rules) ∙ ap instant_shown (sym c.in-Ok.is)
 
-pub returns-in-NoInstant : goal.returns-in-NoInstant
+pub returns-in-Err : goal.returns-in-Err
 unfolding instant_shown
-returns-in-NoInstant c = c.refused_one.ensures ∙ ap instant_shown (sym c.in-NoInstant.is)
+returns-in-Err c = c.refused_one.ensures ∙ ap instant_shown (sym c.in-Err.is)

@@ -3,10 +3,10 @@ use mathlib.Core.Path.{sym, ap, ◌∙◌}
 use Rattle.answers.specs.Answers.{list_shown}
 use Rattle.answers.proofs.of_list.Goals as goal
 
-pub returns-in-Runs : goal.returns-in-Runs
+pub returns-in-Ok : goal.returns-in-Ok
 unfolding list_shown
-returns-in-Runs c = c.counted.ensures ∙ ap list_shown (sym c.in-Runs.is)
+returns-in-Ok c = c.counted.ensures ∙ ap list_shown (sym c.in-Ok.is)
 
-pub returns-in-NoList : goal.returns-in-NoList
+pub returns-in-Err : goal.returns-in-Err
 unfolding list_shown
-returns-in-NoList c = c.refused_one.ensures ∙ ap list_shown (sym c.in-NoList.is)
+returns-in-Err c = c.refused_one.ensures ∙ ap list_shown (sym c.in-Err.is)

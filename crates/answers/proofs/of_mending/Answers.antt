@@ -3,10 +3,10 @@ use mathlib.Core.Path.{sym, ap, ◌∙◌}
 use Rattle.answers.specs.Answers.{mending_shown}
 use Rattle.answers.proofs.of_mending.Goals as goal
 
-pub returns-in-Mended : goal.returns-in-Mended
+pub returns-in-Ok : goal.returns-in-Ok
 unfolding mending_shown
-returns-in-Mended c = c.of_clean.ensures ∙ ap mending_shown (sym c.in-Mended.is)
+returns-in-Ok c = c.of_clean.ensures ∙ ap mending_shown (sym c.in-Ok.is)
 
-pub returns-in-Unmended : goal.returns-in-Unmended
+pub returns-in-Err : goal.returns-in-Err
 unfolding mending_shown
-returns-in-Unmended c = c.refused_mended.ensures ∙ ap mending_shown (sym c.in-Unmended.is)
+returns-in-Err c = c.refused_mended.ensures ∙ ap mending_shown (sym c.in-Err.is)

@@ -5,12 +5,12 @@ use Rattle.answers.proofs.Held.{moment_held}
 use borrow.Author.Rules.{rules}
 use Rattle.answers.proofs.of_moment.Goals as goal
 
-pub returns-in-Moment : goal.returns-in-Moment
+pub returns-in-Ok : goal.returns-in-Ok
 unfolding moment_shown
-returns-in-Moment c =
-    let d = c.in-Moment.d in
-    moment_held d.year d.month d.day c.in-Moment.ms (search rules) (search rules) (search rules) (search rules) ∙ ap moment_shown (sym c.in-Moment.is)
+returns-in-Ok c =
+    let m = c.in-Ok.m in
+    moment_held m.date.year m.date.month m.date.day m.ms (search rules) (search rules) (search rules) (search rules) ∙ ap moment_shown (sym c.in-Ok.is)
 
-pub returns-in-NoMoment : goal.returns-in-NoMoment
+pub returns-in-Err : goal.returns-in-Err
 unfolding moment_shown
-returns-in-NoMoment c = c.refused_moment.ensures ∙ ap moment_shown (sym c.in-NoMoment.is)
+returns-in-Err c = c.refused_moment.ensures ∙ ap moment_shown (sym c.in-Err.is)

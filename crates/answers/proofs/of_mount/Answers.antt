@@ -4,10 +4,10 @@ use lib.Ieee.{of_bits, of_int}
 use Rattle.answers.specs.Answers.{mount_shown}
 use Rattle.answers.proofs.of_mount.Goals as goal
 
-pub returns-in-At : goal.returns-in-At
+pub returns-in-Ok : goal.returns-in-Ok
 unfolding mount_shown
-returns-in-At c = ap mount_shown (sym c.in-At.is)
+returns-in-Ok c = ap mount_shown (sym c.in-Ok.is)
 
-pub returns-in-Refused : goal.returns-in-Refused
+pub returns-in-Err : goal.returns-in-Err
 unfolding mount_shown of_bits of_int
-returns-in-Refused c = ap mount_shown (sym c.in-Refused.is)
+returns-in-Err c = ap mount_shown (sym c.in-Err.is)

@@ -5,12 +5,12 @@ use Rattle.answers.proofs.Held.{three_held}
 use borrow.Author.Rules.{rules}
 use Rattle.answers.proofs.of_place.Goals as goal
 
-pub returns-in-Place : goal.returns-in-Place
+pub returns-in-Ok : goal.returns-in-Ok
 unfolding place_shown
-returns-in-Place c =
-    let p = c.in-Place.p in
-    three_held p.right_ascension p.declination p.distance (search rules) (search rules) (search rules) ∙ ap place_shown (sym c.in-Place.is)
+returns-in-Ok c =
+    let p = c.in-Ok.p in
+    three_held p.right_ascension p.declination p.distance (search rules) (search rules) (search rules) ∙ ap place_shown (sym c.in-Ok.is)
 
-pub returns-in-NoPlace : goal.returns-in-NoPlace
+pub returns-in-Err : goal.returns-in-Err
 unfolding place_shown
-returns-in-NoPlace c = c.refused_three.ensures ∙ ap place_shown (sym c.in-NoPlace.is)
+returns-in-Err c = c.refused_three.ensures ∙ ap place_shown (sym c.in-Err.is)

@@ -3,10 +3,10 @@ use mathlib.Core.Path.{sym, ap, ◌∙◌}
 use Rattle.answers.specs.Answers.{printed_shown}
 use Rattle.answers.proofs.of_printed.Goals as goal
 
-pub returns-in-Length : goal.returns-in-Length
+pub returns-in-Ok : goal.returns-in-Ok
 unfolding printed_shown
-returns-in-Length c = c.counted.ensures ∙ ap printed_shown (sym c.in-Length.is)
+returns-in-Ok c = c.counted.ensures ∙ ap printed_shown (sym c.in-Ok.is)
 
-pub returns-in-NoText : goal.returns-in-NoText
+pub returns-in-Err : goal.returns-in-Err
 unfolding printed_shown
-returns-in-NoText c = c.refused_one.ensures ∙ ap printed_shown (sym c.in-NoText.is)
+returns-in-Err c = c.refused_one.ensures ∙ ap printed_shown (sym c.in-Err.is)

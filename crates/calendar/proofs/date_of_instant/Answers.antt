@@ -21,4 +21,4 @@ pub returns : goal.returns
 returns c =
     let ms-back : to_z w64 (of_z w64 c.args.t.ms) ≡ c.args.t.ms = search rules in
     moment_given _ _ _ _ (told_within _ _ _ c.in_limit.ensures (ap not c.if-not-in_limit.false)) (rw (ms-back) at c.since_start-u.ensures.0)
-    c.since_start-u.ensures.1 c.plain_date-date.ensures c.wide-rest.ensures
+    c.since_start-u.ensures.1 c.plain_date-date.ensures c.wide-ms.ensures

@@ -2,8 +2,8 @@
 use Rattle.std.specs.Prelude.{Bool, true, false, cond, List, [], ◌∷◌, ℕ, ◌+◌, ◌*◌, ◌-◌, ◌/◌, ltb, leb, eqb}
 use Rattle.integers.specs.Signs.{sgn}
 use Rattle.decimals.specs.Decimals.{minus_sign, zero_digit, nine_digit}
-use Rattle.decimals.specs.declared.reading.Read.{Read}
-use Rattle.decimals.specs.declared.reading.Read.TheVariants.{Number, Other}
+use Rattle.std.specs.Prelude.{None, Option, Some}
+use Rattle.std.specs.Prelude.{ℤ}
 
 -- Past every number that is read.
 abbrev pub too_great : ℕ
@@ -22,9 +22,9 @@ unfoldable pub all_digits : List ℕ → ℕ
 all_digits [] = too_great
 all_digits (b ∷ bs) = digits_after 0 (b ∷ bs)
 
-unfoldable pub signed_read : Bool → ℕ → Read
-signed_read below v = cond (eqb v too_great) Other (Number (sgn below v))
+unfoldable pub signed_read : Bool → ℕ → Option ℤ
+signed_read below v = cond (eqb v too_great) None (Some (sgn below v))
 
-unfoldable pub number_of : List ℕ → Read
-number_of [] = Other
+unfoldable pub number_of : List ℕ → Option ℤ
+number_of [] = None
 number_of (b ∷ bs) = cond (eqb b minus_sign) (signed_read true (all_digits bs)) (signed_read false (all_digits (b ∷ bs)))

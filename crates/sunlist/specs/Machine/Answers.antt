@@ -5,7 +5,8 @@ use Rattle.limits.specs.Wide.{four_millennia, both_asked}
 use Rattle.packed.specs.Machine.Table.{table_blocks}
 use Rattle.series.specs.Machine.Table.{Table}
 use Rattle.sunlist.specs.declared.Decision.{Decision}
-use Rattle.sunlist.specs.declared.ListAnswer.{ListAnswer}
+use Rattle.std.specs.Prelude.{Result}
+use Rattle.units.specs.declared.Refusal.{Refusal}
 use Rattle.sunlist.specs.SunList.{minute, decision_at, Outcome, answered, written}
 
 -- Two tables whose series may be asked at each of n minutes.
@@ -19,5 +20,5 @@ abbrev pub decided_at : (planet earth : List (List ℕ)) → Instant → ℕ →
 decided_at planet earth t0 k j = decision_at (table_blocks planet) (table_blocks earth) t0 k j
 
 -- An outcome is answered, and the output, which held `before`, holds `after`.
-abbrev pub Answers : Outcome → (before : List ℕ) → ListAnswer → (after : List ℕ) → Type 0
+abbrev pub Answers : Outcome → (before : List ℕ) → Result ℕ Refusal → (after : List ℕ) → Type 0
 Answers o before r after = (r ≡ answered (length before) o) × (after ≡ written before o)

@@ -19,11 +19,11 @@ pub overflow_add-result : goal.overflow_add-result
 overflow_add-result c =
     omega (arith, c.put_decimal-next.ensures.0, c.put_decimal-next.auto.out, decimal_length most_digits c.natural_or.result, c.requires, c.well_formed)
 
-pub returns-in-Day : goal.returns-in-Day
-returns-in-Day c =
-    let e : to_z w64 (of_z w64 c.in-Day.n) ≡ c.in-Day.n = search rules in
-    day_put _ _ _ _ _ _ _ c.in-Day.is (rw e at c.natural_or.ensures) c.put_decimal-next.ensures
+pub returns-in-Ok : goal.returns-in-Ok
+returns-in-Ok c =
+    let e : to_z w64 (of_z w64 c.in-Ok.n) ≡ c.in-Ok.n = search rules in
+    day_put _ _ _ _ _ _ _ c.in-Ok.is (rw e at c.natural_or.ensures) c.put_decimal-next.ensures
 
-pub returns-in-NoDay : goal.returns-in-NoDay
+pub returns-in-Err : goal.returns-in-Err
 unfolding text refused
-returns-in-NoDay c = refused_put _ _ _ _ _ _ c.in-NoDay.is c.put_bytes.ensures
+returns-in-Err c = refused_put _ _ _ _ _ _ c.in-Err.is c.put_bytes.ensures

@@ -3,7 +3,7 @@ use Rattle.arith.proofs.Signs.{back, ok}
 use mathlib.Core.Path.{ap}
 use borrow.Author.Tests.{ne_eqb}
 use Rattle.decimals.specs.Machine.Reading.{too_great, signed_read}
-use Rattle.decimals.specs.declared.reading.Read.TheVariants.{Number}
+use Rattle.std.specs.Prelude.{Some}
 use Rattle.decimals.proofs.Taken.{signed_other}
 use Rattle.decimals.proofs.reading.signed.Goals as goal
 
@@ -14,4 +14,4 @@ pub returns : goal.returns
 unfolding signed_read
 returns c =
     let v = c.args.value in
-    rw (back _ (ok c.of_parts.type_inv), ne_eqb v too_great c.if-value-eq-TOO_GREAT.false) (ap Number c.of_parts.ensures)
+    rw (back _ (ok c.of_parts.type_inv), ne_eqb v too_great c.if-value-eq-TOO_GREAT.false) (ap Some c.of_parts.ensures)

@@ -11,8 +11,8 @@ use Rattle.place.proofs.bodies.taken.Goals as goal
 pub returns-then-not-may_ask : goal.returns-then-not-may_ask
 returns-then-not-may_ask c = first_far _ _ _ c.requires.3 _ c.may_ask.result c.may_ask.ensures (ap not c.if-not-may_ask.true)
 
-pub both_at-first-requires : goal.both_at-first-requires
-both_at-first-requires c = (
+pub both_at-requires : goal.both_at-requires
+both_at-requires c = (
   c.requires.0,
   c.requires.1,
   c.requires.2,
@@ -20,36 +20,36 @@ both_at-first-requires c = (
 )
 
 pub earlier-before-requires : goal.earlier-before-requires
-earlier-before-requires c = (c.requires.0, (at_clear _ _ _ _ (sym c.both_at-first.ensures ∙ c.in-Usable.is)).distance_in)
+earlier-before-requires c = (c.requires.0, (at_clear _ _ _ _ (sym c.both_at.ensures ∙ c.in-Some.is)).distance_in)
 
 pub returns-then-not-in_limit : goal.returns-then-not-in_limit
 returns-then-not-in_limit c =
-    first_usable _ _ _ c.requires.3 _ c.may_ask.result c.may_ask.ensures (ap not c.if-not-may_ask.false) c.both_at-first.result
-    c.both_at-first.ensures _ c.in-Usable.is c.earlier-before.result c.earlier-before.ensures _
+    first_usable _ _ _ c.requires.3 _ c.may_ask.result c.may_ask.ensures (ap not c.if-not-may_ask.false) c.both_at.result
+    c.both_at.ensures _ c.in-Some.is c.earlier-before.result c.earlier-before.ensures _
     (earlier_past _ _ _ c.requires.3 _ c.earlier-before.result c.in_limit.result c.in_limit.ensures (ap not c.if-not-in_limit.true))
 
 pub returns-then-not-may_ask-2 : goal.returns-then-not-may_ask-2
 returns-then-not-may_ask-2 c =
-    first_usable _ _ _ c.requires.3 _ c.may_ask.result c.may_ask.ensures (ap not c.if-not-may_ask.false) c.both_at-first.result
-    c.both_at-first.ensures _ c.in-Usable.is c.earlier-before.result c.earlier-before.ensures _
-    (earlier_far _ _ _ c.requires.3 _ c.earlier-before.result c.in_limit.result c.in_limit.ensures (ap not c.if-not-in_limit.false) c.may_ask-in-Usable.result
-    c.may_ask-in-Usable.ensures (ap not c.if-not-may_ask-2.true))
+    first_usable _ _ _ c.requires.3 _ c.may_ask.result c.may_ask.ensures (ap not c.if-not-may_ask.false) c.both_at.result
+    c.both_at.ensures _ c.in-Some.is c.earlier-before.result c.earlier-before.ensures _
+    (earlier_far _ _ _ c.requires.3 _ c.earlier-before.result c.in_limit.result c.in_limit.ensures (ap not c.if-not-in_limit.false) c.may_ask-2.result
+    c.may_ask-2.ensures (ap not c.if-not-may_ask-2.true))
 
 pub both_at-second-requires : goal.both_at-second-requires
 both_at-second-requires c =
     let inside = told_size t_limit _ c.in_limit.result c.in_limit.ensures (ap not c.if-not-in_limit.false) in
-    let asked = told_asked _ _ _ c.requires.3 c.earlier-before.result c.may_ask-in-Usable.result c.may_ask-in-Usable.ensures
+    let asked = told_asked _ _ _ c.requires.3 c.earlier-before.result c.may_ask-2.result c.may_ask-2.ensures
     (ap not c.if-not-may_ask-2.false) in
     (inside, c.requires.1, c.requires.2, asked)
 
-pub returns-in-Unusable : goal.returns-in-Unusable
-returns-in-Unusable c =
-    first_unusable _ _ _ c.requires.3 _ c.may_ask.result c.may_ask.ensures (ap not c.if-not-may_ask.false) c.both_at-first.result c.both_at-first.ensures
-    c.in-Unusable.is
+pub returns-in_default : goal.returns-in_default
+returns-in_default c =
+    first_unusable _ _ _ c.requires.3 _ c.may_ask.result c.may_ask.ensures (ap not c.if-not-may_ask.false) c.both_at.result c.both_at.ensures
+    c.in_default.is
 
-pub returns-else-not-may_ask-2 : goal.returns-else-not-may_ask-2
-returns-else-not-may_ask-2 c =
-    first_usable _ _ _ c.requires.3 _ c.may_ask.result c.may_ask.ensures (ap not c.if-not-may_ask.false) c.both_at-first.result
-    c.both_at-first.ensures _ c.in-Usable.is c.earlier-before.result c.earlier-before.ensures _
-    (second_is _ _ _ c.requires.3 _ c.earlier-before.result c.in_limit.result c.in_limit.ensures (ap not c.if-not-in_limit.false) c.may_ask-in-Usable.result
-    c.may_ask-in-Usable.ensures (ap not c.if-not-may_ask-2.false) c.both_at-second.result c.again.result c.both_at-second.ensures c.again.ensures)
+pub returns : goal.returns
+returns c =
+    first_usable _ _ _ c.requires.3 _ c.may_ask.result c.may_ask.ensures (ap not c.if-not-may_ask.false) c.both_at.result
+    c.both_at.ensures _ c.in-Some.is c.earlier-before.result c.earlier-before.ensures _
+    (second_is _ _ _ c.requires.3 _ c.earlier-before.result c.in_limit.result c.in_limit.ensures (ap not c.if-not-in_limit.false) c.may_ask-2.result
+    c.may_ask-2.ensures (ap not c.if-not-may_ask-2.false) c.both_at-second.result c.again.result c.both_at-second.ensures c.again.ensures)

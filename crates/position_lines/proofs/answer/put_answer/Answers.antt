@@ -6,10 +6,10 @@ use Rattle.position_lines.proofs.answer.put_answer.Goals as goal
 pub put_place-requires : goal.put_place-requires
 put_place-requires c =
     let a = c.args in
-    (figures_ask a.planet.now a.earth.now a.t c.apparent_place-a.result c.apparent_place-a.ensures _ c.in-Place.is, c.requires)
+    (figures_ask a.planet.now a.earth.now a.t c.apparent_place-a.result c.apparent_place-a.ensures _ c.in-Ok.is, c.requires)
 
-pub returns-in-NoPlace : goal.returns-in-NoPlace
-returns-in-NoPlace c = refusal_answered _ _ _ _ _ _ c.apparent_place-a.ensures c.in-NoPlace.is c.put_refusal.ensures
+pub returns-in-Err : goal.returns-in-Err
+returns-in-Err c = refusal_answered _ _ _ _ _ _ c.apparent_place-a.ensures c.in-Err.is c.put_refusal.ensures
 
-pub returns-in-Place : goal.returns-in-Place
-returns-in-Place c = place_answered _ _ _ _ _ _ c.apparent_place-a.ensures c.in-Place.is c.put_place.ensures
+pub returns-in-Ok : goal.returns-in-Ok
+returns-in-Ok c = place_answered _ _ _ _ _ _ c.apparent_place-a.ensures c.in-Ok.is c.put_place.ensures
