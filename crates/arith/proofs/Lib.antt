@@ -5,3 +5,4 @@ pub mod Long
 pub mod Naturals
 pub mod Split
 pub mod Ranges
+pub mod Halves

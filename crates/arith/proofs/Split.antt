@@ -4,9 +4,6 @@ use mathlib.Core.Bool.{false}
 use Prim.Native.Nat.{ℕ, ◌+◌, ◌*◌, ◌/◌, ◌%◌, ◌≤◌, ◌<◌}
 use native.Mathlib.Omega.{arith}
 use native.Mathlib.Nat.{div-add-mod, mod-lt, mul-le-mul, mul-le-mul_left, mul-le-mul_right}
-use native.Mathlib.Decide.{dec_le}
-use borrow.Author.Tests.{le-leb, lt-leb}
-use lib.Dec.{leb}
 use lib.IntN.{pos, ◌*ℤ◌}
 use Rattle.integers.specs.Division.{rounded}
 use Rattle.integers.specs.Signs.{sgn, near}
@@ -70,32 +67,3 @@ rounded_two_steps a x s t z hs ht even e =
   where
     commutes : (x a : ℕ) → x * a ≡ a * x
     commutes x a = omega arith
-
--- Two words, the quotient and the rest, compared in order.
-module _ (n m d q r p t : ℕ) (z : Divided n d q r) (y : Divided m d p t) where
-  pub words_less : q < p → n < m
-  words_less h =
-      let e = z.whole in
-      let f = y.whole in
-      let g = z.rest in
-      let k : q + 1 ≤ p = omega arith in
-      omega (arith, mul-le-mul_right d k)
-
-  pub words_same : q ≡ p → r ≤ t → n ≤ m
-  words_same h l =
-      let e = z.whole in
-      let f = y.whole in
-      omega (arith, ap (λ (x : ℕ). x * d) h)
-
-  pub words_more : q ≡ p → t < r → m < n
-  words_more h l =
-      let e = z.whole in
-      let f = y.whole in
-      omega (arith, ap (λ (x : ℕ). x * d) h)
-
-  pub words_leb : q ≡ p → leb r t ≡ leb n m
-  words_leb h = go (dec_le r t)
-    where
-      go : Dec (r ≤ t) → leb r t ≡ leb n m
-      go (yes l) = le-leb r t l ∙ sym (le-leb n m (words_same h l))
-      go (no f) = lt-leb r t (omega arith) ∙ sym (lt-leb n m (words_more h (omega arith)))

@@ -1,6 +1,6 @@
 -- `arith::muldiv::scale` meets its contract. Assumes nothing.
 use mathlib.Core.Path.{◌≡◌, ◌∙◌, sym, ap₂, subst}
-use Prim.Native.Nat.{ℕ, ◌+◌, ◌*◌, ◌<◌, ◌≤◌, ◌^◌}
+use Prim.Native.Nat.{ℕ, ◌*◌, ◌<◌, ◌≤◌, ◌^◌}
 use native.Mathlib.Omega.{arith}
 use native.Mathlib.Nat.{mul-le-mul_left}
 use lib.Dec.{lit<}
@@ -11,30 +11,13 @@ use Rattle.units.specs.Units.{U}
 use Rattle.arith.proofs.Long.{Divided, divided}
 use Rattle.arith.proofs.muldiv.scale.Goals as goal
 
-pub product_by_unit-z-requires : goal.product_by_unit-z-requires
-product_by_unit-z-requires c =
-    let at_c : c.abs-2.result ≡ nat_abs c.args.c = rw (back c.args.c c.ranges.c) at c.abs-2.ensures in
-    subst (λ (n : ℕ). n ≤ U) (sym (at_c)) c.requires.1
-
-pub nearest-requires : goal.nearest-requires
-nearest-requires c =
-    let product : Divided (c.abs.result * c.abs-2.result) U c.product_by_unit-z.result.q c.product_by_unit-z.result.r =
-    divided _ _ _ _ (lit< tt) c.product_by_unit-z.ensures in
-    let at_a : c.abs.result ≡ nat_abs c.args.a = rw (back c.args.a c.ranges.a) at c.abs.ensures in
-    let at_c : c.abs-2.result ≡ nat_abs c.args.c = rw (back c.args.c c.ranges.c) at c.abs-2.ensures in
-    let most : c.abs.result * c.abs-2.result ≤ nat_abs c.args.a * U = rw (at_a, at_c) (mul-le-mul_left (nat_abs c.args.a) c.requires.1) in
-    ((product).rest, room _ _ _ (product).whole (most) c.requires.0)
-  where
-    room : {n : ℕ} (q r m : ℕ) → q * U + r ≡ n → n ≤ m * U → m < 2 ^ 63 → q + 1 < 2 ^ 64
-    room q r m e l h = omega arith
-
 pub of_parts-requires : goal.of_parts-requires
 of_parts-requires c =
-    let product : Divided (c.abs.result * c.abs-2.result) U c.product_by_unit-z.result.q c.product_by_unit-z.result.r =
+    let product : Divided (c.unsigned_abs.result * c.unsigned_abs-2.result) U c.product_by_unit-z.result.q c.product_by_unit-z.result.r =
     divided _ _ _ _ (lit< tt) c.product_by_unit-z.ensures in
-    let at_a : c.abs.result ≡ nat_abs c.args.a = rw (back c.args.a c.ranges.a) at c.abs.ensures in
-    let at_c : c.abs-2.result ≡ nat_abs c.args.c = rw (back c.args.c c.ranges.c) at c.abs-2.ensures in
-    let most : c.abs.result * c.abs-2.result ≤ nat_abs c.args.a * U = rw (at_a, at_c) (mul-le-mul_left (nat_abs c.args.a) c.requires.1) in
+    let at_a : c.unsigned_abs.result ≡ nat_abs c.args.a = rw (back c.args.a c.ranges.a) at c.unsigned_abs.ensures.value in
+    let at_c : c.unsigned_abs-2.result ≡ nat_abs c.args.c = rw (back c.args.c c.ranges.c) at c.unsigned_abs-2.ensures.value in
+    let most : c.unsigned_abs.result * c.unsigned_abs-2.result ≤ nat_abs c.args.a * U = rw (at_a, at_c) (mul-le-mul_left (nat_abs c.args.a) c.requires.1) in
     below c.nearest.ensures (near_most _ (nat_abs c.args.a) _ U (lit< tt)
     (subst (λ (n : ℕ). n ≤ nat_abs c.args.a * U) (sym (product).whole) (most))) c.requires.0
   where
@@ -43,9 +26,9 @@ of_parts-requires c =
 
 pub returns : goal.returns
 returns c =
-    let at_a : c.abs.result ≡ nat_abs c.args.a = rw (back c.args.a c.ranges.a) at c.abs.ensures in
-    let at_c : c.abs-2.result ≡ nat_abs c.args.c = rw (back c.args.c c.ranges.c) at c.abs-2.ensures in
-    let product : Divided (c.abs.result * c.abs-2.result) U c.product_by_unit-z.result.q c.product_by_unit-z.result.r =
+    let at_a : c.unsigned_abs.result ≡ nat_abs c.args.a = rw (back c.args.a c.ranges.a) at c.unsigned_abs.ensures.value in
+    let at_c : c.unsigned_abs-2.result ≡ nat_abs c.args.c = rw (back c.args.c c.ranges.c) at c.unsigned_abs-2.ensures.value in
+    let product : Divided (c.unsigned_abs.result * c.unsigned_abs-2.result) U c.product_by_unit-z.result.q c.product_by_unit-z.result.r =
     divided _ _ _ _ (lit< tt) c.product_by_unit-z.ensures in
     back c.of_parts.result (ok c.of_parts.type_inv) ∙ c.of_parts.ensures
     ∙ rounded_mul c.args.a c.args.c U c.product_by_unit-z.result.q c.product_by_unit-z.result.r c.nearest.result
