@@ -5,7 +5,6 @@ ghost use Rattle.published.specs.Machine.Rows.{Counts, GoesOn};
 use crate::Published;
 use crate::steps::{at_heading, complete};
 use published_records::runs::take_bytes;
-use series_lines::steps::in_line;
 use series_lines::{LAST_OFFSET, READING};
 
 // The reader after some bytes, and the index of the next one.
@@ -50,7 +49,7 @@ pub fn take_row(p: Published, text: &[u8], from: usize) -> Taken
     }
     let r = p.reader;
     let run = take_bytes(at_heading(p), p.row, text, from);
-    let reader = in_line(r, r.line, r.at + (run.next - from));
+    let reader = r.in_line(r.line, r.at + (run.next - from));
     let row = run.row;
     let published = Published {
         reader,

@@ -5,15 +5,15 @@ ghost use Rattle.published.specs.Reader.{at_heading, halted, heading_end, record
 ghost use Rattle.published.specs.Reader.{other, step, step_out, finished, ended, ended_out};
 
 use crate::Published;
-use limits::{Sizes, Tally, block_factor};
+use limits::{Tally, block_factor};
 use packed_numbers::Put;
 use published_headings::judge::{block_of, follows, heading_refusal, missing_blocks, skip_blocks};
 use published_headings::writer::{put_heading, put_missing};
 use published_records::rows::{fresh_row, lex_row, whole_row};
 use series_lines::judge::term_line_refusal;
 use series_lines::lexer::{SPOT_AFTER, SPOT_BAD};
-use series_lines::steps::{advance, in_line, less_one, next_spot, stop};
-use series_lines::writer::put_term;
+use series_lines::steps::next_spot;
+use series_lines::writer::{Sink, Written};
 use series_lines::{ACCEPTED, LAST_OFFSET, READING, Reader};
 use units::{BAD_BYTE, BAD_NUMBER, BYTE_AFTER_END, ENDED_EARLY, NO_ROOM};
 
@@ -29,7 +29,7 @@ pub fn at_heading(p: Published) -> bool
 fn halt(p: Published, status: u64) -> Published
     ensures { result ≡ halted p status }
 {
-    let reader = stop(p.reader, status);
+    let reader = p.reader.stopped(status);
     let row = p.row;
     Published {
         reader,
@@ -56,15 +56,15 @@ fn end_heading(p: Published, out: &mut [u8]) -> Reader
     };
     let refusal = heading_refusal(done, s, row.version, row.coordinate, row.power, n);
     if refusal != 0 {
-        return stop(r, refusal);
+        return r.stopped(refusal);
     }
     let k = block_of(row.coordinate, row.power);
     let put = put_heading((k - done) as usize, n, out, r.written);
     match put {
-        Put::NoRoom(_) => stop(r, NO_ROOM),
+        Put::NoRoom(_) => r.stopped(NO_ROOM),
         Put::Next(next) => {
             let opened = skip_blocks(done, k, s).open_block(k, n);
-            advance(r, next, k + 1, n, opened)
+            r.advanced(next, k + 1, n, opened)
         }
     }
 }
@@ -79,7 +79,7 @@ fn end_record(p: Published, out: &mut [u8]) -> Reader
     let r = p.reader;
     let row = p.row;
     if !follows(p.last, row.number) {
-        return stop(r, BAD_NUMBER);
+        return r.stopped(BAD_NUMBER);
     }
     let line = row.line;
     let s = Tally {
@@ -87,22 +87,16 @@ fn end_record(p: Published, out: &mut [u8]) -> Reader
         total: r.total,
         coarse: r.coarse,
     };
-    let f = block_factor(less_one(r.blocks));
-    let refusal = term_line_refusal(f, s, line);
-    if refusal != 0 {
-        return stop(r, refusal);
+    let f = block_factor(r.blocks.saturating_sub(1));
+    if let Err(fault) = term_line_refusal(f, s, line) {
+        return r.refused(fault);
     }
-    let put = put_term(line, out, r.written, true);
+    let put = Written::put_term(line, out, r.written);
     match put {
-        Put::NoRoom(_) => stop(r, NO_ROOM),
+        Put::NoRoom(_) => r.stopped(NO_ROOM),
         Put::Next(next) => {
-            let term = Sizes {
-                a: line.a,
-                b: line.b,
-                c: line.value,
-            };
-            let more = s.add_term(f, term);
-            advance(r, next, r.blocks, less_one(r.left), more)
+            let more = s.add_term(f, line.sizes());
+            r.advanced(next, r.blocks, r.left.saturating_sub(1), more)
         }
     }
 }
@@ -115,7 +109,7 @@ fn end_row(p: Published, out: &mut [u8]) -> Reader
 {
     let heading = at_heading(p);
     if !whole_row(heading, p.row) {
-        return stop(p.reader, BAD_BYTE);
+        return p.reader.stopped(BAD_BYTE);
     }
     if heading {
         return end_heading(p, out);
@@ -159,7 +153,7 @@ fn take_other(p: Published, byte: u8) -> Published
         return halt(p, BAD_BYTE);
     }
     let r = p.reader;
-    let reader = in_line(r, r.line, r.at + 1);
+    let reader = r.in_line(r.line, r.at + 1);
     Published {
         reader,
         row,

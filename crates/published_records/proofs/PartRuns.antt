@@ -11,7 +11,7 @@ use Rattle.integers.proofs.Tests.{by_cases}
 use Rattle.series_lines.specs.declared.Line.{Line}
 use Rattle.series_lines.specs.Grammar.{digit_0, part_digits}
 use Rattle.series_lines.specs.Lexer.{spot_done, put, lex}
-use Rattle.series_lines.specs.Machine.Parts.{run_end, RunStop, PartAt}
+use Rattle.series_lines.specs.Machine.Parts.{run_end, RunStop, PartAt, Digits, none, more, DigitRun}
 use Rattle.series_lines.proofs.DigitRuns.{short, lex_part}
 use Rattle.published_records.specs.declared.Row.{Row}
 use Rattle.published_records.specs.declared.Column.TheVariants.{Part}
@@ -159,7 +159,7 @@ module _ (r : Row) (text : List ℕ) (from spot value i stop : ℕ) (a : PartsAh
       let before : spot < run_end l.minus = omega (arith, p.takes.onward, p.spots, d.early, t.short) in
       let inside : i < length text = omega (arith, d.early, t.within) in
       let byte = get_or text i 0 in
-      let more = 10 * value + (byte - digit_0) in
+      let next = 10 * value + (byte - digit_0) in
       let early : spot < spot_done = omega (arith, before, short l.minus) in
       let on : l.spot ≤ spot = omega (arith, p.spots) in
       let s = row_at r spot value in
@@ -168,33 +168,43 @@ module _ (r : Row) (text : List ℕ) (from spot value i stop : ℕ) (a : PartsAh
       let with : ℕ → Line → Row = λ (n : ℕ) (m : Line).
       record { column = n; line = m; version = r.version; coordinate = r.coordinate; power = r.power; number = r.number } in
       let q = lex_part (put l spot l.minus value) byte (omega (arith, a.begun, on)) before d.small d.least d.most in
-      let e : row_at r (spot + 1) more ≡ lex_row false s byte =
-      ap (λ (n : ℕ). with n (put l (spot + 1) l.minus more)) (c ∙ sym (next_one (r.column + (spot - l.spot)) k.below))
+      let e : row_at r (spot + 1) next ≡ lex_row false s byte =
+      ap (λ (n : ℕ). with n (put l (spot + 1) l.minus next)) (c ∙ sym (next_one (r.column + (spot - l.spot)) k.below))
       ∙ ap (with (next_column (r.column + (spot - l.spot)))) q
       ∙ sym (step_part s byte k) in
-      let one = takes_one false s (row_at r (spot + 1) more) text i byte inside refl e
+      let one = takes_one false s (row_at r (spot + 1) next) text i byte inside refl e
       (λ z. omega (arith, z, d.least)) (λ z. omega (arith, z, early)) in
       record {
         spots = omega (arith, p.spots, p.takes.onward);
         most = omega (arith, early);
-        takes = takes_then false r s (row_at r (spot + 1) more) text from i (i + 1) p.takes one;
+        takes = takes_then false r s (row_at r (spot + 1) next) text from i (i + 1) p.takes one;
       }
 
 -- The loop holds only the value and i: the spot follows from i.
 abbrev pub RunParted : Row → List ℕ → ℕ → ℕ → ℕ → Type 0
 RunParted r text from value i = Parted r text from (r.line.spot + (i - from)) value i
 
-pub parted_none : (r : Row) (text : List ℕ) (from : ℕ) → PartsAhead r → RunParted r text from r.line.value from
+parted_none : (r : Row) (text : List ℕ) (from : ℕ) → PartsAhead r → RunParted r text from r.line.value from
 parted_none r text from a =
     let e : r.line.spot ≡ r.line.spot + (from - from) = omega arith in
     subst (λ (n : ℕ). Parted r text from n r.line.value from) e (parted_first r text from a)
 
-pub parted_more : (r : Row) (text : List ℕ) (from value i stop : ℕ) → PartsAhead r → RunStop text from r.line.spot r.line.minus stop
+parted_more : (r : Row) (text : List ℕ) (from value i stop : ℕ) → PartsAhead r → RunStop text from r.line.spot r.line.minus stop
     → RunParted r text from value i → PartAt text i stop value → RunParted r text from (10 * value + (get_or text i 0 - digit_0)) (i + 1)
 parted_more r text from value i stop a t p d =
     let e : r.line.spot + (i - from) + 1 ≡ r.line.spot + (i + 1 - from) = omega (arith, p.takes.onward) in
     subst (λ (n : ℕ). Parted r text from n (10 * value + (get_or text i 0 - digit_0)) (i + 1)) e
     (parted_next r text from (r.line.spot + (i - from)) value i stop a t p d)
+
+-- So all digits of a run have come.
+parted_all : (r : Row) (text : List ℕ) (from : ℕ) → PartsAhead r → {stop next after : ℕ} → RunStop text from r.line.spot r.line.minus stop
+    → Digits text stop from r.line.value next after → RunParted r text from after next
+parted_all r text from a k none = parted_none r text from a
+parted_all r text from a k (more d p) = parted_more r text from _ _ _ a k (parted_all r text from a k d) p
+
+pub parted : (r : Row) (text : List ℕ) (from : ℕ) → PartsAhead r → {next after : ℕ}
+    → DigitRun text from r.line.spot r.line.minus r.line.value next after → RunParted r text from after next
+parted r text from a d = parted_all r text from a d.ends d.digits
 
 -- Where the record goes on there is no line feed.
 no_feed : (heading : Bool) (r : Row) (bytes : List ℕ) → RunsOn heading r bytes → NoFeed bytes

@@ -1,4 +1,4 @@
-// The digits after a decimal's point, taken in a run: the loop holds only what a digit changes.
+// The digits after a decimal's point, taken in a run.
 ghost use Rattle.std.specs.Prelude.{◌≡◌, false, true, ◌≤◌};
 ghost use Rattle.series_lines.specs.Lexer.{spot_done};
 ghost use Rattle.published_records.specs.Machine.Fillers.{Skips};
@@ -7,8 +7,9 @@ ghost use Rattle.published_records.specs.Machine.Parts.{parts_left, part_columns
 use crate::Row;
 use crate::columns::{A_FIRST, A_LAST, B_LAST, C_LAST};
 use crate::fillers::Skipped;
-use series_lines::lexer::{PART_DIGITS, SPOT_DONE, SPOT_POINT, put};
-use series_lines::parts::{part_at, run_stop};
+use series_lines::Line;
+use series_lines::lexer::{PART_DIGITS, SPOT_DONE, SPOT_POINT};
+use series_lines::parts::take_digits;
 
 // So many of the last columns of a field take digits after the point, from one with m columns after it.
 fn parts_left(m: u64) -> u64
@@ -58,15 +59,14 @@ fn come_to(row: Row, spot: u64, value: u64) -> Row
     requires { PartsAhead row × ((row.line.spot ≤ spot) × (spot ≤ spot_done)) }
     ensures { result ≡ row_at row spot value }
 {
-    let l = row.line;
-    let next = put(l, spot, l.minus, value);
     Row {
-        column: row.column + (spot - l.spot),
-        line: next,
-        version: row.version,
-        coordinate: row.coordinate,
-        power: row.power,
-        number: row.number,
+        column: row.column + (spot - row.line.spot),
+        line: Line {
+            spot,
+            value,
+            ..row.line
+        },
+        ..row
     }
 }
 
@@ -75,16 +75,10 @@ pub fn take_parts(row: Row, text: &[u8], from: usize) -> Skipped
     requires { PartsAhead row }
     ensures { Skips false row text.now from result.row result.next }
 {
-    let l = row.line;
-    let stop = run_stop(text, from, l.spot, l.minus);
-    let mut value = l.value;
-    let mut i = from;
-    while part_at(text, i, stop, value) {
-        value = 10 * value + (text[i] - b'0') as u64;
-        i = i + 1;
-    }
+    let digits = take_digits(row.line, text, from);
+    let spot = row.line.spot + (digits.next - from) as u64;
     Skipped {
-        row: come_to(row, l.spot + (i - from) as u64, value),
-        next: i,
+        row: come_to(row, spot, digits.state),
+        next: digits.next,
     }
 }

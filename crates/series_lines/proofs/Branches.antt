@@ -7,7 +7,11 @@ use native.Mathlib.Omega.{arith}
 use borrow.Author.Tests.{eq-eqb, ne_eqb}
 use lib.Dec.{eqb}
 use lib.ListN.{length}
-use Rattle.units.specs.Refusals.{no_room}
+use Rattle.units.specs.Refusals.{no_room, fault_number}
+use Rattle.units.specs.declared.Fault.{Fault}
+use Rattle.units.specs.declared.Fault.TheVariants.{BadByte as byte_fault, OverLimit as limit_fault, TotalOverLimit as total_fault}
+use Rattle.units.specs.declared.Fault.TheVariants.{TooCoarse as coarse_fault, NoRoom as room_fault, EndedEarly as end_fault}
+use Rattle.units.specs.declared.Fault.TheVariants.{ByteAfterEnd as after_fault, BadHeading as heading_fault, BadNumber as number_fault}
 use Rattle.packed_numbers.specs.declared.Put.{Put}
 use Rattle.packed_numbers.specs.declared.Put.TheVariants.{Next, NoRoom}
 use Rattle.series_lines.specs.declared.Reader.{Reader}
@@ -23,6 +27,18 @@ no_fit false a b n p e f = refl
 pub fit : (t : Bool) (a b n : ℕ) (p : Put) → p ≡ cond t (Next a) (NoRoom b) → p ≡ Next n → (t ≡ true) × (n ≡ a)
 fit true a b n p e f = (refl, cc)
 fit false a b n p e f = let z : ◌≡◌ {A = ℕ} 0 1 = cc in absurd (omega arith)
+
+-- No fault has the number 0.
+pub fault_some : (fault : Fault) → fault_number fault ≡ 0 → ⊥
+fault_some byte_fault e = omega (arith, e)
+fault_some limit_fault e = omega (arith, e)
+fault_some total_fault e = omega (arith, e)
+fault_some coarse_fault e = omega (arith, e)
+fault_some room_fault e = omega (arith, e)
+fault_some end_fault e = omega (arith, e)
+fault_some after_fault e = omega (arith, e)
+fault_some heading_fault e = omega (arith, e)
+fault_some number_fault e = omega (arith, e)
 
 -- A line that was judged, by a call that writes or one that only judges.
 module _ (writes : Bool) (r s : Reader) (out : List ℕ) (v : Verdict) where

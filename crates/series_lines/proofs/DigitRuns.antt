@@ -5,10 +5,14 @@ use Prim.Native.Nat.{ℕ, zero, suc, ◌+◌, ◌*◌, ◌-◌, ◌≤◌, ◌<�
 use native.Mathlib.Omega.{arith}
 use borrow.Author.Tests.{ne_eqb, lt-ltb, le-ltb, ltb-true, ltb-false}
 use lib.Dec.{ltb, eqb}
+use lib.ListN.{length, get_or}
+use mathlib.Core.List.{List}
+use Rattle.std.specs.List.{slice_range}
+use Rattle.std.proofs.lemmas.Grind.{common_steps}
 use Rattle.series_lines.specs.declared.Line.{Line}
 use Rattle.series_lines.specs.Grammar.{digit_0}
 use Rattle.series_lines.specs.Lexer.{spot_point, spot_done, value_limit, takes_digit, put, with_digit, lex}
-use Rattle.series_lines.specs.Machine.Parts.{run_end}
+use Rattle.series_lines.specs.Machine.Parts.{run_end, PartAt, Digits, none, more, DigitRun}
 use Rattle.series_lines.proofs.Digits.{in_parts, at_last_part, first_digit}
 
 -- A test that said no.
@@ -46,3 +50,26 @@ lex_part l byte h k v f g =
       lt-ltb byte (digit_0 + 10) g,
       goes_on l.spot l.value (byte - digit_0) v h l.minus k,
     )
+
+-- One digit more, read from the part of the text that the run may take.
+pub part_read : (text part : List ℕ) (from stop n : ℕ) → part ≡ slice_range text from stop → length part + from ≡ stop → stop ≤ length text
+    → n < length part → get_or part n 0 ≡ get_or text (from + n) 0
+part_read text part from stop n e l w h = grind (arith, common_steps)
+
+pub digit_more : (text part : List ℕ) (from stop value n v d : ℕ) → part ≡ slice_range text from stop → length part + from ≡ stop
+    → stop ≤ length text → n < length part → Digits text stop from value (from + n) v → v < value_limit → digit_0 ≤ get_or part n 0
+    → get_or part n 0 < digit_0 + 10 → d ≡ get_or part n 0 - digit_0 → Digits text stop from value (from + (n + 1)) (10 * v + d)
+digit_more text part from stop value n v d e l w h t b f g q =
+    let r = part_read text part from stop n e l w h in
+    let at : from + (n + 1) ≡ from + n + 1 = omega arith in
+    rw (q, r, at) (more t (record { early = omega arith; small = b; least = rw r at f; most = rw r at g }))
+
+-- The digits that were taken are no more than the run may have.
+module _ {text : List ℕ} {from : ℕ} where
+  digits_within : {stop value i v : ℕ} → Digits text stop from value i v → (from ≤ i) × (i - from ≤ stop - from)
+  digits_within none = (omega arith, omega arith)
+  digits_within (more d p) = let k = digits_within d in (omega (arith, k.0), omega (arith, k.0, p.early))
+
+  pub run_within : {spot minus value next after : ℕ} → DigitRun text from spot minus value next after
+      → (from ≤ next) × (next - from ≤ run_end minus - spot)
+  run_within d = let k = digits_within d.digits in (k.0, omega (arith, k.1, d.ends.short))

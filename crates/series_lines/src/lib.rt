@@ -67,9 +67,8 @@ pub enum Outcome {
 pub fn start() -> Reader
     ensures { result ≡ begun }
 {
-    let l = lexer::fresh_line(lexer::SPOT_COUNT);
     Reader {
-        line: l,
+        line: lexer::fresh_line(lexer::SPOT_COUNT),
         at: 0,
         written: 0,
         blocks: 0,
@@ -83,15 +82,13 @@ pub fn start() -> Reader
 }
 
 // What stands after the calls so far.
+#[tactic(auto, using(std::proofs::lemmas::Bool::Decides::nat_tests), unfolding(crate::specs::Reader::told))]
 pub fn answer(r: Reader) -> Outcome
     ensures { result ≡ told r }
 {
-    if r.status == READING {
-        return Outcome::More(r.written);
+    match r.status {
+        READING => Outcome::More(r.written),
+        ACCEPTED => Outcome::Accepted(r.written),
+        number => Outcome::Refused(Refusal::of_number(number, r.place)),
     }
-    if r.status == ACCEPTED {
-        return Outcome::Accepted(r.written);
-    }
-    let refusal = Refusal::of_number(r.status, r.place);
-    Outcome::Refused(refusal)
 }

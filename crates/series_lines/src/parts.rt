@@ -1,51 +1,44 @@
-// The digits after a decimal's point, taken in a run: how far it goes, and whether a digit goes on in it.
-ghost use Rattle.std.specs.Prelude.{◌≡◌, true, ◌≤◌, length};
-ghost use Rattle.series_lines.specs.Machine.Parts.{run_end, RunStop, PartAt};
+// The digits after a decimal's point, taken in a run: how far it goes, and the digits in it. For the readers, whose loops hold only what a digit
+// changes.
+ghost use Rattle.std.specs.Prelude.{◌≡◌};
+ghost use Rattle.series_lines.specs.Machine.Parts.{run_end, DigitRun};
 
+use crate::Line;
 use crate::lexer::{SPOT_DONE, SPOT_LAST, VALUE_LIMIT};
+use crate::passed::Passed;
 
 // How far a run may go: with a minus the last part may be refused.
+#[tactic(auto, using(std::proofs::lemmas::Bool::Decides::nat_tests), unfolding(crate::specs::Machine::Parts::run_end))]
 fn run_end(minus: u64) -> u64
     ensures { result ≡ run_end minus }
 {
-    if minus == 0 {
-        return SPOT_DONE;
-    }
-    SPOT_LAST
+    if minus == 0 { SPOT_DONE } else { SPOT_LAST }
 }
 
-// Where a run of digits from an index on, at a spot, ends at the latest: where it may go no further, or with the text; 0 where none may come.
-pub fn run_stop(text: &[u8], from: usize, spot: u64, minus: u64) -> usize
-    ensures { RunStop text.now from spot minus result }
+// The digits that stand from an index on, as far as a run of line l goes: the value with them, and the index after them.
+pub fn take_digits(l: Line, text: &[u8], from: usize) -> Passed<u64>
+    ensures { DigitRun text.now from l.spot l.minus l.value result.next result.state }
 {
-    let end = run_end(minus);
-    if end <= spot {
-        return 0;
+    let most = run_end(l.minus).saturating_sub(l.spot) as usize;
+    let stop = text.len().min(from.saturating_add(most));
+    let mut value = l.value;
+    let Some(run) = text.get(from..stop) else {
+        return Passed {
+            state: value,
+            next: from,
+        };
+    };
+    for (n, byte) in run.iter().enumerate() {
+        if VALUE_LIMIT <= value || !byte.is_ascii_digit() {
+            return Passed {
+                state: value,
+                next: from + n,
+            };
+        }
+        value = 10 * value + u64::from(*byte - b'0');
     }
-    if text.len() < from {
-        return 0;
+    Passed {
+        state: value,
+        next: stop,
     }
-    let most = (end - spot) as usize;
-    if text.len() - from < most {
-        return text.len();
-    }
-    from + most
-}
-
-// A digit stands there, before the index where the run stops, and goes on after so much.
-pub fn part_at(text: &[u8], i: usize, stop: usize, value: u64) -> bool
-    requires { stop ≤ length text.now }
-    ensures { result ≡ true → PartAt text.now i stop value }
-{
-    if stop <= i {
-        return false;
-    }
-    if VALUE_LIMIT <= value {
-        return false;
-    }
-    let byte = text[i];
-    if byte < b'0' {
-        return false;
-    }
-    byte <= b'9'
 }

@@ -1,5 +1,5 @@
 // The writer of a line's packed bytes (refusal 7: no room for them). For the readers, which write a line that was judged, or only count its bytes.
-ghost use Rattle.std.specs.Prelude.{◌≡◌, length, ◌+◌, ◌≤◌, ◌<◌, cond, leb};
+ghost use Rattle.std.specs.Prelude.{◌≡◌, Bool, true, false, length, ◌+◌, ◌≤◌, ◌<◌, cond, leb};
 ghost use Rattle.std.proofs.lemmas.List.Edits.{sets};
 ghost use Rattle.units.specs.Units.{c_limit};
 ghost use Rattle.packed_numbers.specs.declared.Put.TheVariants.{Next, NoRoom};
@@ -27,61 +27,112 @@ fn fold(minus: u64, value: u64) -> u64
     2 * value - 1
 }
 
-// How many bytes three numbers have.
-fn length_of_three(a: u64, b: u64, c: u64) -> usize
-    ensures { result ≡ length (three_packed a b c) }
-{
-    groups_of(a) + groups_of(b) + groups_of(c)
+// The three numbers of a term as its packed form has them.
+#[derive(Clone, Copy)]
+struct Numbers {
+    a: u64,
+    b: u64,
+    c: u64,
 }
 
-// Writes three numbers from at, where they fit.
-fn put_three(a: u64, b: u64, c: u64, out: &mut [u8], at: usize) -> usize
-    requires { at + length (three_packed a b c) ≤ length out.old }
-    ensures { (result ≡ at + length (three_packed a b c)) × (out.new ≡ sets out.old at (three_packed a b c)) }
-{
-    let at_b = put_groups(a, out, at);
-    let at_c = put_groups(b, out, at_b);
-    put_groups(c, out, at_c)
+impl Numbers {
+    // Those of a line's term: a and c are folded.
+    #[tactic(auto, unfolding(packed::specs::Series::pack_term))]
+    fn of_line(l: Line) -> Numbers
+        requires { (l.a < c_limit) × (l.value < c_limit) }
+        ensures { three_packed result.a result.b result.c ≡ pack_term (term_on_line l) }
+    {
+        Numbers {
+            a: fold(l.minusa, l.a),
+            b: l.b,
+            c: fold(l.minus, l.value),
+        }
+    }
+
+    // How many bytes they have.
+    #[tactic(auto, using(crate::proofs::WrittenTerm::length_three, packed_numbers::proofs::Encode::encode_short))]
+    fn length(self) -> usize
+        ensures { result ≡ length (three_packed self.a self.b self.c) }
+    {
+        groups_of(self.a) + groups_of(self.b) + groups_of(self.c)
+    }
+
+    // Writes them from at, where they fit.
+    fn put(self, out: &mut [u8], at: usize) -> usize
+        requires { at + length (three_packed self.a self.b self.c) ≤ length out.old }
+        ensures { (result ≡ at + length (three_packed self.a self.b self.c))
+            × (out.new ≡ sets out.old at (three_packed self.a self.b self.c)) }
+    {
+        let at_b = put_groups(self.a, out, at);
+        let at_c = put_groups(self.b, out, at_b);
+        put_groups(self.c, out, at_c)
+    }
 }
 
-// Bytes that are only counted, past at: there is room for as many as can be counted.
-fn count_bytes(n: usize, at: usize) -> Put
-    ensures { result ≡ cond (leb (at + n) last_offset) (Next (at + n)) (NoRoom n) }
-{
-    if LAST_OFFSET - at < n {
-        return Put::NoRoom(n);
-    }
-    Put::Next(at + n)
+// What a reader does with the packed bytes of a line that was judged: a text that is packed has them written, one that is only judged has them
+// counted.
+pub trait Sink {
+    // It writes.
+    ghost writes: { Bool };
+
+    // Writes a count from at, or nothing where there is no room; or only counts its bytes.
+    fn put_count(v: u64, out: &mut [u8], at: usize) -> Put
+        ensures { (result ≡ kept_answer writes (encode v) at out.old) × (out.new ≡ kept_out writes (encode v) at out.old) };
+
+    // The same of a term.
+    fn put_term(l: Line, out: &mut [u8], at: usize) -> Put
+        requires { (l.a < c_limit) × (l.value < c_limit) }
+        ensures { (result ≡ kept_answer writes (pack_term (term_on_line l)) at out.old)
+            × (out.new ≡ kept_out writes (pack_term (term_on_line l)) at out.old) };
 }
 
-// Writes a count from at, or nothing where there is no room; or only counts its bytes.
-pub fn put_count(v: u64, out: &mut [u8], at: usize, writes: bool) -> Put
-    ensures { (result ≡ kept_answer writes (encode v) at out.old) × (out.new ≡ kept_out writes (encode v) at out.old) }
-{
-    if writes {
-        return put_number(v, out, at);
+// They are written.
+pub struct Written;
+
+impl Sink for Written {
+    ghost writes = { true };
+
+    #[tactic(auto, using(std::proofs::lemmas::Bool::Decides::nat_tests, crate::proofs::WrittenTerm::number_put), unfolding(crate::specs::Machine::Modes::has_room, crate::specs::Machine::Modes::kept_out))]
+    fn put_count(v: u64, out: &mut [u8], at: usize) -> Put {
+        put_number(v, out, at)
     }
-    count_bytes(groups_of(v), at)
+
+    #[tactic(auto, using(std::proofs::lemmas::Bool::Decides::nat_tests), unfolding(crate::specs::Machine::Modes::has_room, crate::specs::Machine::Modes::kept_out, crate::specs::Reader::fits, crate::specs::Reader::put_bytes))]
+    fn put_term(l: Line, out: &mut [u8], at: usize) -> Put {
+        let numbers = Numbers::of_line(l);
+        let n = numbers.length();
+        if out.len() < at || out.len() - at < n {
+            return Put::NoRoom(n);
+        }
+        Put::Next(numbers.put(out, at))
+    }
 }
 
-// The same of a term.
-pub fn put_term(l: Line, out: &mut [u8], at: usize, writes: bool) -> Put
-    requires { (l.a < c_limit) × (l.value < c_limit) }
-    ensures { (result ≡ kept_answer writes (pack_term (term_on_line l)) at out.old)
-        × (out.new ≡ kept_out writes (pack_term (term_on_line l)) at out.old) }
-{
-    let a = fold(l.minusa, l.a);
-    let b = l.b;
-    let c = fold(l.minus, l.value);
-    let n = length_of_three(a, b, c);
-    if !writes {
-        return count_bytes(n, at);
+// They are counted: there is room for as many as can be.
+pub struct Counted;
+
+impl Counted {
+    // Past at.
+    fn past(n: usize, at: usize) -> Put
+        ensures { result ≡ cond (leb (at + n) last_offset) (Next (at + n)) (NoRoom n) }
+    {
+        if LAST_OFFSET - at < n {
+            return Put::NoRoom(n);
+        }
+        Put::Next(at + n)
     }
-    if out.len() < at {
-        return Put::NoRoom(n);
+}
+
+impl Sink for Counted {
+    ghost writes = { false };
+
+    #[tactic(auto, using(std::proofs::lemmas::Bool::Decides::nat_tests), unfolding(crate::specs::Machine::Modes::has_room, crate::specs::Machine::Modes::kept_out))]
+    fn put_count(v: u64, _out: &mut [u8], at: usize) -> Put {
+        Counted::past(groups_of(v), at)
     }
-    if out.len() - at < n {
-        return Put::NoRoom(n);
+
+    #[tactic(auto, using(std::proofs::lemmas::Bool::Decides::nat_tests), unfolding(crate::specs::Machine::Modes::has_room, crate::specs::Machine::Modes::kept_out))]
+    fn put_term(l: Line, _out: &mut [u8], at: usize) -> Put {
+        Counted::past(Numbers::of_line(l).length(), at)
     }
-    Put::Next(put_three(a, b, c, out, at))
 }

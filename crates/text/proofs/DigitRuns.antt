@@ -9,7 +9,7 @@ use Rattle.series_lines.specs.declared.Reader.{Reader}
 use Rattle.series_lines.specs.Grammar.{digit_0, part_digits}
 use Rattle.series_lines.specs.Lexer.{spot_point, value_limit, put}
 use Rattle.series_lines.specs.Reader.{last_offset, in_line, further_in_line}
-use Rattle.series_lines.specs.Machine.Parts.{run_end, RunStop, PartAt}
+use Rattle.series_lines.specs.Machine.Parts.{run_end, RunStop, PartAt, Digits, none, more, DigitRun}
 use Rattle.text.specs.Machine.Modes.{moved, moved_out, passed}
 use Rattle.text.specs.Machine.Parts.{AfterPoint, GoesOn}
 use Rattle.series_lines.proofs.DigitRuns.{short, lex_part}
@@ -89,21 +89,35 @@ module _ (r : Reader) (text : List ℕ) (from spot value i stop : ℕ) (a : Afte
 abbrev pub RunParted : Reader → List ℕ → ℕ → ℕ → ℕ → Type 0
 RunParted r text from value i = Parted r text from (r.line.spot + (i - from)) value i
 
-pub parted_none : (r : Reader) (text : List ℕ) (from : ℕ) → AfterPoint r → RunParted r text from r.line.value from
+parted_none : (r : Reader) (text : List ℕ) (from : ℕ) → AfterPoint r → RunParted r text from r.line.value from
 parted_none r text from a =
     let e : r.line.spot ≡ r.line.spot + (from - from) = omega arith in
     subst (λ (n : ℕ). Parted r text from n r.line.value from) e (parted_first r text from a)
 
 module _ (r : Reader) (text : List ℕ) (from value i : ℕ) (p : RunParted r text from value i) where
-  pub parted_more : (stop : ℕ) → AfterPoint r → RunStop text from r.line.spot r.line.minus stop → PartAt text i stop value
+  parted_more : (stop : ℕ) → AfterPoint r → RunStop text from r.line.spot r.line.minus stop → PartAt text i stop value
       → RunParted r text from (10 * value + (get_or text i 0 - digit_0)) (i + 1)
   parted_more stop a k d =
       let e : r.line.spot + (i - from) + 1 ≡ r.line.spot + (i + 1 - from) = omega (arith, p.onward) in
       subst (λ (n : ℕ). Parted r text from n (10 * value + (get_or text i 0 - digit_0)) (i + 1)) e
       (parted_next r text from (r.line.spot + (i - from)) value i stop a k p d)
 
-  pub parted_done : GoesOn r text from (in_line r (put r.line (r.line.spot + (i - from)) r.line.minus value) (r.at + (i - from))) i
-  parted_done = record { onward = p.onward; same = p.same }
+module _ (r : Reader) (text : List ℕ) (from : ℕ) (a : AfterPoint r) where
+  -- So all digits of a run have come.
+  parted_all : {stop next after : ℕ} → RunStop text from r.line.spot r.line.minus stop → Digits text stop from r.line.value next after
+      → RunParted r text from after next
+  parted_all k none = parted_none r text from a
+  parted_all k (more d p) = parted_more r text from _ _ (parted_all k d) _ a k p
+
+  module _ {next after : ℕ} (d : DigitRun text from r.line.spot r.line.minus r.line.value next after) where
+    parted : RunParted r text from after next
+    parted = parted_all d.ends d.digits
+
+    pub run_few : next - from ≤ part_digits
+    run_few = parted.few
+
+    pub parted_done : GoesOn r text from (in_line r (put r.line (r.line.spot + (next - from)) r.line.minus after) (r.at + (next - from))) next
+    parted_done = record { onward = parted.onward; same = parted.same }
 
 -- Where no digit is taken all goes on as it stands.
 pub as_it_stands : (r : Reader) (text : List ℕ) (from : ℕ) → GoesOn r text from r from

@@ -13,6 +13,7 @@ ghost use Rattle.text.specs.Machine.Modes.{passed};
 
 use crate::parts::take_parts;
 use crate::steps::{close, take_byte};
+use series_lines::writer::{Counted, Sink, Written};
 use series_lines::{Outcome, Reader, answer};
 
 // The reader before the first byte.
@@ -22,16 +23,16 @@ pub fn start() -> Reader
     series_lines::start()
 }
 
-// The one loop over the bytes of a text, whether its packed form is written or only counted. Two loops would have every step twice, and the
-// compiler would then no longer put them into either.
-fn pass(r: Reader, text: &[u8], out: &mut [u8], writes: bool) -> Reader
-    ensures { (result ≡ (passed writes r out.old text.now).reader)
-        × (out.new ≡ (passed writes r out.old text.now).out) }
+// The loop over the bytes of a text, whose packed form is written or only counted.
+fn pass<S: Sink>(r: Reader, text: &[u8], out: &mut [u8]) -> Reader
+    ensures { (result ≡ (passed S.writes r out.old text.now).reader)
+        × (out.new ≡ (passed S.writes r out.old text.now).out) }
 {
     let mut reader = r;
     let mut i = 0;
+    // An index and not a `for`: a step takes a byte and the run of digits after it.
     while i < text.len() {
-        let next = take_byte(reader, text[i], out, writes);
+        let next = take_byte::<S>(reader, text[i], out);
         let taken = take_parts(next, text, i + 1);
         reader = taken.state;
         i = taken.next;
@@ -43,7 +44,7 @@ fn pass(r: Reader, text: &[u8], out: &mut [u8], writes: bool) -> Reader
 pub fn piece(r: Reader, text: &[u8], out: &mut [u8]) -> Reader
     ensures { (result ≡ (run r out.old text.now).reader) × (out.new ≡ (run r out.old text.now).out) }
 {
-    pass(r, text, out, true)
+    pass::<Written>(r, text, out)
 }
 
 // The last call: the text has ended. It writes nothing.
@@ -66,6 +67,5 @@ pub fn read(text: &[u8], out: &mut [u8]) -> Outcome
 pub fn judge(text: &[u8]) -> Outcome
     ensures { result ≡ judgement text.now }
 {
-    let mut none: [u8; 0] = [];
-    answer(close(pass(start(), text, &mut none, false)))
+    answer(close(pass::<Counted>(start(), text, &mut [])))
 }

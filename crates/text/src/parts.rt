@@ -2,27 +2,19 @@
 ghost use Rattle.std.specs.Prelude.{◌≡◌, true};
 ghost use Rattle.text.specs.Machine.Parts.{AfterPoint, GoesOn};
 
-use series_lines::lexer::{PART_DIGITS, SPOT_POINT, put};
-use series_lines::parts::{part_at, run_stop};
+use series_lines::lexer::{PART_DIGITS, SPOT_POINT};
+use series_lines::parts::take_digits;
 use series_lines::passed::Passed;
-use series_lines::steps::in_line;
-use series_lines::{LAST_OFFSET, READING, Reader};
+use series_lines::{LAST_OFFSET, Line, READING, Reader};
 
 // The reader stands after a point and can count all the parts.
 fn after_point(r: Reader) -> bool
     ensures { result ≡ true → AfterPoint r }
 {
-    if r.status != READING {
-        return false;
-    }
-    if r.place != 0 {
-        return false;
-    }
-    if LAST_OFFSET - (PART_DIGITS as usize) < r.at {
-        return false;
-    }
-    let l = r.line;
-    SPOT_POINT <= l.spot
+    r.status == READING
+        && r.place == 0
+        && r.at <= LAST_OFFSET - PART_DIGITS as usize
+        && SPOT_POINT <= r.line.spot
 }
 
 // The parts that stand from an index on.
@@ -35,17 +27,15 @@ pub fn take_parts(r: Reader, text: &[u8], from: usize) -> Passed<Reader>
             next: from,
         };
     }
-    let l = r.line;
-    let stop = run_stop(text, from, l.spot, l.minus);
-    let mut value = l.value;
-    let mut i = from;
-    while part_at(text, i, stop, value) {
-        value = 10 * value + (text[i] - b'0') as u64;
-        i = i + 1;
-    }
-    let spot = l.spot + (i - from) as u64;
+    let digits = take_digits(r.line, text, from);
+    let n = digits.next - from;
+    let line = Line {
+        spot: r.line.spot + n as u64,
+        value: digits.state,
+        ..r.line
+    };
     Passed {
-        state: in_line(r, put(l, spot, l.minus, value), r.at + (i - from)),
-        next: i,
+        state: r.in_line(line, r.at + n),
+        next: digits.next,
     }
 }

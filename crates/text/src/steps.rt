@@ -6,68 +6,69 @@ ghost use Rattle.text.specs.Reader.{verdict, other, ended};
 ghost use Rattle.text.specs.Machine.Modes.{moved, moved_out};
 
 use series_lines::lexer::{SPOT_AFTER, SPOT_BAD, lex, whole_count, whole_term};
-use series_lines::steps::{end_count, end_term, in_line, stop};
+use series_lines::steps::{end_count, end_term};
+use series_lines::writer::Sink;
 use series_lines::{ACCEPTED, LAST_OFFSET, READING, Reader};
-use units::{BAD_BYTE, BYTE_AFTER_END, ENDED_EARLY};
+use units::Fault;
 
-// A line feed. Where a call does not write it only judges: here and below its output is not touched then.
-fn end_line(r: Reader, out: &mut [u8], writes: bool) -> Reader
+// A line feed. Here and below a sink that only counts leaves the output as it is.
+#[tactic(auto, unfolding(crate::specs::Reader::verdict, series_lines::specs::Machine::Modes::line_ended, series_lines::specs::Machine::Modes::line_left))]
+fn end_line<S: Sink>(r: Reader, out: &mut [u8]) -> Reader
     requires { r.at < last_offset }
-    ensures { (result ≡ line_ended writes r out.old (verdict r)) × (out.new ≡ line_left writes r out.old (verdict r)) }
+    ensures { (result ≡ line_ended S.writes r out.old (verdict r)) × (out.new ≡ line_left S.writes r out.old (verdict r)) }
 {
-    let l = r.line;
-    if whole_count(l) {
-        return end_count(r, out, writes);
+    if whole_count(r.line) {
+        return end_count::<S>(r, out);
     }
-    if whole_term(l) {
-        return end_term(r, out, writes);
+    if whole_term(r.line) {
+        return end_term::<S>(r, out);
     }
-    stop(r, BAD_BYTE)
+    r.refused(Fault::BadByte)
 }
 
 // A byte that is no line feed.
+#[tactic(auto, using(std::proofs::lemmas::Bool::Decides::nat_tests), unfolding(crate::specs::Reader::other))]
 fn take_other(r: Reader, byte: u8) -> Reader
     requires { r.at < last_offset }
     ensures { result ≡ other r byte }
 {
-    let l = r.line;
-    let next = lex(l, byte);
-    if next.spot == SPOT_BAD {
-        return stop(r, BAD_BYTE);
+    let line = lex(r.line, byte);
+    if line.spot == SPOT_BAD {
+        return r.refused(Fault::BadByte);
     }
-    in_line(r, next, r.at + 1)
+    r.in_line(line, r.at + 1)
 }
 
 // One byte.
-pub fn take_byte(r: Reader, byte: u8, out: &mut [u8], writes: bool) -> Reader
-    ensures { (result ≡ moved writes r out.old byte) × (out.new ≡ moved_out writes r out.old byte) }
+#[tactic(auto, using(std::proofs::lemmas::Bool::Decides::nat_tests), unfolding(crate::specs::Machine::Modes::moved, crate::specs::Machine::Modes::moved_out, series_lines::specs::Reader::uncounted))]
+pub fn take_byte<S: Sink>(r: Reader, byte: u8, out: &mut [u8]) -> Reader
+    ensures { (result ≡ moved S.writes r out.old byte) × (out.new ≡ moved_out S.writes r out.old byte) }
 {
     if r.status != READING {
         return r;
     }
     if r.at == LAST_OFFSET {
-        return stop(r, BAD_BYTE);
+        return r.refused(Fault::BadByte);
     }
-    let l = r.line;
-    if l.spot == SPOT_AFTER {
-        return stop(r, BYTE_AFTER_END);
+    if r.line.spot == SPOT_AFTER {
+        return r.refused(Fault::ByteAfterEnd);
     }
     if byte == b'\n' {
-        return end_line(r, out, writes);
+        return end_line::<S>(r, out);
     }
     take_other(r, byte)
 }
 
 // The end of the text.
+#[tactic(auto, using(std::proofs::lemmas::Bool::Decides::nat_tests), unfolding(crate::specs::Reader::ended))]
 pub fn close(r: Reader) -> Reader
     ensures { result ≡ ended r }
 {
     if r.status != READING {
         return r;
     }
-    let l = r.line;
-    if l.spot == SPOT_AFTER {
-        return stop(r, ACCEPTED);
+    if r.line.spot == SPOT_AFTER {
+        return r.stopped(ACCEPTED);
     }
-    stop(r, ENDED_EARLY)
+    r.refused(Fault::EndedEarly)
 }

@@ -6,19 +6,19 @@ use Rattle.text.specs.Reader.{Run}
 use Rattle.text.proofs.pass.Goals as goal
 
 pub loop-i-init : goal.loop-i-init
-loop-i-init c = (refl, refl)
+loop-i-init g c = (refl, refl)
 
 pub bounds-text-i : goal.bounds-text-i
-bounds-text-i c = omega arith
+bounds-text-i g c = omega arith
 
 pub overflow_add-i : goal.overflow_add-i
-overflow_add-i c = omega arith
+overflow_add-i g c = omega arith
 
 pub loop-i-smaller : goal.loop-i-smaller
-loop-i-smaller c = omega (arith, c.take_parts-taken.ensures.onward)
+loop-i-smaller g c = omega (arith, c.take_parts-taken.ensures.onward)
 
 pub loop-i-preserved : goal.loop-i-preserved
-loop-i-preserved c =
+loop-i-preserved g c =
     let parts = c.take_parts-taken in
     let s = c.args.text.now in
     let l = c.loop-i in
@@ -28,9 +28,9 @@ loop-i-preserved c =
     )
 
 pub shape_of-out : goal.shape_of-out
-shape_of-out c = c.loop-i.invariant.0
+shape_of-out g c = c.loop-i.invariant.0
 
 pub returns : goal.returns
-returns c =
+returns g c =
     let l = c.loop-i in
     let e = sym (pass_end _ l.reader l.out _ l.i (omega arith)) ∙ l.invariant.1 in (ap (λ (x : Run). x.reader) e, ap (λ (x : Run). x.out) e)

@@ -6,9 +6,9 @@ use Rattle.text.specs.Machine.Modes.{passed}
 use Rattle.text.proofs.pass.Given as goal
 
 abbrev pub invariant-loop-i : goal.invariant-loop-i
-invariant-loop-i l =
+invariant-loop-i g l =
     (length l.out ≡ length l.initial.out)
-    × (passed l.writes l.reader l.out (drop l.i l.text) ≡ passed l.writes l.initial.reader l.initial.out l.text)
+    × (passed g.S.Sink.writes l.reader l.out (drop l.i l.text) ≡ passed g.S.Sink.writes l.initial.reader l.initial.out l.text)
 
 abbrev pub decreases-loop-i : goal.decreases-loop-i
-decreases-loop-i l = length l.text - l.i
+decreases-loop-i g l = length l.text - l.i

@@ -13,7 +13,7 @@ use Rattle.published.proofs.steps.end_heading.Goals as goal
 pub returns-then-refusal-ne0 : goal.returns-then-refusal-ne0
 returns-then-refusal-ne0 c =
     let p = c.args.p in
-    wrote_refused p.reader _ _ (heading_end p) _ c.heading_refusal-refusal.ensures c.if-refusal-ne0.true c.stop.ensures
+    wrote_refused p.reader _ _ (heading_end p) _ c.heading_refusal-refusal.ensures c.if-refusal-ne0.true c.stopped.ensures
 
 pub block_of-k-requires : goal.block_of-k-requires
 block_of-k-requires c =
@@ -62,11 +62,11 @@ returns-in-NoRoom c =
     let good : (heading_end c.args.p).refusal ≡ 0 = sym c.heading_refusal-refusal.ensures ∙ c.if-refusal-ne0.false in
     let p = c.args.p in
     heading_full p _ c.block_of-k.ensures (good) _ _ _ _ _ c.put_heading-put.ensures.0 c.put_heading-put.ensures.1
-    c.in-NoRoom.is c.stop-in-NoRoom.ensures
+    c.in-NoRoom.is c.stopped-in-NoRoom.ensures
 
 pub returns-in-Next : goal.returns-in-Next
 returns-in-Next c =
     let good : (heading_end c.args.p).refusal ≡ 0 = sym c.heading_refusal-refusal.ensures ∙ c.if-refusal-ne0.false in
     let p = c.args.p in
     heading_next p _ c.block_of-k.ensures (good) _ _ _ _ _ c.put_heading-put.ensures.0 c.put_heading-put.ensures.1
-    c.in-Next.is (c.advance.ensures ∙ rw (c.open_block-opened.ensures, c.skip_blocks.ensures))
+    c.in-Next.is (c.advanced.ensures ∙ rw (c.open_block-opened.ensures, c.skip_blocks.ensures))

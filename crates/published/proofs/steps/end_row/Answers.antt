@@ -14,7 +14,7 @@ returns-then-not-whole_row c =
     c.args.p in c.whole_row.ensures ∙ ap (λ (t : Bool). whole_row t p.row) c.at_heading-heading.ensures in
     let p = c.args.p in
     wrote_refused p.reader _ _ (verdict p) 3 (sym (verdict_early p (sym (whole_is) ∙ c.if-not-whole_row.true))) (λ e. omega (arith, e))
-    c.stop.ensures
+    c.stopped.ensures
 
 pub returns-then-heading : goal.returns-then-heading
 returns-then-heading c =

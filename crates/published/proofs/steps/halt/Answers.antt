@@ -2,4 +2,4 @@
 use Rattle.published.proofs.steps.halt.Goals as goal
 
 pub returns : goal.returns
-returns c = rw c.stop-reader.ensures
+returns c = rw c.stopped-reader.ensures

@@ -7,6 +7,3 @@ pub overflow_add-result : goal.overflow_add-result
 overflow_add-result c =
     let a = c.args in
     omega (arith, come_small a.row a.spot c.requires.0 c.requires.1.0 c.requires.1.1)
-
-pub returns : goal.returns
-returns c = rw c.put-next.ensures

@@ -3,37 +3,29 @@ use mathlib.Core.Path.{◌≡◌, sym, ◌∙◌}
 use native.Mathlib.Omega.{arith}
 use Rattle.series_lines.specs.Judge.{tally, count_end}
 use Rattle.series_lines.proofs.LineLimits.{count_limits}
-use Rattle.series_lines.proofs.Branches.{line_refused, line_full, line_next}
+use Rattle.series_lines.proofs.Branches.{fault_some, line_refused, line_full, line_next}
 use Rattle.series_lines.proofs.steps.end_count.Goals as goal
 
-pub returns-then-refusal-ne0 : goal.returns-then-refusal-ne0
-returns-then-refusal-ne0 c =
+pub returns-in-Err : goal.returns-in-Err
+returns-in-Err g c =
     let r = c.args.r in
-    line_refused _ r _ _ (count_end r) _ c.count_refusal-refusal.ensures c.if-refusal-ne0.true c.stop.ensures
+    line_refused _ r _ _ (count_end r) _ (rw c.tally-s.ensures at c.in-Err.ensures) (fault_some c.in-Err.fault) c.refused.ensures
 
-pub overflow_add-blocks : goal.overflow_add-blocks
-overflow_add-blocks c =
-    let good : (count_end c.args.r).refusal ≡ 0 = sym c.count_refusal-refusal.ensures ∙ c.if-refusal-ne0.false in
-    let r = c.args.r in
-    omega (arith, (count_limits r.blocks (tally r) r.line.value (good)).0)
+pub overflow_add-r : goal.overflow_add-r
+overflow_add-r g c = omega (arith, (count_limits _ _ _ (sym c.in_default.ensures)).0)
 
 pub open_block-requires : goal.open_block-requires
-open_block-requires c =
-    let good : (count_end c.args.r).refusal ≡ 0 = sym c.count_refusal-refusal.ensures ∙ c.if-refusal-ne0.false in
-    let r = c.args.r in
-    (count_limits r.blocks (tally r) r.line.value (good)).1
+open_block-requires g c = (count_limits _ _ _ (sym c.in_default.ensures)).1
 
 pub returns-in-NoRoom : goal.returns-in-NoRoom
-returns-in-NoRoom c =
-    let good : (count_end c.args.r).refusal ≡ 0 = sym c.count_refusal-refusal.ensures ∙ c.if-refusal-ne0.false in
+returns-in-NoRoom g c =
     let r = c.args.r in
-    line_full _ r _ _ (count_end r) (good) _ _ _ _ c.put_count-put.ensures.0
-    c.put_count-put.ensures.1 c.in-NoRoom.is c.stop-in-NoRoom.ensures
+    let p = c.put_count.ensures in
+    line_full _ r _ _ (count_end r) (sym (rw c.tally-s.ensures at c.in_default.ensures)) _ _ _ _ p.0 p.1 c.in-NoRoom.is c.refused-in-NoRoom.ensures
 
 pub returns-in-Next : goal.returns-in-Next
-returns-in-Next c =
-    let good : (count_end c.args.r).refusal ≡ 0 = sym c.count_refusal-refusal.ensures ∙ c.if-refusal-ne0.false in
+returns-in-Next g c =
     let r = c.args.r in
-    line_next _ r _ _ (count_end r) (good) _ _ _ _ c.put_count-put.ensures.0
-    c.put_count-put.ensures.1 c.in-Next.is
-    (c.advance.ensures ∙ rw c.open_block.ensures)
+    let p = c.put_count.ensures in
+    line_next _ r _ _ (count_end r) (sym (rw c.tally-s.ensures at c.in_default.ensures)) _ _ _ _ p.0 p.1 c.in-Next.is
+    (c.advanced.ensures ∙ rw (c.open_block.ensures, c.tally-s.ensures))

@@ -1,54 +1,38 @@
 -- `series_lines::steps::end_term` meets its contract. Assumes nothing.
-use mathlib.Core.Path.{◌≡◌, sym, ap, ◌∙◌}
-use Prim.Native.Nat.{ℕ, ◌-◌}
+use mathlib.Core.Path.{◌≡◌, sym, ◌∙◌}
 use native.Mathlib.Omega.{arith}
-use Rattle.limits.specs.Limits.{factor, added}
-use Rattle.series_lines.specs.declared.Reader.{Reader}
-use Rattle.series_lines.specs.Judge.{tally, term_on_line, term_line_refusal, term_end}
+use Rattle.series_lines.specs.Judge.{tally, term_end}
 use Rattle.series_lines.proofs.LineLimits.{line_added, line_may_come, line_small}
-use Rattle.series_lines.proofs.Branches.{line_refused, line_full, line_next}
+use Rattle.series_lines.proofs.Branches.{fault_some, line_refused, line_full, line_next}
 use Rattle.series_lines.proofs.steps.end_term.Goals as goal
 
--- The factor of the block that the term stands in.
-block_of : (r : Reader) (k f : ℕ) → f ≡ factor k → k ≡ r.blocks - 1 → f ≡ factor (r.blocks - 1)
-block_of r k f e p = e ∙ ap factor p
-
--- With it the refusal is that of the line's end.
-judged : (r : Reader) (n f : ℕ) → f ≡ factor (r.blocks - 1)
-    → n ≡ term_line_refusal f (tally r) r.line.minusb (term_on_line r.line) → n ≡ (term_end r).refusal
-judged r n f p e = e ∙ ap (λ (f : ℕ). term_line_refusal f (tally r) r.line.minusb (term_on_line r.line)) p
-
-pub returns-then-refusal-ne0 : goal.returns-then-refusal-ne0
-returns-then-refusal-ne0 c =
+pub returns-in-Err : goal.returns-in-Err
+returns-in-Err g c =
     let r = c.args.r in
-    let block = block_of r _ _ c.block_factor-f.ensures.0 c.less_one.ensures in
-    line_refused _ r _ _ (term_end r) _ (judged r _ _ block c.term_line_refusal-refusal.ensures) c.if-refusal-ne0.true c.stop.ensures
+    line_refused _ r _ _ (term_end r) _ (rw (c.tally-s.ensures, c.block_factor-f.ensures.0, c.saturating_sub.ensures) at c.in-Err.ensures)
+    (fault_some c.in-Err.fault) c.refused.ensures
 
-pub put_term-put-requires : goal.put_term-put-requires
-put_term-put-requires c =
-    let r = c.args.r in
-    let s = line_small c.block_factor-f.result (tally r) r.line (sym c.term_line_refusal-refusal.ensures ∙ c.if-refusal-ne0.false) in
+pub put_term-requires : goal.put_term-requires
+put_term-requires g c =
+    let s = line_small _ _ c.args.r.line (sym c.in_default.ensures) in
     omega (arith, s.0, s.1)
 
-pub add_term-more-requires : goal.add_term-more-requires
-add_term-more-requires c =
-    let r = c.args.r in
-    let good = sym c.term_line_refusal-refusal.ensures ∙ c.if-refusal-ne0.false in
-    (c.block_factor-f.ensures.1, line_may_come c.block_factor-f.result (tally r) r.line good)
+pub add_term-requires : goal.add_term-requires
+add_term-requires g c = rw c.sizes.ensures (c.block_factor-f.ensures.1, line_may_come _ _ c.args.r.line (sym c.in_default.ensures))
 
 pub returns-in-NoRoom : goal.returns-in-NoRoom
-returns-in-NoRoom c =
+returns-in-NoRoom g c =
     let r = c.args.r in
-    let block = block_of r _ _ c.block_factor-f.ensures.0 c.less_one.ensures in
-    let unrefused = sym (judged r _ _ block c.term_line_refusal-refusal.ensures) ∙ c.if-refusal-ne0.false in
-    line_full _ r _ _ (term_end r) unrefused _ _ _ _ c.put_term-put.ensures.0 c.put_term-put.ensures.1 c.in-NoRoom.is c.stop-in-NoRoom.ensures
+    let e = rw (c.tally-s.ensures, c.block_factor-f.ensures.0, c.saturating_sub.ensures) at c.in_default.ensures in
+    let p = c.put_term.ensures in
+    line_full _ r _ _ (term_end r) (sym e) _ _ _ _ p.0 p.1 c.in-NoRoom.is c.refused-in-NoRoom.ensures
 
 pub returns-in-Next : goal.returns-in-Next
-returns-in-Next c =
+returns-in-Next g c =
     let r = c.args.r in
-    let block = block_of r _ _ c.block_factor-f.ensures.0 c.less_one.ensures in
-    let unrefused = sym (judged r _ _ block c.term_line_refusal-refusal.ensures) ∙ c.if-refusal-ne0.false in
-    let t : c.add_term-more.result ≡ (term_end r).tally =
-    c.add_term-more.ensures ∙ (line_added _ (tally r) r.line ∙ ap (λ (f : ℕ). added f (tally r) (term_on_line r.line)) block) in
-    line_next _ r _ _ (term_end r) unrefused _ _ _ _ c.put_term-put.ensures.0 c.put_term-put.ensures.1 c.in-Next.is
-    (c.advance.ensures ∙ rw (c.less_one-in-Next.ensures, t))
+    let e = rw (c.tally-s.ensures, c.block_factor-f.ensures.0, c.saturating_sub.ensures) at c.in_default.ensures in
+    let t =
+    rw (c.sizes.ensures, c.tally-s.ensures, c.block_factor-f.ensures.0, c.saturating_sub.ensures) at c.add_term.ensures
+    ∙ line_added _ (tally r) r.line in
+    let p = c.put_term.ensures in
+    line_next _ r _ _ (term_end r) (sym e) _ _ _ _ p.0 p.1 c.in-Next.is (c.advanced.ensures ∙ rw (c.saturating_sub-in-Next.ensures, t))
