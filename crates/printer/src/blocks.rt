@@ -34,12 +34,10 @@ pub fn text_length(table: &Table) -> usize
 {
     let mut n = 0;
     let mut from = 0;
-    let mut k = 0;
-    while k < END_ROWS {
+    for k in 0..END_ROWS {
         let end = block_end(table, k) as usize;
-        n = n + block_length(table, from, end);
+        n += block_length(table, from, end);
         from = end;
-        k = k + 1;
     }
     n
 }
@@ -50,12 +48,10 @@ pub fn put_blocks(table: &Table, out: &mut [u8]) -> usize
 {
     let mut p = 0;
     let mut from = 0;
-    let mut k = 0;
-    while k < END_ROWS {
+    for k in 0..END_ROWS {
         let end = block_end(table, k) as usize;
         p = put_block(table, from, end, out, p);
         from = end;
-        k = k + 1;
     }
     p
 }

@@ -20,8 +20,8 @@ fn further_digits(v: u64) -> usize
     let mut x = v;
     let mut n = 0;
     while 10 <= x {
-        x = x / 10;
-        n = n + 1;
+        x /= 10;
+        n += 1;
     }
     n
 }
@@ -40,11 +40,9 @@ fn put_digits(v: u64, n: usize, out: &mut [u8], at: usize) -> usize
     ensures { Wrote (digits (last_digits n v)) at out.old result out.new }
 {
     let mut x = v;
-    let mut i = n;
-    while 0 < i {
-        i = i - 1;
+    for i in (0..n).rev() {
         out[at + i] = (ZERO + x % 10) as u8;
-        x = x / 10;
+        x /= 10;
     }
     at + n
 }

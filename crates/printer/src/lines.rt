@@ -56,10 +56,8 @@ pub fn lines_length(table: &Table, from: usize, end: usize) -> usize
     ensures { (result ≡ length (lines_of table.now from end)) × (result ≤ line_most * (end - from)) }
 {
     let mut n = 0;
-    let mut i = from;
-    while i < end {
-        n = n + line_length(table, i);
-        i = i + 1;
+    for i in from..end {
+        n += line_length(table, i);
     }
     n
 }
@@ -69,10 +67,8 @@ pub fn put_lines(table: &Table, from: usize, end: usize, out: &mut [u8], at: usi
     ensures { Wrote (lines_of table.now from end) at out.old result out.new }
 {
     let mut p = at;
-    let mut i = from;
-    while i < end {
+    for i in from..end {
         p = put_line(table, i, out, p);
-        i = i + 1;
     }
     p
 }

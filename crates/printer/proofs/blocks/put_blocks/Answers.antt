@@ -1,5 +1,4 @@
 -- `put_blocks` meets its contract. Assumes nothing.
-use native.Mathlib.Omega.{arith}
 use Rattle.packed.specs.Machine.Table.{table_blocks}
 use Rattle.printer.proofs.PieceByPiece.{left_one, left_more, left_empty, left_over, left_room}
 use Rattle.printer.proofs.TableText.{ordered_next, block_left, blocks_over}
@@ -19,12 +18,6 @@ put_block-p-requires c =
     let w = ordered_next _ c.requires.0 l.from l.k _ c.loop-k-test.true e l.invariant.0 in
     let left = block_left c.args.table.now c.requires.0 l.from l.k _ l.invariant.1 c.loop-k-test.true e in
     (c.requires.0, w.after, w.within, left_room left c.requires.2)
-
-pub overflow_add-k : goal.overflow_add-k
-overflow_add-k c = omega (arith, c.loop-k-test.true)
-
-pub loop-k-smaller : goal.loop-k-smaller
-loop-k-smaller c = omega (arith, c.loop-k-test.true)
 
 pub loop-k-preserved : goal.loop-k-preserved
 loop-k-preserved c =

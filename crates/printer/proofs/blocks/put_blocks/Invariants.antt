@@ -1,8 +1,6 @@
 -- `put_blocks` meets its contract. Assumes nothing.
 use mathlib.Core.List.{[], ◌∷◌}
-use Prim.Native.Nat.{◌-◌}
 use lib.ListN.{drop}
-use Rattle.units.specs.Units.{block_count}
 use Rattle.packed.specs.Machine.Table.{ends, table_blocks}
 use Rattle.printer.specs.Printer.{plain_text}
 use Rattle.printer.specs.Machine.Writing.{Ordered}
@@ -13,6 +11,3 @@ use Rattle.printer.proofs.blocks.put_blocks.Given as goal
 abbrev pub invariant-loop-k : goal.invariant-loop-k
 invariant-loop-k l =
     Ordered l.from (drop l.k (ends l.table)) × Left (plain_text (table_blocks l.table)) 0 l.initial.out (blocks_from l.table l.from l.k ∷ []) l.p l.out
-
-abbrev pub decreases-loop-k : goal.decreases-loop-k
-decreases-loop-k l = block_count - l.k

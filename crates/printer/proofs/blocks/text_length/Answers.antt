@@ -21,12 +21,6 @@ overflow_add-n c =
     let w = ordered_next _ c.requires.0 l.from l.k _ c.loop-k-test.true c.block_end-end.ensures l.invariant.ordered in
     omega (arith, w.after, w.within, l.invariant.few, c.loop-k-test.true, c.block_length-n.ensures.1)
 
-pub overflow_add-k : goal.overflow_add-k
-overflow_add-k c = omega (arith, c.loop-k-test.true)
-
-pub loop-k-smaller : goal.loop-k-smaller
-loop-k-smaller c = omega (arith, c.loop-k-test.true)
-
 pub loop-k-preserved : goal.loop-k-preserved
 loop-k-preserved c =
     let l = c.loop-k in

@@ -6,9 +6,6 @@ use Rattle.printer.proofs.digits.put_digits.Goals as goal
 pub loop-i-init : goal.loop-i-init
 loop-i-init c = backward_none _ _ _ _
 
-pub overflow_sub-i : goal.overflow_sub-i
-overflow_sub-i c = omega arith
-
 pub overflow_add-out : goal.overflow_add-out
 overflow_add-out c = omega arith
 
@@ -20,9 +17,6 @@ overflow_add-out-in-loop-i c = omega (arith, c.loop-i.invariant.bound, c.loop-i.
 
 pub bounds-out-at : goal.bounds-out-at
 bounds-out-at c = omega (arith, c.loop-i.invariant.bound, c.loop-i.invariant.same, c.requires)
-
-pub loop-i-smaller : goal.loop-i-smaller
-loop-i-smaller c = omega arith
 
 pub loop-i-preserved : goal.loop-i-preserved
 loop-i-preserved c = backward_more _ _ _ _ _ _ _ c.loop-i.invariant c.loop-i-test.true

@@ -14,12 +14,6 @@ overflow_add-n c =
     let l = c.loop-i.invariant in
     omega (arith, l.few, l.low, c.loop-i-test.true, c.requires.2, c.line_length-n.ensures.1)
 
-pub overflow_add-i : goal.overflow_add-i
-overflow_add-i c = omega (arith, c.loop-i-test.true, c.requires.2)
-
-pub loop-i-smaller : goal.loop-i-smaller
-loop-i-smaller c = omega (arith, c.loop-i-test.true)
-
 pub loop-i-preserved : goal.loop-i-preserved
 loop-i-preserved c =
     let l = c.loop-i in

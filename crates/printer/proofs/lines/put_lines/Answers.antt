@@ -13,12 +13,6 @@ put_line-p-requires c =
     let left = line_left c.args.table.now l.i c.args.end l.invariant.1 c.loop-i-test.true in
     (c.requires.0, omega (arith, c.loop-i-test.true, c.requires.2), left_room left c.requires.3)
 
-pub overflow_add-i : goal.overflow_add-i
-overflow_add-i c = omega (arith, c.loop-i-test.true, c.requires.2)
-
-pub loop-i-smaller : goal.loop-i-smaller
-loop-i-smaller c = omega (arith, c.loop-i-test.true)
-
 pub loop-i-preserved : goal.loop-i-preserved
 loop-i-preserved c =
     let l = c.loop-i in
