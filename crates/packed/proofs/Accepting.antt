@@ -5,20 +5,24 @@ use mathlib.Core.List.{List}
 use Prim.Native.Nat.{ℕ}
 use native.Mathlib.Omega.{arith}
 use lib.IntN.{ℤ}
-use lib.ListN.{drop}
 use Rattle.units.specs.declared.Refusal.{Refusal}
 use Rattle.units.specs.declared.Refusal.TheVariants.{OverLimit, TotalOverLimit, TooCoarse}
 use Rattle.packed_numbers.specs.Numbers.{Read, got, bad, next, number, folded, unfolded}
-use Rattle.packed_numbers.specs.Machine.Answers.{plain}
+use Rattle.packed_numbers.specs.Machine.Answers.{shown, plain}
 use Rattle.packed_numbers.proofs.Folding.{folded_unfolded, unfolded_folded}
-use Rattle.packed_numbers.proofs.Reading.{After, moved}
+use Rattle.packed_numbers.proofs.Reading.{After, Got, got_shown}
 use Rattle.limits.specs.declared.Term.{Term}
+use Rattle.limits.specs.declared.Sizes.{Sizes}
 use Rattle.limits.specs.declared.Tally.{Tally}
-use Rattle.limits.specs.Limits.{a_fits, b_fits, c_fits, total_fits, coarse_fits}
+use Rattle.limits.specs.Limits.{a_fits, b_fits, c_fits, total_fits, coarse_fits, term_may_come, added}
+use Rattle.limits.specs.Machine.Magnitudes.{unsigned}
+use Rattle.limits.proofs.Magnitudes.{may_come_size, added_size}
 use Rattle.limits.proofs.Passing.{Passes}
 use Rattle.packed.specs.Series.{judged, read_a, read_b, read_c, read_term}
-use Rattle.packed.specs.Machine.Answers.{shown_term, term_of}
-use Rattle.packed.specs.declared.terms.TermRead.TheVariants.{Found, Wrong}
+use Rattle.packed.specs.Machine.Answers.{packed_term, packed_sizes, term_of}
+use Rattle.std.proofs.Common.{Ok}
+use Rattle.packed_numbers.specs.declared.Found.{Found}
+use Rattle.packed_numbers.specs.declared.quick.PackedTerm.{PackedTerm}
 use Rattle.packed.proofs.ReadCases.{a_got, b_got, c_got}
 
 -- Two readers, one after the other.
@@ -175,34 +179,22 @@ term_made f s at x t to rest h =
     rw ec at (c_got f s t.a t.b h.at_c h.from_c _ _ _ h.number_c (rw ec p.c) (rw ec p.coarse)) in
     rw (ra, rb, rc)
 
--- The answers, from what was read.
-pub show_wrong : {r : Read Term} {q : Refusal} → r ≡ bad q → Wrong q ≡ shown_term r
-unfolding shown_term
-show_wrong e = sym (ap shown_term e)
+-- What was read, from the answer that found it.
+pub term_packed : (t : Term) → term_of (packed_term t).a (packed_term t).b (packed_term t).c ≡ t
+term_packed t = rw (unfolded_folded t.a, unfolded_folded t.c)
 
-pub show_found : {r : Read Term} {a b c to : ℕ} {rest : List ℕ} → r ≡ got (term_of a b c) to rest → Found a b c to ≡ shown_term r
-unfolding shown_term
-show_found {a = a} {b = b} {c = c} {to = to} e =
-    ap (λ (n : ℕ). Found n b c to) (sym (folded_unfolded a)) ∙
-    ap (λ (n : ℕ). Found (folded (unfolded a)) b n to) (sym (folded_unfolded c)) ∙ sym (ap shown_term e)
+pub was_found : {s : List ℕ} {low : ℕ} {r : Read Term} (n : Found PackedTerm) → After s low r → shown packed_term r ≡ Ok n
+    → Got s low r (term_of n.value.a n.value.b n.value.c) n.next
+was_found n h e = got_shown packed_term (λ (p : PackedTerm). term_of p.a p.b p.c) term_packed n h e
 
--- And what was read, from the answers.
-pub was_wrong : (r : Read Term) (q : Refusal) → shown_term r ≡ Wrong q → r ≡ bad q
-unfolding shown_term
-was_wrong (got t to rest) q e = let z : ◌≡◌ {A = ℕ} 0 1 = cc in absurd (omega arith)
-was_wrong (bad r) q e = let p : r ≡ q = cc in ap bad p
+-- The answer, from what was read.
+pub packed_back : (p : PackedTerm) → p ≡ packed_term (term_of p.a p.b p.c)
+packed_back p = rw (folded_unfolded p.a, folded_unfolded p.c)
 
-pub was_found : {s : List ℕ} {low : ℕ} {r : Read Term} (a b c to : ℕ) → After s low r → shown_term r ≡ Found a b c to → r ≡ got (term_of a b c) to (drop to s)
-unfolding shown_term
-was_found {s} {r = got t end rest} a b c to (moved h l) e =
-    let pa : folded t.a ≡ a = cc in
-    let pb : t.b ≡ b = cc in
-    let pc : folded t.c ≡ c = cc in
-    let p : end ≡ to = cc in
-    let qa : t.a ≡ unfolded a = sym (unfolded_folded t.a) ∙ ap unfolded pa in
-    let qc : t.c ≡ unfolded c = sym (unfolded_folded t.c) ∙ ap unfolded pc in
-    rw (h, p) (ap (λ (t : Term). got t to (drop to s)) (whole_is t qa pb qc))
-  where
-    whole_is : (t : Term) {x z : ℤ} {y : ℕ} → t.a ≡ x → t.b ≡ y → t.c ≡ z → t ≡ whole x y z
-    whole_is t p q r = rw (← p, ← q, ← r)
-was_found {r = bad q} a b c to h e = let z : ◌≡◌ {A = ℕ} 0 1 = cc in absurd (omega arith)
+-- What the limits say of its sizes they say of the term.
+module _ (f : ℕ) (s : Tally) (p : PackedTerm) (z : Sizes) (e : z ≡ packed_sizes p) where
+  pub packed_may_come : term_may_come f s (unsigned z.a z.b z.c) ≡ term_may_come f s (term_of p.a p.b p.c)
+  packed_may_come = rw e (may_come_size f s (term_of p.a p.b p.c) refl refl)
+
+  pub packed_added : added f s (unsigned z.a z.b z.c) ≡ added f s (term_of p.a p.b p.c)
+  packed_added = rw e (added_size f s (term_of p.a p.b p.c) refl refl)

@@ -18,7 +18,7 @@ use Rattle.limits.proofs.Passing.{count_passed, good_of}
 use Rattle.limits.proofs.Terms.{summed_terms, GoodTerms, good_none, good_term}
 use Rattle.limits.proofs.Series.{GoodBlock, GoodBlocks, none, more}
 use Rattle.packed.specs.Series.{judged, read_term, read_terms, read_block, read_blocks}
-use Rattle.packed.specs.Machine.Answers.{walked}
+use Rattle.packed_numbers.specs.Machine.Answers.{shown}
 use Rattle.packed.proofs.ReadCases.{judged_after, term_after}
 use Rattle.packed.proofs.Accepting.{next_got, judged_got, term_accepted}
 
@@ -132,15 +132,15 @@ block_sums k s ts h =
 
 -- The answer of a walk over n terms is that of the walk over the block.
 pub walked_block : (k n : ℕ) (s : Tally) (at : ℕ) (x : List ℕ)
-    → walked (summed (factor k) (opened k n s)) (read_terms n (factor k) (opened k n s) at x)
-    ≡ walked (after_block k s) (read_terms n (factor k) (opened k n s) at x)
-unfolding walked after_block
+    → shown (summed (factor k) (opened k n s)) (read_terms n (factor k) (opened k n s) at x)
+    ≡ shown (after_block k s) (read_terms n (factor k) (opened k n s) at x)
+unfolding shown after_block
 walked_block k n s at x =
     go (read_terms n (factor k) (opened k n s) at x)
     (λ ts to rest e. terms_length (terms_accepted n (factor k) (opened k n s) at x ts to rest e))
   where
     go : (r : Read (List Term)) → ((ts : List Term) (to : ℕ) (rest : List ℕ) → r ≡ got ts to rest → length ts ≡ n)
-        → walked (summed (factor k) (opened k n s)) r ≡ walked (after_block k s) r
+        → shown (summed (factor k) (opened k n s)) r ≡ shown (after_block k s) r
     go (got ts to rest) h = rw (h ts to rest refl)
     go (bad q) h = refl
 
@@ -162,7 +162,7 @@ block_read k n f to s r x ef er eb =
     rw (ef, er, m) (sym eb)
 
 pub block_walked : (k n f to : ℕ) (s r : Tally) (x : List ℕ) {b : Read (List Term)} → f ≡ factor k → r ≡ opened k n s
-    → b ≡ read_terms n (factor k) (opened k n s) to x → walked (summed f r) (read_terms (r.terms - s.terms) f r to x) ≡ walked (after_block k s) b
+    → b ≡ read_terms n (factor k) (opened k n s) to x → shown (summed f r) (read_terms (r.terms - s.terms) f r to x) ≡ shown (after_block k s) b
 block_walked k n f to s r x {b} ef er eb =
     rw (block_read k n f to s r x ef er eb, ef, er, eb) (walked_block k n s to x)
 

@@ -13,7 +13,7 @@ use Rattle.limits.specs.declared.Tally.{Tally}
 use Rattle.limits.specs.Limits.{after_block}
 use Rattle.limits.specs.Allowed.{term_count}
 use Rattle.packed.specs.Machine.Table.{Sized, first, term_at, terms_at, blocks_at, ends, block_ends, table_blocks}
-use Rattle.packed.specs.Machine.Tallies.{tally_row, tally_rows}
+use Rattle.packed.specs.Machine.Tallies.{tally_rows}
 use Rattle.packed.specs.Machine.Answers.{row_of}
 
 -- The rows of all terms, in order.
@@ -50,12 +50,12 @@ upto_more k s [] ts = let e : k + 0 ≡ k = omega arith in rw e
 upto_more k s (x ∷ done) ts = let e : k + 1 + length done ≡ k + suc (length done) = omega arith in rw (← e) (upto_more (k + 1) (after_block k s x) done ts)
 
 pub tallies_more : (k : ℕ) (s : Tally) (done : List (List Term)) (ts : List Term)
-    → tally_rows k s (done ++ ts ∷ []) ≡ tally_rows k s done ++ tally_row (after_block (k + length done) (tally_upto k s done) ts) ∷ []
+    → tally_rows k s (done ++ ts ∷ []) ≡ tally_rows k s done ++ after_block (k + length done) (tally_upto k s done) ts ∷ []
 unfolding tally_rows tally_upto
 tallies_more k s [] ts = let e : k + 0 ≡ k = omega arith in rw e
 tallies_more k s (x ∷ done) ts =
     let e : k + 1 + length done ≡ k + suc (length done) = omega arith in
-    rw (← e) (ap (λ (l : List (List ℕ)). tally_row (after_block k s x) ∷ l) (tallies_more (k + 1) (after_block k s x) done ts))
+    rw (← e) (ap (λ (l : List Tally). after_block k s x ∷ l) (tallies_more (k + 1) (after_block k s x) done ts))
 
 -- A list that goes on from place k with an element, and one that goes on with a list.
 pub head_is : {X : Type 0} (k : ℕ) (l : List X) (x d : X) (m : List X) → drop k l ≡ x ∷ m → get_or l k d ≡ x

@@ -21,8 +21,9 @@ use Rattle.limits.specs.Machine.Widened.{no_wide}
 use Rattle.limits.specs.Wide.{good_for_wide}
 use Rattle.limits.proofs.Series.{good_allowed}
 use Rattle.packed.specs.Machine.Table.{Sized, Holds, ends, block_ends, unpacked}
-use Rattle.packed.specs.Machine.Tallies.{tally_row, tally_rows, wide_rows, Tallied}
+use Rattle.packed.specs.Machine.Tallies.{tally_rows, wide_rows, Tallied}
 use Rattle.packed.specs.Machine.Answers.{row_of, filled, Filled}
+use Rattle.packed_numbers.specs.declared.Found.{Found}
 use Rattle.packed.proofs.Walking.{Stepped, joined, joined_none, joined_more}
 use Rattle.packed.proofs.Blocks.{block_accepted, block_sums, blocks_are_good}
 use Rattle.packed.proofs.Widening.{tallies_say}
@@ -30,7 +31,7 @@ use Rattle.packed.proofs.Tabling.{all_rows, rows_more, count_more, ends_more, ta
 use Rattle.packed.proofs.Tabling.{tally_upto, upto_more, tallies_more}
 
 -- The loop's invariant, with the blocks that are done.
-pub record Unpacking (s : List ℕ) (rows sums : List (List ℕ)) (tally : Tally) (i k : ℕ) : Type 0 where
+pub record Unpacking (s : List ℕ) (rows : List (List ℕ)) (sums : List Tally) (tally : Tally) (i k : ℕ) : Type 0 where
   pub done : List (List Term)
   pub place : k ≡ length done
   pub bound : k ≤ block_count
@@ -43,7 +44,7 @@ pub record Unpacking (s : List ℕ) (rows sums : List (List ℕ)) (tally : Tally
   pub sums_many : length sums ≡ block_count
   pub sized : Sized rows
 
-pub unpacking_none : (s : List ℕ) (rows sums : List (List ℕ)) → Sized rows → length sums ≡ block_count → Unpacking s rows sums no_tally 0 0
+pub unpacking_none : (s : List ℕ) (rows : List (List ℕ)) (sums : List Tally) → Sized rows → length sums ≡ block_count → Unpacking s rows sums no_tally 0 0
 unfolding read_series term_count block_ends all_rows tally_upto tally_rows
 unpacking_none s rows sums z m =
     record {
@@ -85,7 +86,7 @@ module _ (rows after : List (List ℕ)) (n m k : ℕ) (done : List (List Term)) 
 at_k : {k n : ℕ} → k ≡ n → 0 + n ≡ k
 at_k e = omega arith
 
-module _ (s : List ℕ) (rows sums : List (List ℕ)) (tally : Tally) (i k : ℕ) (l : Unpacking s rows sums tally i k) where
+module _ (s : List ℕ) (rows : List (List ℕ)) (sums : List Tally) (tally : Tally) (i k : ℕ) (l : Unpacking s rows sums tally i k) where
   some : (n : ℕ) → k < block_count → n ≡ block_count - (k + 1) → block_count - k ≡ suc n
   some n h e = omega arith
 
@@ -115,11 +116,13 @@ module _ (s : List ℕ) (rows sums : List (List ℕ)) (tally : Tally) (i k : ℕ
   unfolding parse ended
   unpacking_done h b = rw (unpacking_last h, drop_of_length-le s b)
 
-  pub unpacking_more : (to : ℕ) (more : Tally) (after : List (List ℕ)) → k < block_count
-      → Stepped (after_block k tally) s (read_block k tally i (drop i s)) to more
+  pub unpacking_more : (read : Found Tally) (after : List (List ℕ)) → k < block_count
+      → Stepped (after_block k tally) s (read_block k tally i (drop i s)) read
       → Filled tally.terms (read_block k tally i (drop i s)) rows after
-      → Unpacking s (set after (series_limit + k) (more.terms ∷ 0 ∷ 0 ∷ [])) (set sums k (tally_row more)) more to (k + 1)
-  unpacking_more to more after h w f =
+      → Unpacking s (set after (series_limit + k) (read.value.terms ∷ 0 ∷ 0 ∷ [])) (set sums k read.value) read.value read.next (k + 1)
+  unpacking_more read after h w f =
+      let to = read.next in
+      let more = read.value in
       let ts = w.x in
       let g = block_sums k tally ts (block_accepted k tally i (drop i s) ts to (drop to s) w.is).fits in
       let n : more.terms ≡ tally.terms + length ts = ap (λ (z : Tally). z.terms) w.with ∙ g.terms in
@@ -135,18 +138,18 @@ module _ (s : List ℕ) (rows sums : List (List ℕ)) (tally : Tally) (i k : ℕ
         held = rows_block rows after tally.terms more.terms k l.done ts few n l.sized new l.held;
         held_ends = ends_block rows after tally.terms more.terms k l.done ts few n l.sized new h m l.held_ends;
         tally_is = w.with ∙ here ts;
-        tallies = rw (add-one, take-suc-set sums k (tally_row more) (rw l.sums_many h), l.tallies, w.with) (sym (here_rows ts));
-        sums_many = length-set sums k (tally_row more) ∙ l.sums_many;
+        tallies = rw (add-one, take-suc-set sums k more (rw l.sums_many h), l.tallies, w.with) (sym (here_rows ts));
+        sums_many = length-set sums k more ∙ l.sums_many;
         sized = record { size = length-set after (series_limit + k) _ ∙ f.sized.size };
       }
     where
       here : (ts : List Term) → after_block k tally ts ≡ tally_upto 0 no_tally (l.done ++ ts ∷ [])
       here ts = sym (upto_more 0 no_tally l.done ts ∙ ap₂ (λ (j : ℕ) (s : Tally). after_block j s ts) (at_k l.place) (sym l.tally_is))
 
-      here_rows : (ts : List Term) → tally_rows 0 no_tally (l.done ++ ts ∷ []) ≡ tally_rows 0 no_tally l.done ++ tally_row (after_block k tally ts) ∷ []
+      here_rows : (ts : List Term) → tally_rows 0 no_tally (l.done ++ ts ∷ []) ≡ tally_rows 0 no_tally l.done ++ after_block k tally ts ∷ []
       here_rows ts =
           tallies_more 0 no_tally l.done ts
-          ∙ ap₂ (λ (j : ℕ) (s : Tally). tally_rows 0 no_tally l.done ++ tally_row (after_block j s ts) ∷ []) (at_k l.place) (sym l.tally_is)
+          ∙ ap₂ (λ (j : ℕ) (s : Tally). tally_rows 0 no_tally l.done ++ after_block j s ts ∷ []) (at_k l.place) (sym l.tally_is)
 
   -- The table, when all blocks are done.
   pub unpacking_holds : k ≡ block_count → Holds rows l.done
@@ -163,7 +166,7 @@ module _ (s : List ℕ) (rows sums : List (List ℕ)) (tally : Tally) (i k : ℕ
   unfolding read_series
   unpacking_tallied e =
       let g = blocks_are_good block_count 0 no_tally 0 s l.done i (drop i s) (unpacking_last (omega (arith, e))) in
-      record { blocks = l.done; allowed = good_allowed l.done g.many g.good; tallies = all_tallies e }
+      record { blocks = l.done; allowed = good_allowed l.done g.many g.good; are = all_tallies e }
 
   pub unpacking_wide : k ≡ block_count → (wide : Bool) → wide ≡ wide_rows 0 no_wide no_tally sums → wide ≡ good_for_wide l.done
   unpacking_wide e wide f = f ∙ tallies_say sums l.done (all_tallies e) (sym l.place ∙ e)

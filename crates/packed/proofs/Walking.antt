@@ -12,39 +12,27 @@ use Rattle.packed_numbers.proofs.Folding.{folded_unfolded}
 use Rattle.packed_numbers.proofs.Reading.{After, moved}
 use Rattle.limits.specs.declared.Term.{Term}
 use Rattle.limits.specs.declared.Tally.{Tally}
-use Rattle.packed.specs.declared.table.Walk.TheVariants.{Moved, Stopped}
+use Rattle.std.proofs.Common.{Ok}
+use Rattle.packed_numbers.specs.declared.Found.{Found}
+use Rattle.packed_numbers.specs.Machine.Answers.{shown}
 use Rattle.limits.specs.Limits.{added, summed}
 use Rattle.packed.specs.Series.{read_term, read_terms}
 use Rattle.packed.specs.Machine.Table.{Sized}
-use Rattle.packed.specs.Machine.Answers.{term_of, walked, row_of, stored, filled, Filled}
+use Rattle.packed.specs.Machine.Answers.{term_of, row_of, stored, filled, Filled}
 
--- What was read, from an answer that moved on, and from one that stopped.
-pub record Stepped {A : Type 0} (tally : A → Tally) (s : List ℕ) (r : Read A) (to : ℕ) (z : Tally) : Type 0 where
+-- What was read, from the tally with it.
+pub record Stepped {A : Type 0} (tally : A → Tally) (s : List ℕ) (r : Read A) (read : Found Tally) : Type 0 where
   pub x : A
-  pub is : r ≡ got x to (drop to s)
-  pub with : z ≡ tally x
+  pub is : r ≡ got x read.next (drop read.next s)
+  pub with : read.value ≡ tally x
 
-pub walked_moved : {A : Type 0} {s : List ℕ} {low : ℕ} (g : A → Tally) (r : Read A) (to : ℕ) (z : Tally) → After s low r → walked g r ≡ Moved to z
-    → Stepped g s r to z
-unfolding walked
-walked_moved g (got x end rest) to z (moved e h) q =
-    let p : end ≡ to = cc in
-    let w : g x ≡ z = cc in
-    record { x = x; is = rw (e, p); with = sym w }
-walked_moved g (bad r) to z h q = let n : ◌≡◌ {A = ℕ} 0 1 = cc in absurd (omega arith)
-
-pub walked_stopped : {A : Type 0} (g : A → Tally) (r : Read A) (q : Refusal) → walked g r ≡ Stopped q → r ≡ bad q
-unfolding walked
-walked_stopped g (got x to rest) q e = let n : ◌≡◌ {A = ℕ} 0 1 = cc in absurd (omega arith)
-walked_stopped g (bad r) q e = let p : r ≡ q = cc in ap bad p
-
-pub show_moved : {A : Type 0} {r : Read A} {x : A} {to : ℕ} {rest : List ℕ} {z : Tally} (g : A → Tally) → r ≡ got x to rest → z ≡ g x → Moved to z ≡ walked g r
-unfolding walked
-show_moved {to = to} g e p = ap (λ (z : Tally). Moved to z) p ∙ sym (ap (walked g) e)
-
-pub show_stopped : {A : Type 0} {r : Read A} {q : Refusal} (g : A → Tally) → r ≡ bad q → Stopped q ≡ walked g r
-unfolding walked
-show_stopped g e = sym (ap (walked g) e)
+pub stepped : {A : Type 0} {s : List ℕ} {low : ℕ} (g : A → Tally) (r : Read A) (read : Found Tally) → After s low r → Ok read ≡ shown g r
+    → Stepped g s r read
+unfolding shown
+stepped g (got x end rest) read (moved e h) q =
+    let p : read ≡ record { value = g x; next = end } = cc in
+    rw p (record { x = x; is = rw e; with = refl })
+stepped g (bad r) read h q = let n : ◌≡◌ {A = ℕ} 0 1 = cc in absurd (omega arith)
 
 -- One term is stored, as it was packed.
 pub store_none : (k : ℕ) (r : Read Term) (q : Refusal) (rows : List (List ℕ)) → r ≡ bad q → rows ≡ stored k r rows
@@ -136,17 +124,17 @@ module _ (s : List ℕ) (at f from end : ℕ) (first : Tally) (rows₀ : List (L
     unfolding read_terms next joined
     taken_last h = let z : end - k ≡ 0 = omega arith in l.whole ∙ rw z (ap (λ (d : List Term). got d i (drop i s)) (append-nil l.done))
 
-    pub taken_more : (to : ℕ) (more : Tally) (rows' : List (List ℕ)) → k < end → Stepped (added f tally) s (read_term f tally i (drop i s)) to more
-        → rows' ≡ stored k (read_term f tally i (drop i s)) rows → Taken s at f from end first rows₀ rows' more to (k + 1)
+    pub taken_more : (read : Found Tally) (rows' : List (List ℕ)) → k < end → Stepped (added f tally) s (read_term f tally i (drop i s)) read
+        → rows' ≡ stored k (read_term f tally i (drop i s)) rows → Taken s at f from end first rows₀ rows' read.value read.next (k + 1)
     unfolding added
-    taken_more to more rows' h w e =
+    taken_more read rows' h w e =
         let t = w.x in
-        let p = e ∙ store k _ t to _ rows w.is in
+        let p = e ∙ store k _ t read.next _ rows w.is in
         record {
           done = l.done ++ t ∷ [];
           place = rw (length-append l.done (t ∷ [])) (omega (arith, l.place));
           bound = omega arith;
-          whole = left_got t to h w.is ∙ rw w.with;
+          whole = left_got t read.next h w.is ∙ rw w.with;
           with = w.with ∙ rw l.with (sym (summed_more f first l.done t));
           held = p ∙ rw (l.held, l.place) (put_more l.done t from rows₀);
           sized = record { size = ap length p ∙ length-set rows k _ ∙ l.sized.size };

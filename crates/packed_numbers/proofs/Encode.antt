@@ -1,5 +1,5 @@
 -- The groups of a number, one at a time, and the loop that writes them. Assumes nothing.
-use mathlib.Core.Path.{◌≡◌, refl, ◌∙◌}
+use mathlib.Core.Path.{◌≡◌, refl, ap, ◌∙◌}
 use mathlib.Core.Bool.{Bool, true, false, cond}
 use mathlib.Core.List.{List, [], ◌∷◌}
 use lib.Dec.{ltb}
@@ -12,7 +12,8 @@ use lib.ListN.{length, set, length-set}
 use lib.Seq.{sets}
 use Rattle.packed_numbers.specs.Numbers.{group, groups, encode}
 use Rattle.packed_numbers.specs.Machine.Answers.{room_for, put_answer, put_out}
-use Rattle.packed_numbers.specs.declared.Put.TheVariants.{Next, NoRoom}
+use Rattle.std.proofs.Common.{Ok, Err}
+use Rattle.packed_numbers.specs.declared.NoRoom.{NoRoom}
 
 last_groups : (f x : ℕ) → x < group → groups (suc f) x ≡ x ∷ []
 unfolding groups
@@ -80,12 +81,15 @@ pub encode_short : (v : ℕ) → length (encode v) ≤ 10
 unfolding encode
 encode_short v = groups_short 10 v
 
-pub no_room : (v at n : ℕ) (out : List ℕ) → n ≡ length (encode v) → length out < at + n
-    → (NoRoom n ≡ put_answer v at out) × (out ≡ put_out v at out)
+pub no_room : (v at n : ℕ) (e : NoRoom) (out : List ℕ) → n ≡ length (encode v) → (length out < at + n) × (e.needed ≡ n)
+    → (Err e ≡ put_answer v at out) × (out ≡ put_out v at out)
 unfolding put_answer put_out room_for
-no_room v at n out e h = let f = lt-leb (at + length (encode v)) (length out) (rw e at h) in (rw (f, e), rw f)
+no_room v at n e out l h =
+    let f = lt-leb (at + length (encode v)) (length out) (rw l at h.0) in
+    let same : e.needed ≡ length (encode v) = h.1 ∙ l in
+    (rw f (ap (λ (k : ℕ). Err (record { needed = k })) same), rw f)
 
 pub with_room : (v at r : ℕ) (out after : List ℕ) → at + length (encode v) ≤ length out → r ≡ at + length (encode v)
-    → after ≡ sets out at (encode v) → (Next r ≡ put_answer v at out) × (after ≡ put_out v at out)
+    → after ≡ sets out at (encode v) → (Ok r ≡ put_answer v at out) × (after ≡ put_out v at out)
 unfolding put_answer put_out room_for
 with_room v at r out after h e w = let f = le-leb (at + length (encode v)) (length out) h in (rw (f, e), rw (f, w))

@@ -10,10 +10,13 @@ use lib.Dec.{leb, ltb, eqb}
 use lib.IntN.{ℤ}
 use lib.ListN.{drop}
 use Rattle.units.specs.declared.Refusal.{Refusal}
-use Rattle.packed_numbers.specs.declared.Number.TheVariants.{Value, Bad}
+use Rattle.std.proofs.Common.{Result, Ok, Err}
+use Rattle.std.specs.Result.{IsErrAnd}
+use Rattle.std.proofs.lemmas.Result.{err_from_is_err_and}
+use Rattle.packed_numbers.specs.declared.Found.{Found}
 use Rattle.packed_numbers.specs.Numbers.{group, Read, got, bad, next, closed, groups_from, number, folded, unfolded}
 use Rattle.packed_numbers.specs.Machine.Answers.{shown, plain}
-use Rattle.packed_numbers.proofs.Folding.{unfolded_folded, folded_unfolded}
+use Rattle.packed_numbers.proofs.Folding.{unfolded_folded}
 
 -- A reader in s that has come to at least the offset low, and the rest is the bytes of s from there.
 pub data After {A : Type 0} (s : List ℕ) (low : ℕ) : Read A → Type 0 where
@@ -66,33 +69,41 @@ got_of : {A : Type 0} {s : List ℕ} {low : ℕ} {x y : A} {to end : ℕ} {rest 
     → Got s low (got x end rest) y to
 got_of (moved e h) p q = record { is = rw (e, p, q); forward = rw q at h }
 
-pub got_plain : {s : List ℕ} {low : ℕ} {r : Read ℕ} (v to : ℕ) → After s low r → shown plain r ≡ Value v to → Got s low r v to
+pub got_shown : {A B : Type 0} {s : List ℕ} {low : ℕ} (f : A → B) (g : B → A) → ((x : A) → g (f x) ≡ x) → {r : Read A} (n : Found B) → After s low r
+    → shown f r ≡ Ok n → Got s low r (g n.value) n.next
 unfolding shown
-got_plain {r = got x end rest} v to h e = got_of h (cc) (cc)
-got_plain {r = bad q} v to h e = let z : ◌≡◌ {A = ℕ} 0 1 = cc in absurd (omega arith)
+got_shown f g back {r = got x end rest} n h e =
+    let q : ◌≡◌ {A = Found _} (record { value = f x; next = end }) n = cc in
+    got_of h (sym (back x) ∙ ap (λ (m : Found _). g m.value) q) (ap (λ (m : Found _). m.next) q)
+got_shown f g back {r = bad q} n h e = let z : ◌≡◌ {A = ℕ} 0 1 = cc in absurd (omega arith)
 
-pub got_folded : {s : List ℕ} {low : ℕ} {r : Read ℤ} (v to : ℕ) → After s low r → shown folded r ≡ Value v to → Got s low r (unfolded v) to
-unfolding shown
-got_folded {r = got x end rest} v to h e =
-    let p : folded x ≡ v = cc in
-    got_of h (sym (unfolded_folded x) ∙ ap unfolded p) (cc)
-got_folded {r = bad q} v to h e = let z : ◌≡◌ {A = ℕ} 0 1 = cc in absurd (omega arith)
+pub got_plain : {s : List ℕ} {low : ℕ} {r : Read ℕ} (n : Found ℕ) → After s low r → shown plain r ≡ Ok n → Got s low r n.value n.next
+got_plain n h e = got_shown plain plain (λ x. refl) n h e
+
+pub got_folded : {s : List ℕ} {low : ℕ} {r : Read ℤ} (n : Found ℕ) → After s low r → shown folded r ≡ Ok n → Got s low r (unfolded n.value) n.next
+got_folded n h e = got_shown folded unfolded unfolded_folded n h e
 
 -- And from one that is a refusal.
-pub was_bad : {A : Type 0} (f : A → ℕ) (r : Read A) (q : Refusal) → shown f r ≡ Bad q → r ≡ bad q
+pub was_bad : {A B : Type 0} (f : A → B) (r : Read A) (q : Refusal) → shown f r ≡ Err q → r ≡ bad q
 unfolding shown
 was_bad f (got x to rest) q e = let z : ◌≡◌ {A = ℕ} 0 1 = cc in absurd (omega arith)
 was_bad f (bad r) q e = let p : r ≡ q = cc in ap bad p
 
 -- The answers, from what was read.
-pub show_bad : {A : Type 0} {r : Read A} {q : Refusal} (f : A → ℕ) → r ≡ bad q → Bad q ≡ shown f r
+pub show_bad : {A B : Type 0} {r : Read A} {q : Refusal} (f : A → B) → r ≡ bad q → Err q ≡ shown f r
 unfolding shown
 show_bad f e = sym (ap (shown f) e)
 
-pub show_plain : {r : Read ℕ} {v to : ℕ} {rest : List ℕ} → r ≡ got v to rest → Value v to ≡ shown plain r
+pub show_got : {A B : Type 0} {r : Read A} {x : A} {to : ℕ} {rest : List ℕ} {y : B} (f : A → B) → r ≡ got x to rest → y ≡ f x
+    → Ok (record { value = y; next = to }) ≡ shown f r
 unfolding shown
-show_plain e = sym (ap (shown plain) e)
+show_got {to = to} f e p = ap (λ (v : _). Ok (record { value = v; next = to })) p ∙ sym (ap (shown f) e)
 
-pub show_folded : {r : Read ℤ} {v to : ℕ} {rest : List ℕ} → r ≡ got (unfolded v) to rest → Value v to ≡ shown folded r
-unfolding shown
-show_folded {v = v} {to = to} e = ap (λ (n : ℕ). Value n to) (sym (folded_unfolded v)) ∙ sym (ap (shown folded) e)
+-- What `number_at` has found.
+pub number_found : (s : List ℕ) (at : ℕ) (n : Found ℕ) → Ok n ≡ shown plain (number at (drop at s)) → Got s (at + 1) (number at (drop at s)) n.value n.next
+number_found s at n e = got_plain n (number_after s at) (sym e)
+
+-- A refusal that is passed on: the reader f's answer, and what the whole reader g then answers.
+pub pass_on : {A B C D : Type 0} {r : Read A} {z : Read C} {q : Refusal} (f : A → B) (g : C → D) (answer : Result (Found D) Refusal)
+    → IsErrAnd answer (λ e. e ≡ q) → Err q ≡ shown f r → (r ≡ bad q → z ≡ bad q) → answer ≡ shown g z
+pass_on {r = r} {q = q} f g answer h e k = let p = err_from_is_err_and answer h in p.1 ∙ ap Err p.2 ∙ show_bad g (k (was_bad f r q (sym e)))

@@ -1,6 +1,5 @@
 -- Numbers that are read without a loop: groups that are not the last, and then the last. Assumes nothing.
 use mathlib.Core.Path.{◌≡◌, ap, ◌∙◌}
-use mathlib.Core.Bool.{true, false, false≢true}
 use mathlib.Core.List.{List}
 use Prim.Native.Nat.{ℕ, ◌+◌, ◌*◌, ◌-◌, ◌^◌, ◌≤◌, ◌<◌}
 use native.Mathlib.Nat.{mul-le-mul_right, pow-le-pow_right, add-zero}
@@ -11,10 +10,6 @@ use lib.ListN.{length, get_or, drop}
 use Rattle.packed_numbers.specs.Numbers.{group, got, number}
 use Rattle.packed_numbers.specs.Machine.Usual.{tops, Begun, Usual}
 use Rattle.packed_numbers.proofs.Decode.{power_next, more_groups, last_value, one_group}
-
--- What has another length says nothing.
-pub unusual : {A : Type 0} → false ≡ true → A
-unusual e = absurd (false≢true e)
 
 tops_next : (k : ℕ) → tops (k + 1) ≡ tops k + group * group ^ k
 unfolding tops
@@ -68,6 +63,10 @@ pub record Ahead (s : List ℕ) (at k sum scale x y : ℕ) : Type 0 where
   pub is_y : y ≡ get_or s (at + k + 1) 0
   pub byte_x : x < 256
   pub byte_y : y < 256
+
+pub ahead : {s : List ℕ} {at k sum scale x y : ℕ} → Begun s at k sum → scale ≡ group ^ k → k ≤ 6 → at + 8 ≤ length s
+    → (x ≡ get_or s (at + k) 0) × (x < 256) → (y ≡ get_or s (at + k + 1) 0) × (y < 256) → Ahead s at k sum scale x y
+ahead b e l r x y = record { begun = b; scaled = e; few = l; room = r; is_x = x.0; is_y = y.0; byte_x = x.1; byte_y = y.1 }
 
 -- The sizes of what is computed from them.
 pub record Sizes (sum scale x y : ℕ) : Type 0 where

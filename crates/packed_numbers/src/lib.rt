@@ -3,7 +3,7 @@
 
 pub mod quick;
 
-ghost use Rattle.std.specs.Prelude.{◌≡◌, nat_abs, length, ◌+◌, ◌<◌, ◌≤◌};
+ghost use Rattle.std.specs.Prelude.{◌≡◌, nat_abs, length, MatchResult, ◌+◌, ◌<◌, ◌≤◌};
 ghost use Rattle.std.proofs.lemmas.List.Edits.{sets};
 ghost use Rattle.packed_numbers.specs.Numbers.{group, groups_from, number, encode, unfolded};
 ghost use Rattle.packed_numbers.specs.Machine.Answers.{at_offset, shown, plain, put_answer, put_out};
@@ -18,57 +18,55 @@ const GROUP_LIMIT: u64 = 9;
 
 const EARLIER_LIMIT: u64 = GROUP_LIMIT - 1;
 
-// What stands at an offset: the value and the offset past its last byte, or a refusal.
+// What was read, and the offset past its last byte.
 #[derive(Clone, Copy)]
-pub enum Number {
-    Value(u64, usize),
-    Bad(Refusal),
-}
-
-fn wide(x: u8) -> u64
-    ensures { result ≡ x }
-{
-    x as u64
+pub struct Found<T> {
+    pub value: T,
+    pub next: usize,
 }
 
 // A number of more than one group, whose first one has the value low; its second is at from.
-fn long_number(s: &[u8], from: usize, low: u64) -> Number
-    requires { low < group }
+fn long_number(s: &[u8], from: usize, low: u64) -> Result<Found<u64>, Refusal>
+    requires { (low < group) × (from ≤ length s.now) }
     ensures { result ≡ shown plain (at_offset (groups_from 1 low) from s.now) }
 {
-    let mut i = from;
     let mut k: u64 = 1;
-    let mut scale: u64 = GROUP;
-    let mut acc = low;
-    while i < s.len() {
-        let b = wide(s[i]);
+    let mut scale = GROUP;
+    let mut value = low;
+    for i in from..s.len() {
+        let b = u64::from(s[i]);
         if b < GROUP {
             if b == 0 {
-                return Number::Bad(Refusal::NotShortest(i));
+                return Err(Refusal::NotShortest(i));
             }
-            return Number::Value(acc + b * scale, i + 1);
+            return Ok(Found {
+                value: value + b * scale,
+                next: i + 1,
+            });
         }
         if EARLIER_LIMIT <= k {
-            return Number::Bad(Refusal::OverLimit(i));
+            return Err(Refusal::OverLimit(i));
         }
-        acc = acc + (b - GROUP) * scale;
-        scale = scale * GROUP;
-        k = k + 1;
-        i = i + 1;
+        value += (b - GROUP) * scale;
+        scale *= GROUP;
+        k += 1;
     }
-    Number::Bad(Refusal::EndedEarly(i))
+    Err(Refusal::EndedEarly(s.len()))
 }
 
 // The packed number at an offset. A byte below GROUP is the last.
-pub fn number_at(s: &[u8], at: usize) -> Number
+pub fn number_at(s: &[u8], at: usize) -> Result<Found<u64>, Refusal>
     ensures { result ≡ shown plain (at_offset number at s.now) }
 {
     if s.len() <= at {
-        return Number::Bad(Refusal::EndedEarly(at));
+        return Err(Refusal::EndedEarly(at));
     }
-    let b = wide(s[at]);
+    let b = u64::from(s[at]);
     if b < GROUP {
-        return Number::Value(b, at + 1);
+        return Ok(Found {
+            value: b,
+            next: at + 1,
+        });
     }
     long_number(s, at + 1, b - GROUP)
 }
@@ -88,22 +86,21 @@ pub fn magnitude(v: u64) -> u64
     v / 2 + v % 2
 }
 
-// Where a number was put: the offset past it, or how many bytes it needs.
+// There is no room for so many bytes.
 #[derive(Clone, Copy)]
-pub enum Put {
-    Next(usize),
-    NoRoom(usize),
+pub struct NoRoom {
+    pub needed: usize,
 }
 
-// How many groups a number has.
+// How many groups a number has. No `for` here and below: the number tells where its groups end, and no range or slice does.
 pub fn groups_of(v: u64) -> usize
     ensures { result ≡ length (encode v) }
 {
     let mut x = v;
     let mut n = 1;
     while GROUP <= x {
-        x = x / GROUP;
-        n = n + 1;
+        x /= GROUP;
+        n += 1;
     }
     n
 }
@@ -117,23 +114,27 @@ pub fn put_groups(v: u64, out: &mut [u8], at: usize) -> usize
     let mut i = at;
     while GROUP <= x {
         out[i] = (x % GROUP + GROUP) as u8;
-        x = x / GROUP;
-        i = i + 1;
+        x /= GROUP;
+        i += 1;
     }
     out[i] = x as u8;
     i + 1
 }
 
+// There is room in out from at for so many bytes, or not.
+pub fn check_room(out: &[u8], at: usize, needed: usize) -> Result<(), NoRoom>
+    ensures { MatchResult result (λ _. at + needed ≤ length out.now) (λ e. (length out.now < at + needed) × (e.needed ≡ needed)) }
+{
+    if out.len() < at || out.len() - at < needed {
+        return Err(NoRoom { needed });
+    }
+    Ok(())
+}
+
 // Writes a packed number into out from at, or nothing where there is no room.
-pub fn put_number(v: u64, out: &mut [u8], at: usize) -> Put
+pub fn put_number(v: u64, out: &mut [u8], at: usize) -> Result<usize, NoRoom>
     ensures { (result ≡ put_answer v at out.old) × (out.new ≡ put_out v at out.old) }
 {
-    let n = groups_of(v);
-    if out.len() < at {
-        return Put::NoRoom(n);
-    }
-    if out.len() - at < n {
-        return Put::NoRoom(n);
-    }
-    Put::Next(put_groups(v, out, at))
+    check_room(out, at, groups_of(v))?;
+    Ok(put_groups(v, out, at))
 }

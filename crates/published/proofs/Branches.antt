@@ -9,8 +9,8 @@ use lib.Dec.{eqb}
 use lib.ListN.{length}
 use Rattle.units.specs.Units.{block_count}
 use Rattle.units.specs.Refusals.{bad_byte, no_room, ended_early, byte_after_end, bad_number}
-use Rattle.packed_numbers.specs.declared.Put.{Put}
-use Rattle.packed_numbers.specs.declared.Put.TheVariants.{Next, NoRoom}
+use Rattle.std.proofs.Common.{Result, Ok, Err}
+use Rattle.packed_numbers.specs.declared.NoRoom.{NoRoom}
 use Rattle.packed_numbers.specs.Numbers.{encode}
 use Rattle.limits.specs.declared.Tally.{Tally}
 use Rattle.limits.specs.Limits.{opened, factor}
@@ -50,22 +50,22 @@ module _ (p : Published) (k : ℕ) (is_block : k ≡ block_of p.row.coordinate p
   abbrev after : ℕ → Tally
   after j = opened j p.row.line.value (skipped p.reader.blocks (j - p.reader.blocks) (tally p.reader))
 
-  module _ (s : Reader) (out o : List ℕ) (put : Put) (n : ℕ) (answers : put ≡ put_bytes_answer (counts k) p.reader.written out)
-      (stores : o ≡ put_bytes (counts k) p.reader.written out) where
-    answer_is : put ≡ put_bytes_answer (heading_end p).bytes p.reader.written out
-    answer_is = answers ∙ ap (λ (j : ℕ). put_bytes_answer (counts j) p.reader.written out) is_block
+  module _ (s : Reader) (out o : List ℕ) (stores : o ≡ put_bytes (counts k) p.reader.written out) where
+    answer_is : (put : Result ℕ NoRoom) → put ≡ put_bytes_answer (counts k) p.reader.written out
+        → put ≡ put_bytes_answer (heading_end p).bytes p.reader.written out
+    answer_is put answers = answers ∙ ap (λ (j : ℕ). put_bytes_answer (counts j) p.reader.written out) is_block
 
     store_is : o ≡ put_bytes (heading_end p).bytes p.reader.written out
     store_is = stores ∙ ap (λ (j : ℕ). put_bytes (counts j) p.reader.written out) is_block
 
-    pub heading_full : put ≡ NoRoom n → s ≡ stopped p.reader no_room
+    pub heading_full : (e : NoRoom) → Err e ≡ put_bytes_answer (counts k) p.reader.written out → s ≡ stopped p.reader no_room
         → (s ≡ wrote p.reader out (heading_end p)) × (o ≡ wrote_out p.reader out (heading_end p))
-    heading_full f e = wrote_full p.reader s out (heading_end p) good put o n _ answer_is store_is f e
+    heading_full q f e = wrote_full p.reader s out (heading_end p) good o _ store_is q (answer_is (Err q) f) e
 
-    pub heading_next : put ≡ Next n → s ≡ advanced p.reader n (k + 1) p.row.line.value (after k)
+    pub heading_next : (n : ℕ) → Ok n ≡ put_bytes_answer (counts k) p.reader.written out → s ≡ advanced p.reader n (k + 1) p.row.line.value (after k)
         → (s ≡ wrote p.reader out (heading_end p)) × (o ≡ wrote_out p.reader out (heading_end p))
-    heading_next f e =
-        wrote_next p.reader s out (heading_end p) good put o n _ answer_is store_is f
+    heading_next n f e =
+        wrote_next p.reader s out (heading_end p) good o _ store_is n (answer_is (Ok n) f)
         (e ∙ ap (λ (j : ℕ). advanced p.reader n (j + 1) p.row.line.value (after j)) is_block)
 
 -- ---- A line feed, by what the record is.
@@ -133,10 +133,10 @@ module _ (p q : Published) (out after : List ℕ) (byte : ℕ) where
 -- ---- The end.
 
 -- There was room for the zeros.
-pub zeros_fit : (m at n : ℕ) (out : List ℕ) (put : Put) → put ≡ put_bytes_answer (zeros m) at out → put ≡ Next n → at + m ≤ length out
+pub zeros_fit : (m at n : ℕ) (out : List ℕ) → Ok n ≡ put_bytes_answer (zeros m) at out → at + m ≤ length out
 unfolding fits
-zeros_fit m at n out put e f =
-    let t = fit (fits (zeros m) at out) _ _ n put e f in
+zeros_fit m at n out e =
+    let t = fit (fits (zeros m) at out) _ _ n e in
     let h = leb-true (at + length (zeros m)) (length out) t.0 in
     omega (arith, h, length_zeros m)
 
@@ -160,30 +160,30 @@ module _ (p q : Published) (out after : List ℕ) where
           let t = le-ltb 1 p.row.column between in
           let u = lt-ltb 0 p.reader.left h in (rw (g, t, u, e), rw (g, t, u))
 
-      module _ (none_left : p.reader.left ≤ 0) (m : ℕ) (is_missing : m ≡ block_count - p.reader.blocks) (put : Put) (n : ℕ)
-          (answers : put ≡ put_bytes_answer (zeros m) p.reader.written out)
+      module _ (none_left : p.reader.left ≤ 0) (m : ℕ) (is_missing : m ≡ block_count - p.reader.blocks)
           (stores : after ≡ put_bytes (zeros m) p.reader.written out) where
-        answer_for : put ≡ put_bytes_answer (missing p) p.reader.written out
-        answer_for = answers ∙ ap (λ (j : ℕ). put_bytes_answer (zeros j) p.reader.written out) is_missing
+        answer_for : (put : Result ℕ NoRoom) → put ≡ put_bytes_answer (zeros m) p.reader.written out
+            → put ≡ put_bytes_answer (missing p) p.reader.written out
+        answer_for put answers = answers ∙ ap (λ (j : ℕ). put_bytes_answer (zeros j) p.reader.written out) is_missing
 
         store_for : after ≡ put_bytes (missing p) p.reader.written out
         store_for = stores ∙ ap (λ (j : ℕ). put_bytes (zeros j) p.reader.written out) is_missing
 
-        pub ended_full : put ≡ NoRoom n → q ≡ halted p no_room → (q ≡ ended p out) × (after ≡ ended_out p out)
+        pub ended_full : (r : NoRoom) → Err r ≡ put_bytes_answer (zeros m) p.reader.written out → q ≡ halted p no_room → (q ≡ ended p out) × (after ≡ ended_out p out)
         unfolding ended ended_out inside
-        ended_full f e =
+        ended_full r f e =
             let g = eq-eqb p.reader.status reading going in
             let t = le-ltb 1 p.row.column between in
             let u = le-ltb 0 p.reader.left none_left in
-            let v = no_fit (fits (missing p) p.reader.written out) _ _ n put answer_for f in
+            let v = no_fit (fits (missing p) p.reader.written out) _ _ r (answer_for (Err r) f) in
             (rw (g, t, u, v, e), rw (g, t, u) store_for)
 
-        pub ended_whole : put ≡ Next n → q ≡ finished p m → (q ≡ ended p out) × (after ≡ ended_out p out)
+        pub ended_whole : (n : ℕ) → Ok n ≡ put_bytes_answer (zeros m) p.reader.written out → q ≡ finished p m → (q ≡ ended p out) × (after ≡ ended_out p out)
         unfolding ended ended_out inside
-        ended_whole f e =
+        ended_whole n f e =
             let g = eq-eqb p.reader.status reading going in
             let t = le-ltb 1 p.row.column between in
             let u = le-ltb 0 p.reader.left none_left in
-            let v = (fit (fits (missing p) p.reader.written out) _ _ n put answer_for f).0 in
+            let v = (fit (fits (missing p) p.reader.written out) _ _ n (answer_for (Ok n) f)).0 in
             let l : m ≡ length (missing p) = is_missing ∙ sym (length_zeros (block_count - p.reader.blocks)) in
             (rw (g, t, u, v) (e ∙ ap (λ (j : ℕ). finished p j) l), rw (g, t, u) store_for)

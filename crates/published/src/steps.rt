@@ -6,7 +6,6 @@ ghost use Rattle.published.specs.Reader.{other, step, step_out, finished, ended,
 
 use crate::Published;
 use limits::{Tally, block_factor};
-use packed_numbers::Put;
 use published_headings::judge::{block_of, follows, heading_refusal, missing_blocks, skip_blocks};
 use published_headings::writer::{put_heading, put_missing};
 use published_records::rows::{fresh_row, lex_row, whole_row};
@@ -59,10 +58,9 @@ fn end_heading(p: Published, out: &mut [u8]) -> Reader
         return r.stopped(refusal);
     }
     let k = block_of(row.coordinate, row.power);
-    let put = put_heading((k - done) as usize, n, out, r.written);
-    match put {
-        Put::NoRoom(_) => r.stopped(NO_ROOM),
-        Put::Next(next) => {
+    match put_heading((k - done) as usize, n, out, r.written) {
+        Err(_) => r.stopped(NO_ROOM),
+        Ok(next) => {
             let opened = skip_blocks(done, k, s).open_block(k, n);
             r.advanced(next, k + 1, n, opened)
         }
@@ -91,10 +89,9 @@ fn end_record(p: Published, out: &mut [u8]) -> Reader
     if let Err(fault) = term_line_refusal(f, s, line) {
         return r.refused(fault);
     }
-    let put = Written::put_term(line, out, r.written);
-    match put {
-        Put::NoRoom(_) => r.stopped(NO_ROOM),
-        Put::Next(next) => {
+    match Written::put_term(line, out, r.written) {
+        Err(_) => r.stopped(NO_ROOM),
+        Ok(next) => {
             let more = s.add_term(f, line.sizes());
             r.advanced(next, r.blocks, r.left.saturating_sub(1), more)
         }
@@ -231,9 +228,8 @@ pub fn close(p: Published, out: &mut [u8]) -> Published
         return halt(p, ENDED_EARLY);
     }
     let n = missing_blocks(r.blocks) as usize;
-    let put = put_missing(n, out, r.written);
-    match put {
-        Put::NoRoom(_) => halt(p, NO_ROOM),
-        Put::Next(_) => finish(p, n),
+    match put_missing(n, out, r.written) {
+        Err(_) => halt(p, NO_ROOM),
+        Ok(_) => finish(p, n),
     }
 }

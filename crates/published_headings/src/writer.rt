@@ -8,7 +8,7 @@ ghost use Rattle.series_lines.specs.Reader.{put_bytes};
 ghost use Rattle.series_lines.specs.Machine.Writer.{put_bytes_answer};
 ghost use Rattle.published_headings.specs.Judge.{zeros};
 
-use packed_numbers::{Put, groups_of, put_groups};
+use packed_numbers::{NoRoom, check_room, groups_of, put_groups};
 
 // Writes n zeros from at, where they fit.
 fn put_zeros(n: usize, out: &mut [u8], at: usize) -> usize
@@ -25,31 +25,20 @@ fn put_zeros(n: usize, out: &mut [u8], at: usize) -> usize
 }
 
 // Writes n zeros from at, or nothing where there is no room.
-pub fn put_missing(n: usize, out: &mut [u8], at: usize) -> Put
+pub fn put_missing(n: usize, out: &mut [u8], at: usize) -> Result<usize, NoRoom>
     ensures { (result ≡ put_bytes_answer (zeros n) at out.old) × (out.new ≡ put_bytes (zeros n) at out.old) }
 {
-    if out.len() < at {
-        return Put::NoRoom(n);
-    }
-    if out.len() - at < n {
-        return Put::NoRoom(n);
-    }
-    Put::Next(put_zeros(n, out, at))
+    check_room(out, at, n)?;
+    Ok(put_zeros(n, out, at))
 }
 
 // Writes so many zeros and the count n from at, or nothing where there is no room for all of it.
-pub fn put_heading(missing: usize, n: u64, out: &mut [u8], at: usize) -> Put
+pub fn put_heading(missing: usize, n: u64, out: &mut [u8], at: usize) -> Result<usize, NoRoom>
     requires { missing ≤ block_count }
     ensures { (result ≡ put_bytes_answer (zeros missing ++ encode n) at out.old)
         × (out.new ≡ put_bytes (zeros missing ++ encode n) at out.old) }
 {
-    let size = missing + groups_of(n);
-    if out.len() < at {
-        return Put::NoRoom(size);
-    }
-    if out.len() - at < size {
-        return Put::NoRoom(size);
-    }
+    check_room(out, at, missing + groups_of(n))?;
     let next = put_zeros(missing, out, at);
-    Put::Next(put_groups(n, out, next))
+    Ok(put_groups(n, out, next))
 }

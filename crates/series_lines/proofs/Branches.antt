@@ -12,21 +12,22 @@ use Rattle.units.specs.declared.Fault.{Fault}
 use Rattle.units.specs.declared.Fault.TheVariants.{BadByte as byte_fault, OverLimit as limit_fault, TotalOverLimit as total_fault}
 use Rattle.units.specs.declared.Fault.TheVariants.{TooCoarse as coarse_fault, NoRoom as room_fault, EndedEarly as end_fault}
 use Rattle.units.specs.declared.Fault.TheVariants.{ByteAfterEnd as after_fault, BadHeading as heading_fault, BadNumber as number_fault}
-use Rattle.packed_numbers.specs.declared.Put.{Put}
-use Rattle.packed_numbers.specs.declared.Put.TheVariants.{Next, NoRoom}
+use Rattle.std.proofs.Common.{Result, Ok, Err}
+use Rattle.packed_numbers.specs.declared.NoRoom.{NoRoom}
+use Rattle.packed_numbers.specs.Machine.Answers.{put_or}
 use Rattle.series_lines.specs.declared.Reader.{Reader}
 use Rattle.series_lines.specs.Judge.{Verdict}
 use Rattle.series_lines.specs.Machine.Modes.{has_room, kept_out, line_ended, line_left}
 use Rattle.series_lines.specs.Reader.{last_offset, stopped, advanced, fits, put_bytes, wrote, wrote_out, judged}
 
 -- What an answer of the writer says.
-pub no_fit : (t : Bool) (a b n : ℕ) (p : Put) → p ≡ cond t (Next a) (NoRoom b) → p ≡ NoRoom n → t ≡ false
-no_fit true a b n p e f = let z : ◌≡◌ {A = ℕ} 0 1 = cc in absurd (omega arith)
-no_fit false a b n p e f = refl
+pub no_fit : (t : Bool) (a b : ℕ) (e : NoRoom) → Err e ≡ put_or a b t → t ≡ false
+no_fit true a b e f = let z : ◌≡◌ {A = ℕ} 0 1 = cc in absurd (omega arith)
+no_fit false a b e f = refl
 
-pub fit : (t : Bool) (a b n : ℕ) (p : Put) → p ≡ cond t (Next a) (NoRoom b) → p ≡ Next n → (t ≡ true) × (n ≡ a)
-fit true a b n p e f = (refl, cc)
-fit false a b n p e f = let z : ◌≡◌ {A = ℕ} 0 1 = cc in absurd (omega arith)
+pub fit : (t : Bool) (a b n : ℕ) → Ok n ≡ put_or a b t → (t ≡ true) × (n ≡ a)
+fit true a b n e = (refl, cc)
+fit false a b n e = let z : ◌≡◌ {A = ℕ} 0 1 = cc in absurd (omega arith)
 
 -- No fault has the number 0.
 pub fault_some : (fault : Fault) → fault_number fault ≡ 0 → ⊥
@@ -46,21 +47,20 @@ module _ (writes : Bool) (r s : Reader) (out : List ℕ) (v : Verdict) where
   unfolding line_ended line_left
   line_refused n e h p = let t = ne_eqb v.refusal 0 (λ q. h (e ∙ q)) in (rw (t, p, e), rw t)
 
-  module _ (good : v.refusal ≡ 0) (p : Put) (after : List ℕ) (n m : ℕ)
-      (pa : p ≡ cond (has_room writes v.bytes r.written out) (Next (r.written + length v.bytes)) (NoRoom m))
+  module _ (good : v.refusal ≡ 0) (after : List ℕ) (m : ℕ)
       (po : after ≡ kept_out writes v.bytes r.written out) where
-    pub line_full : p ≡ NoRoom n → s ≡ stopped r no_room → (s ≡ line_ended writes r out v) × (after ≡ line_left writes r out v)
+    pub line_full : (e : NoRoom) → Err e ≡ put_or (r.written + length v.bytes) m (has_room writes v.bytes r.written out) → s ≡ stopped r no_room → (s ≡ line_ended writes r out v) × (after ≡ line_left writes r out v)
     unfolding line_ended line_left
-    line_full f e =
-        let t = no_fit (has_room writes v.bytes r.written out) _ _ n p pa f in (
+    line_full q f e =
+        let t = no_fit (has_room writes v.bytes r.written out) _ _ q f in (
           rw (eq-eqb v.refusal 0 good, t, e),
           rw (eq-eqb v.refusal 0 good) po,
         )
 
-    pub line_next : p ≡ Next n → s ≡ advanced r n v.blocks v.left v.tally → (s ≡ line_ended writes r out v) × (after ≡ line_left writes r out v)
+    pub line_next : (n : ℕ) → Ok n ≡ put_or (r.written + length v.bytes) m (has_room writes v.bytes r.written out) → s ≡ advanced r n v.blocks v.left v.tally → (s ≡ line_ended writes r out v) × (after ≡ line_left writes r out v)
     unfolding line_ended line_left
-    line_next f e =
-        let t = fit (has_room writes v.bytes r.written out) _ _ n p pa f in (
+    line_next n f e =
+        let t = fit (has_room writes v.bytes r.written out) _ _ n f in (
           rw (eq-eqb v.refusal 0 good, t.0, e, t.1),
           rw (eq-eqb v.refusal 0 good) po,
         )
@@ -86,13 +86,12 @@ module _ (r s : Reader) (out : List ℕ) (v : Verdict) where
   pub wrote_refused : (n : ℕ) → n ≡ v.refusal → (n ≡ 0 → ⊥) → s ≡ stopped r n → (s ≡ wrote r out v) × (out ≡ wrote_out r out v)
   wrote_refused n e h p = writing (line_refused true r s out v n e h p)
 
-  module _ (good : v.refusal ≡ 0) (p : Put) (after : List ℕ) (n m : ℕ)
-      (pa : p ≡ cond (fits v.bytes r.written out) (Next (r.written + length v.bytes)) (NoRoom m))
+  module _ (good : v.refusal ≡ 0) (after : List ℕ) (m : ℕ)
       (po : after ≡ put_bytes v.bytes r.written out) where
-    pub wrote_full : p ≡ NoRoom n → s ≡ stopped r no_room → (s ≡ wrote r out v) × (after ≡ wrote_out r out v)
+    pub wrote_full : (e : NoRoom) → Err e ≡ put_or (r.written + length v.bytes) m (fits v.bytes r.written out) → s ≡ stopped r no_room → (s ≡ wrote r out v) × (after ≡ wrote_out r out v)
     unfolding has_room kept_out
-    wrote_full f e = writing (line_full true r s out v good p after n m pa po f e)
+    wrote_full q f e = writing (line_full true r s out v good after m po q f e)
 
-    pub wrote_next : p ≡ Next n → s ≡ advanced r n v.blocks v.left v.tally → (s ≡ wrote r out v) × (after ≡ wrote_out r out v)
+    pub wrote_next : (n : ℕ) → Ok n ≡ put_or (r.written + length v.bytes) m (fits v.bytes r.written out) → s ≡ advanced r n v.blocks v.left v.tally → (s ≡ wrote r out v) × (after ≡ wrote_out r out v)
     unfolding has_room kept_out
-    wrote_next f e = writing (line_next true r s out v good p after n m pa po f e)
+    wrote_next n f e = writing (line_next true r s out v good after m po n f e)

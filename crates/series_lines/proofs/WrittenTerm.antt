@@ -1,6 +1,6 @@
 -- Numbers stored one after the other, a decimal folded, and what the writer of a term answers. Assumes nothing.
 use mathlib.Core.Path.{◌≡◌, refl, sym, ap, ◌∙◌}
-use mathlib.Core.Bool.{Bool, true, false, cond}
+use mathlib.Core.Bool.{Bool, true, false}
 use mathlib.Core.List.{List, [], ◌∷◌, ◌++◌}
 use Prim.Native.Nat.{ℕ, zero, suc, ◌+◌, ◌*◌, ◌-◌, ◌≤◌, ◌<◌}
 use native.Mathlib.Nat.{add-zero, add_assoc}
@@ -10,8 +10,8 @@ use lib.Dec.{ltb, leb}
 use lib.ListN.{length, set, length-append}
 use lib.Seq.{sets}
 use Rattle.integers.specs.Signs.{sgn}
-use Rattle.packed_numbers.specs.declared.Put.{Put}
-use Rattle.packed_numbers.specs.declared.Put.TheVariants.{Next, NoRoom}
+use Rattle.std.proofs.Common.{Result, Ok, Err}
+use Rattle.packed_numbers.specs.declared.NoRoom.{NoRoom}
 use Rattle.packed_numbers.specs.Numbers.{folded, encode}
 use Rattle.limits.specs.declared.Term.{Term}
 use Rattle.packed.specs.Series.{pack_term}
@@ -19,7 +19,7 @@ use Rattle.series_lines.specs.Judge.{signed}
 use Rattle.series_lines.specs.Reader.{fits, put_bytes, last_offset}
 use Rattle.series_lines.specs.Machine.Writer.{three_packed, put_bytes_answer}
 use Rattle.series_lines.specs.Machine.Modes.{has_room, kept_answer, kept_out}
-use Rattle.packed_numbers.specs.Machine.Answers.{room_for, put_answer, put_out}
+use Rattle.packed_numbers.specs.Machine.Answers.{put_or, room_for, put_answer, put_out}
 
 pub sets_append : (xs ys l : List ℕ) (i : ℕ) → sets l i (xs ++ ys) ≡ sets (sets l i xs) (i + length xs) ys
 sets_append [] ys l i = rw (add-zero i)
@@ -74,24 +74,27 @@ term_packed t a b c e f g = rw (e, f, g)
 
 -- What the writer answers where there is no room for the bytes, and where there is.
 module _ (bytes : List ℕ) (at : ℕ) (out : List ℕ) where
-  pub put_full : (n : ℕ) → n ≡ length bytes → length out < at + n
-      → (NoRoom n ≡ put_bytes_answer bytes at out) × (out ≡ put_bytes bytes at out)
+  pub put_full : (n : ℕ) (e : NoRoom) → n ≡ length bytes → (length out < at + n) × (e.needed ≡ n)
+      → (Err e ≡ put_bytes_answer bytes at out) × (out ≡ put_bytes bytes at out)
   unfolding fits put_bytes
-  put_full n e h = let f = lt-leb (at + length bytes) (length out) (omega (arith, ap (λ (k : ℕ). at + k) e)) in (rw (f, e), rw f)
+  put_full n e l h =
+      let f = lt-leb (at + length bytes) (length out) (omega (arith, h.0, ap (λ (k : ℕ). at + k) l)) in
+      let same : e.needed ≡ length bytes = h.1 ∙ l in
+      (rw f (ap (λ (k : ℕ). Err (record { needed = k })) same), rw f)
 
   pub put_next : (n : ℕ) (after : List ℕ) → at + length bytes ≤ length out → n ≡ at + length bytes → after ≡ sets out at bytes
-      → (Next n ≡ put_bytes_answer bytes at out) × (after ≡ put_bytes bytes at out)
+      → (Ok n ≡ put_bytes_answer bytes at out) × (after ≡ put_bytes bytes at out)
   unfolding fits put_bytes
   put_next n after h e w = let f = le-leb (at + length bytes) (length out) h in (rw (f, e), rw (f, w))
 
 -- The same for a call that writes, and for one that only counts the bytes.
-module _ (writes : Bool) (bytes : List ℕ) (at : ℕ) (p : Put) (out : List ℕ) where
+module _ (writes : Bool) (bytes : List ℕ) (at : ℕ) (p : Result ℕ NoRoom) (out : List ℕ) where
   pub kept_written : (after : List ℕ) → writes ≡ true → (p ≡ put_bytes_answer bytes at out) × (after ≡ put_bytes bytes at out)
       → (p ≡ kept_answer writes bytes at out) × (after ≡ kept_out writes bytes at out)
   unfolding has_room kept_out
   kept_written after w e = (e.0 ∙ rw w, e.1 ∙ rw w)
 
-  pub kept_counted : (n : ℕ) → writes ≡ false → n ≡ length bytes → p ≡ cond (leb (at + n) last_offset) (Next (at + n)) (NoRoom n)
+  pub kept_counted : (n : ℕ) → writes ≡ false → n ≡ length bytes → p ≡ put_or (at + n) n (leb (at + n) last_offset)
       → (p ≡ kept_answer writes bytes at out) × (out ≡ kept_out writes bytes at out)
   unfolding has_room kept_out
   kept_counted n w e f = (f ∙ rw (w, e), rw w)

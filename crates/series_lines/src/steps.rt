@@ -11,7 +11,6 @@ use crate::lexer::{SPOT_AFTER, SPOT_COUNT, SPOT_DECIMAL, fresh_line};
 use crate::writer::Sink;
 use crate::{Line, READING, Reader};
 use limits::{Tally, block_factor};
-use packed_numbers::Put;
 use units::{BLOCK_COUNT, Fault};
 
 // Where the next line begins.
@@ -100,8 +99,8 @@ pub fn end_count<S: Sink>(r: Reader, out: &mut [u8]) -> Reader
         return r.refused(fault);
     }
     match S::put_count(n, out, r.written) {
-        Put::NoRoom(_) => r.refused(Fault::NoRoom),
-        Put::Next(next) => r.advanced(next, r.blocks + 1, n, s.open_block(r.blocks, n)),
+        Err(_) => r.refused(Fault::NoRoom),
+        Ok(next) => r.advanced(next, r.blocks + 1, n, s.open_block(r.blocks, n)),
     }
 }
 
@@ -117,8 +116,8 @@ pub fn end_term<S: Sink>(r: Reader, out: &mut [u8]) -> Reader
         return r.refused(fault);
     }
     match S::put_term(l, out, r.written) {
-        Put::NoRoom(_) => r.refused(Fault::NoRoom),
-        Put::Next(next) => r.advanced(
+        Err(_) => r.refused(Fault::NoRoom),
+        Ok(next) => r.advanced(
             next,
             r.blocks,
             r.left.saturating_sub(1),

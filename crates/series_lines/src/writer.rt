@@ -1,8 +1,8 @@
 // The writer of a line's packed bytes (refusal 7: no room for them). For the readers, which write a line that was judged, or only count its bytes.
-ghost use Rattle.std.specs.Prelude.{◌≡◌, Bool, true, false, length, ◌+◌, ◌≤◌, ◌<◌, cond, leb};
+ghost use Rattle.std.specs.Prelude.{◌≡◌, Bool, true, false, length, ◌+◌, ◌≤◌, ◌<◌, leb};
 ghost use Rattle.std.proofs.lemmas.List.Edits.{sets};
 ghost use Rattle.units.specs.Units.{c_limit};
-ghost use Rattle.packed_numbers.specs.declared.Put.TheVariants.{Next, NoRoom};
+ghost use Rattle.packed_numbers.specs.Machine.Answers.{put_or};
 ghost use Rattle.packed_numbers.specs.Numbers.{encode, folded};
 ghost use Rattle.packed.specs.Series.{pack_term};
 ghost use Rattle.series_lines.specs.Judge.{signed, term_on_line};
@@ -11,7 +11,7 @@ ghost use Rattle.series_lines.specs.Machine.Writer.{three_packed};
 ghost use Rattle.series_lines.specs.Machine.Modes.{kept_answer, kept_out};
 
 use crate::{LAST_OFFSET, Line};
-use packed_numbers::{Put, groups_of, put_groups, put_number};
+use packed_numbers::{NoRoom, check_room, groups_of, put_groups, put_number};
 
 // A decimal folded: its parts twice, less one below zero.
 fn fold(minus: u64, value: u64) -> u64
@@ -76,11 +76,11 @@ pub trait Sink {
     ghost writes: { Bool };
 
     // Writes a count from at, or nothing where there is no room; or only counts its bytes.
-    fn put_count(v: u64, out: &mut [u8], at: usize) -> Put
+    fn put_count(v: u64, out: &mut [u8], at: usize) -> Result<usize, NoRoom>
         ensures { (result ≡ kept_answer writes (encode v) at out.old) × (out.new ≡ kept_out writes (encode v) at out.old) };
 
     // The same of a term.
-    fn put_term(l: Line, out: &mut [u8], at: usize) -> Put
+    fn put_term(l: Line, out: &mut [u8], at: usize) -> Result<usize, NoRoom>
         requires { (l.a < c_limit) × (l.value < c_limit) }
         ensures { (result ≡ kept_answer writes (pack_term (term_on_line l)) at out.old)
             × (out.new ≡ kept_out writes (pack_term (term_on_line l)) at out.old) };
@@ -93,18 +93,15 @@ impl Sink for Written {
     ghost writes = { true };
 
     #[tactic(auto, using(std::proofs::lemmas::Bool::Decides::nat_tests, crate::proofs::WrittenTerm::number_put), unfolding(crate::specs::Machine::Modes::has_room, crate::specs::Machine::Modes::kept_out))]
-    fn put_count(v: u64, out: &mut [u8], at: usize) -> Put {
+    fn put_count(v: u64, out: &mut [u8], at: usize) -> Result<usize, NoRoom> {
         put_number(v, out, at)
     }
 
     #[tactic(auto, using(std::proofs::lemmas::Bool::Decides::nat_tests), unfolding(crate::specs::Machine::Modes::has_room, crate::specs::Machine::Modes::kept_out, crate::specs::Reader::fits, crate::specs::Reader::put_bytes))]
-    fn put_term(l: Line, out: &mut [u8], at: usize) -> Put {
+    fn put_term(l: Line, out: &mut [u8], at: usize) -> Result<usize, NoRoom> {
         let numbers = Numbers::of_line(l);
-        let n = numbers.length();
-        if out.len() < at || out.len() - at < n {
-            return Put::NoRoom(n);
-        }
-        Put::Next(numbers.put(out, at))
+        check_room(out, at, numbers.length())?;
+        Ok(numbers.put(out, at))
     }
 }
 
@@ -113,13 +110,13 @@ pub struct Counted;
 
 impl Counted {
     // Past at.
-    fn past(n: usize, at: usize) -> Put
-        ensures { result ≡ cond (leb (at + n) last_offset) (Next (at + n)) (NoRoom n) }
+    fn past(n: usize, at: usize) -> Result<usize, NoRoom>
+        ensures { result ≡ put_or (at + n) n (leb (at + n) last_offset) }
     {
         if LAST_OFFSET - at < n {
-            return Put::NoRoom(n);
+            return Err(NoRoom { needed: n });
         }
-        Put::Next(at + n)
+        Ok(at + n)
     }
 }
 
@@ -127,12 +124,12 @@ impl Sink for Counted {
     ghost writes = { false };
 
     #[tactic(auto, using(std::proofs::lemmas::Bool::Decides::nat_tests), unfolding(crate::specs::Machine::Modes::has_room, crate::specs::Machine::Modes::kept_out))]
-    fn put_count(v: u64, _out: &mut [u8], at: usize) -> Put {
+    fn put_count(v: u64, _out: &mut [u8], at: usize) -> Result<usize, NoRoom> {
         Counted::past(groups_of(v), at)
     }
 
     #[tactic(auto, using(std::proofs::lemmas::Bool::Decides::nat_tests), unfolding(crate::specs::Machine::Modes::has_room, crate::specs::Machine::Modes::kept_out))]
-    fn put_term(l: Line, _out: &mut [u8], at: usize) -> Put {
+    fn put_term(l: Line, _out: &mut [u8], at: usize) -> Result<usize, NoRoom> {
         Counted::past(Numbers::of_line(l).length(), at)
     }
 }

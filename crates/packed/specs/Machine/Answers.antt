@@ -1,30 +1,25 @@
 -- What the functions of this crate answer for what the definitions of Series read: the offset past it stands for the bytes from
 -- there.
-use Rattle.std.specs.Prelude.{◌≡◌, List, [], ◌∷◌, map, ℕ, ◌≤◌, set}
+use Rattle.std.specs.Prelude.{◌≡◌, List, [], ◌∷◌, map, ℕ, ◌≤◌, set, nat_abs}
 use Rattle.std.proofs.lemmas.List.Edits.{sets}
 use Rattle.units.specs.Units.{series_limit}
+use Rattle.packed_numbers.specs.declared.quick.PackedTerm.{PackedTerm}
 use Rattle.packed_numbers.specs.Numbers.{Read, got, bad, folded, unfolded}
 use Rattle.limits.specs.declared.Term.{Term}
+use Rattle.limits.specs.declared.Sizes.{Sizes}
 use Rattle.limits.specs.declared.Tally.{Tally}
 use Rattle.limits.specs.Machine.Magnitudes.{factor_limit}
-use Rattle.packed.specs.declared.terms.TermRead.{TermRead}
-use Rattle.packed.specs.declared.terms.TermRead.TheVariants.{Found, Wrong}
-use Rattle.packed.specs.declared.table.Walk.{Walk}
-use Rattle.packed.specs.declared.table.Walk.TheVariants.{Moved, Stopped}
 use Rattle.packed.specs.Machine.Table.{Sized}
 
--- A term as it is packed.
-unfoldable pub shown_term : Read Term → TermRead
-shown_term (got t at rest) = Found (folded t.a) t.b (folded t.c) at
-shown_term (bad r) = Wrong r
+-- A term as it is packed, the term that it is, and the sizes of its numbers.
+abbrev pub packed_term : Term → PackedTerm
+packed_term t = record { a = folded t.a; b = t.b; c = folded t.c }
 
 abbrev pub term_of : ℕ → ℕ → ℕ → Term
 term_of a b c = record { a = unfolded a; b = b; c = unfolded c }
 
--- The offset past what was read, and the tally with it.
-unfoldable pub walked : {A : Type 0} → (A → Tally) → Read A → Walk
-walked tally (got x at rest) = Moved at (tally x)
-walked tally (bad r) = Stopped r
+abbrev pub packed_sizes : PackedTerm → Sizes
+packed_sizes t = record { a = nat_abs (unfolded t.a); b = t.b; c = nat_abs (unfolded t.c) }
 
 -- A term's row.
 unfoldable pub row_of : Term → List ℕ

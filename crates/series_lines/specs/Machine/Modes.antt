@@ -1,7 +1,7 @@
 -- One code reads a text that is packed and a text that is only judged: writes says which. Held by the code, no part of the rules.
-use Rattle.std.specs.Prelude.{Bool, true, false, cond, List, ℕ, ◌+◌, leb, eqb, length}
-use Rattle.packed_numbers.specs.declared.Put.{Put}
-use Rattle.packed_numbers.specs.declared.Put.TheVariants.{Next, NoRoom}
+use Rattle.std.specs.Prelude.{Bool, true, false, cond, Result, List, ℕ, ◌+◌, leb, eqb, length}
+use Rattle.packed_numbers.specs.declared.NoRoom.{NoRoom}
+use Rattle.packed_numbers.specs.Machine.Answers.{put_or}
 use Rattle.series_lines.specs.declared.Reader.{Reader}
 use Rattle.series_lines.specs.Judge.{Verdict}
 use Rattle.series_lines.specs.Reader.{settled, fits, put_bytes, last_offset}
@@ -12,8 +12,8 @@ has_room true bytes at out = fits bytes at out
 has_room false bytes at out = leb (at + length bytes) last_offset
 
 -- The offset past the bytes where there is room for them, and otherwise how many they are.
-abbrev pub kept_answer : Bool → List ℕ → ℕ → List ℕ → Put
-kept_answer writes bytes at out = cond (has_room writes bytes at out) (Next (at + length bytes)) (NoRoom (length bytes))
+abbrev pub kept_answer : Bool → List ℕ → ℕ → List ℕ → Result ℕ NoRoom
+kept_answer writes bytes at out = put_or (at + length bytes) (length bytes) (has_room writes bytes at out)
 
 -- The output afterwards.
 unfoldable pub kept_out : Bool → List ℕ → ℕ → List ℕ → List ℕ

@@ -1,8 +1,8 @@
 -- What the writer of a line's bytes writes and answers. Held by the code, no part of the rules.
-use Rattle.std.specs.Prelude.{cond, List, ◌++◌, ℕ, ◌+◌, length}
-use Rattle.packed_numbers.specs.declared.Put.{Put}
-use Rattle.packed_numbers.specs.declared.Put.TheVariants.{Next, NoRoom}
+use Rattle.std.specs.Prelude.{Result, List, ◌++◌, ℕ, ◌+◌, length}
+use Rattle.packed_numbers.specs.declared.NoRoom.{NoRoom}
 use Rattle.packed_numbers.specs.Numbers.{encode}
+use Rattle.packed_numbers.specs.Machine.Answers.{put_or}
 use Rattle.series_lines.specs.Reader.{fits}
 
 -- Three numbers, packed one after the other.
@@ -10,5 +10,5 @@ abbrev pub three_packed : ℕ → ℕ → ℕ → List ℕ
 three_packed a b c = encode a ++ encode b ++ encode c
 
 -- The offset past the bytes where there is room for them, and otherwise how many they are.
-abbrev pub put_bytes_answer : List ℕ → ℕ → List ℕ → Put
-put_bytes_answer bytes at out = cond (fits bytes at out) (Next (at + length bytes)) (NoRoom (length bytes))
+abbrev pub put_bytes_answer : List ℕ → ℕ → List ℕ → Result ℕ NoRoom
+put_bytes_answer bytes at out = put_or (at + length bytes) (length bytes) (fits bytes at out)

@@ -1,37 +1,32 @@
 -- `take_term` meets its contract. Assumes nothing.
-use mathlib.Core.Path.{◌≡◌, sym, ◌∙◌}
-use lib.ListN.{drop}
-use Rattle.packed_numbers.specs.Numbers.{got}
+use mathlib.Core.Path.{sym, ◌∙◌}
+use Rattle.packed_numbers.proofs.Reading.{pass_on, show_got, was_bad}
+use Rattle.limits.specs.Limits.{added}
 use Rattle.limits.proofs.Passing.{all_pass}
-use Rattle.limits.proofs.Magnitudes.{may_come_size, added_size}
-use Rattle.packed.specs.Series.{read_term}
-use Rattle.packed.specs.Machine.Answers.{term_of}
+use Rattle.packed.specs.Machine.Answers.{packed_term, term_of}
 use Rattle.packed.proofs.ReadCases.{term_after}
-use Rattle.packed.proofs.Accepting.{term_accepted, was_wrong, was_found}
-use Rattle.packed.proofs.Walking.{show_moved, show_stopped, store_row, store_none}
+use Rattle.packed.proofs.Accepting.{term_accepted, was_found, packed_may_come, packed_added}
+use Rattle.packed.proofs.Walking.{store_row, store_none}
 use Rattle.packed.proofs.table.take_term.Goals as goal
+
+pub returns-in_err-t : goal.returns-in_err-t
+returns-in_err-t c =
+    let e = c.in_err-t.ensures in (
+      pass_on packed_term (added c.args.f c.args.tally) _ c.from_residual.ensures.1 e (λ h. h),
+      store_none _ _ _ _ (was_bad packed_term _ _ (sym e)),
+    )
 
 pub add_term-requires : goal.add_term-requires
 add_term-requires c =
-    let found : read_term c.args.f c.args.tally c.args.at (drop c.args.at c.args.bytes.now) ≡
-    got (term_of c.in-Found.a c.in-Found.b c.in-Found.c) c.in-Found.to (drop c.in-Found.to c.args.bytes.now) =
-    was_found _ _ _ _ (term_after c.args.bytes.now c.args.f c.args.tally c.args.at) (sym c.read_term_at-t.ensures ∙ c.in-Found.is) in
-    let m = c.magnitude.ensures in
-    let n = c.magnitude-in-Found.ensures in
-    let p = all_pass _ _ (term_of _ _ _) (term_accepted _ _ _ _ (found)).passes in
-    (c.requires.0, may_come_size _ _ (term_of _ _ _) m n ∙ p)
+    let a = c.args in
+    let found = was_found c.in_ok-t.t (term_after a.bytes.now a.f a.tally a.at) (sym c.in_ok-t.ensures) in
+    let p = all_pass _ _ (term_of _ _ _) (term_accepted _ _ _ _ found.is).passes in
+    (c.requires.0, packed_may_come _ _ _ _ c.sizes.ensures ∙ p)
 
-pub returns-in-Wrong : goal.returns-in-Wrong
-returns-in-Wrong c =
-    let e = was_wrong _ _ (sym c.read_term_at-t.ensures ∙ c.in-Wrong.is) in
-    (show_stopped _ e, store_none _ _ _ _ e)
-
-pub returns-in-Found : goal.returns-in-Found
-returns-in-Found c =
-    let found : read_term c.args.f c.args.tally c.args.at (drop c.args.at c.args.bytes.now) ≡
-    got (term_of c.in-Found.a c.in-Found.b c.in-Found.c) c.in-Found.to (drop c.in-Found.to c.args.bytes.now) =
-    was_found _ _ _ _ (term_after c.args.bytes.now c.args.f c.args.tally c.args.at) (sym c.read_term_at-t.ensures ∙ c.in-Found.is) in
-    let e = found in
-    let m = c.magnitude.ensures in
-    let n = c.magnitude-in-Found.ensures in
-    (show_moved _ e (c.add_term.ensures ∙ added_size _ _ (term_of _ _ _) m n), store_row _ _ _ _ _ _ _ _ e)
+pub returns : goal.returns
+returns c =
+    let a = c.args in
+    let found = was_found c.in_ok-t.t (term_after a.bytes.now a.f a.tally a.at) (sym c.in_ok-t.ensures) in (
+      show_got (added a.f a.tally) found.is (c.add_term.ensures ∙ packed_added _ _ _ _ c.sizes.ensures),
+      store_row _ _ _ _ _ _ _ _ found.is,
+    )

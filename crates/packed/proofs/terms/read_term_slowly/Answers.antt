@@ -1,50 +1,37 @@
 -- `read_term_slowly` meets its contract. Assumes nothing.
-use mathlib.Core.Path.{sym, ◌∙◌}
-use Prim.Native.Nat.{◌+◌}
-use lib.ListN.{drop}
+use mathlib.Core.Path.{sym}
 use Rattle.packed_numbers.specs.Numbers.{folded, unfolded}
 use Rattle.packed_numbers.specs.Machine.Answers.{plain}
-use Rattle.packed_numbers.proofs.Reading.{Got, got_plain, got_folded, was_bad}
-use Rattle.packed.specs.Series.{read_a, read_b}
+use Rattle.packed_numbers.proofs.Reading.{got_plain, got_folded, pass_on, show_got}
+use Rattle.packed.specs.Machine.Answers.{packed_term}
 use Rattle.packed.proofs.ReadCases.{a_after, b_after, c_after, term_bad_a, term_bad_b, term_bad_c, term_got}
-use Rattle.packed.proofs.Accepting.{a_accepted, show_wrong, show_found}
+use Rattle.packed.proofs.Accepting.{a_accepted, packed_back}
 use Rattle.packed.proofs.terms.read_term_slowly.Goals as goal
 
-pub read_c-rc-requires : goal.read_c-rc-requires
-read_c-rc-requires c =
-    let got-a : Got c.args.bytes.now (c.args.at + 1) (read_a c.args.tally c.args.at (drop c.args.at c.args.bytes.now)) (unfolded c.in-Value.a) c.in-Value.at_b =
-    got_folded _ _ (a_after c.args.bytes.now c.args.at c.args.tally) (sym c.read_a-ra.ensures ∙ c.in-Value.is) in
-    (c.requires, (a_accepted _ _ _ (got-a).is).good.fits)
+pub returns-in_err-a : goal.returns-in_err-a
+returns-in_err-a c = pass_on folded packed_term _ c.from_residual.ensures.1 c.in_err-a.ensures (term_bad_a _ _ _ _ _)
 
-pub returns-in-Bad : goal.returns-in-Bad
-returns-in-Bad c =
-    let e = sym c.read_a-ra.ensures ∙ c.in-Bad.is in
-    show_wrong (term_bad_a _ _ _ _ _ (was_bad folded _ _ e))
+pub returns-in_err-b : goal.returns-in_err-b
+returns-in_err-b c =
+    let a = got_folded c.in_ok-a.a (a_after c.args.bytes.now c.args.at c.args.tally) (sym c.in_ok-a.ensures) in
+    pass_on plain packed_term _ c.from_residual-in_err-b.ensures.1 c.in_err-b.ensures (term_bad_b _ _ _ _ _ _ _ a.is _)
 
-pub returns-in-Bad-rb : goal.returns-in-Bad-rb
-returns-in-Bad-rb c =
-    let got-a : Got c.args.bytes.now (c.args.at + 1) (read_a c.args.tally c.args.at (drop c.args.at c.args.bytes.now)) (unfolded c.in-Value.a) c.in-Value.at_b =
-    got_folded _ _ (a_after c.args.bytes.now c.args.at c.args.tally) (sym c.read_a-ra.ensures ∙ c.in-Value.is) in
-    let e = sym c.read_b-rb.ensures ∙ c.in-Bad-rb.is in
-    show_wrong (term_bad_b _ _ _ _ _ _ _ (got-a).is _ (was_bad plain _ _ e))
+pub read_c-requires : goal.read_c-requires
+read_c-requires c =
+    let a = got_folded c.in_ok-a.a (a_after c.args.bytes.now c.args.at c.args.tally) (sym c.in_ok-a.ensures) in
+    (c.requires, (a_accepted _ _ _ a.is).good.fits)
 
-pub returns-in-Bad-rc : goal.returns-in-Bad-rc
-returns-in-Bad-rc c =
-    let got-a : Got c.args.bytes.now (c.args.at + 1) (read_a c.args.tally c.args.at (drop c.args.at c.args.bytes.now)) (unfolded c.in-Value.a) c.in-Value.at_b =
-    got_folded _ _ (a_after c.args.bytes.now c.args.at c.args.tally) (sym c.read_a-ra.ensures ∙ c.in-Value.is) in
-    let got-b : Got c.args.bytes.now (c.in-Value.at_b + 1) (read_b c.in-Value.at_b (drop c.in-Value.at_b c.args.bytes.now)) c.in-Value-rb.b c.in-Value-rb.at_c =
-    let a = c.args in let at = c.in-Value.at_b in got_plain _ _ (b_after a.bytes.now at) (sym c.read_b-rb.ensures ∙ c.in-Value-rb.is) in
-    let e = sym c.read_c-rc.ensures ∙ c.in-Bad-rc.is in
-    show_wrong (term_bad_c _ _ _ _ _ _ _ (got-a).is _ _ _ (got-b).is _ (was_bad folded _ _ e))
+pub returns-in_err-c : goal.returns-in_err-c
+returns-in_err-c c =
+    let a = got_folded c.in_ok-a.a (a_after c.args.bytes.now c.args.at c.args.tally) (sym c.in_ok-a.ensures) in
+    let b = got_plain c.in_ok-b.b (b_after c.args.bytes.now c.in_ok-a.a.next) (sym c.in_ok-b.ensures) in
+    pass_on folded packed_term _ c.from_residual-in_err-c.ensures.1 c.in_err-c.ensures (term_bad_c _ _ _ _ _ _ _ a.is _ _ _ b.is _)
 
-pub returns-in-Value-rc : goal.returns-in-Value-rc
-returns-in-Value-rc c =
-    let got-a : Got c.args.bytes.now (c.args.at + 1) (read_a c.args.tally c.args.at (drop c.args.at c.args.bytes.now)) (unfolded c.in-Value.a) c.in-Value.at_b =
-    got_folded _ _ (a_after c.args.bytes.now c.args.at c.args.tally) (sym c.read_a-ra.ensures ∙ c.in-Value.is) in
-    let got-b : Got c.args.bytes.now (c.in-Value.at_b + 1) (read_b c.in-Value.at_b (drop c.in-Value.at_b c.args.bytes.now)) c.in-Value-rb.b c.in-Value-rb.at_c =
-    let a = c.args in let at = c.in-Value.at_b in got_plain _ _ (b_after a.bytes.now at) (sym c.read_b-rb.ensures ∙ c.in-Value-rb.is) in
+pub returns : goal.returns
+returns c =
     let s = c.args in
-    let n = c.in-Value-rb in
-    let l = c_after s.bytes.now s.f s.tally (unfolded c.in-Value.a) n.b n.at_c in
-    let g = got_folded _ _ l (sym c.read_c-rc.ensures ∙ c.in-Value-rc.is) in
-    show_found (term_got _ _ _ _ _ _ _ (got-a).is _ _ _ (got-b).is _ _ _ g.is)
+    let a = got_folded c.in_ok-a.a (a_after s.bytes.now s.at s.tally) (sym c.in_ok-a.ensures) in
+    let b = got_plain c.in_ok-b.b (b_after s.bytes.now c.in_ok-a.a.next) (sym c.in_ok-b.ensures) in
+    let l = c_after s.bytes.now s.f s.tally (unfolded c.in_ok-a.a.value) c.in_ok-b.b.value c.in_ok-b.b.next in
+    let n = got_folded c.in_ok-c.c l (sym c.in_ok-c.ensures) in
+    show_got packed_term (term_got _ _ _ _ _ _ _ a.is _ _ _ b.is _ _ _ n.is) (packed_back _)

@@ -6,7 +6,7 @@ use Rattle.packed_numbers.proofs.Usual.{first_only, first_begun}
 use Rattle.packed_numbers.proofs.quick.quick_a.Goals as goal
 
 pub returns-then-x-lt-GROUP : goal.returns-then-x-lt-GROUP
-returns-then-x-lt-GROUP c e =
+returns-then-x-lt-GROUP c =
     let a = c.args in
     let x = c.byte_at-x in
     first_only a.s.now a.at x.result x.ensures.0 (omega arith) c.if-x-lt-GROUP.true

@@ -19,16 +19,14 @@ returns-then-r-gt0 c =
     ended_in_block a.p _ _ a.out.now (omega arith) (omega arith) (omega arith) c.halt-then-r-gt0.ensures
 
 pub finish-requires : goal.finish-requires
-finish-requires c = omega (arith, c.well_formed, zeros_fit _ _ _ c.args.out.now _ c.put_missing-put.ensures.0 c.in-Next.is)
+finish-requires c = omega (arith, c.well_formed, zeros_fit _ _ _ c.args.out.now c.in-Ok.ensures.0)
 
-pub returns-in-NoRoom : goal.returns-in-NoRoom
-returns-in-NoRoom c =
+pub returns-in-Err : goal.returns-in-Err
+returns-in-Err c =
     let a = c.args in
-    ended_full a.p _ _ _ (omega arith) (omega arith) (omega arith) _ c.missing_blocks-n.ensures _ _ c.put_missing-put.ensures.0
-    c.put_missing-put.ensures.1 c.in-NoRoom.is c.halt-in-NoRoom.ensures
+    ended_full a.p _ _ _ (omega arith) (omega arith) (omega arith) _ c.missing_blocks-n.ensures c.in-Err.ensures.1 _ c.in-Err.ensures.0 c.halt-in-Err.ensures
 
-pub returns-in-Next : goal.returns-in-Next
-returns-in-Next c =
+pub returns-in-Ok : goal.returns-in-Ok
+returns-in-Ok c =
     let a = c.args in
-    ended_whole a.p _ _ _ (omega arith) (omega arith) (omega arith) _ c.missing_blocks-n.ensures _ _ c.put_missing-put.ensures.0
-    c.put_missing-put.ensures.1 c.in-Next.is c.finish.ensures
+    ended_whole a.p _ _ _ (omega arith) (omega arith) (omega arith) _ c.missing_blocks-n.ensures c.in-Ok.ensures.1 _ c.in-Ok.ensures.0 c.finish.ensures

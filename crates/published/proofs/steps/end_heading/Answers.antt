@@ -29,8 +29,8 @@ overflow_sub-k c =
     × (count_fits (tally c.args.p.reader) c.args.p.row.line.value ≡ true) = unrefused _ _ _ _ _ _ (good) in
     rw c.block_of-k.ensures (orderly).0.onward
 
-pub put_heading-put-requires : goal.put_heading-put-requires
-put_heading-put-requires c =
+pub put_heading-requires : goal.put_heading-requires
+put_heading-requires c =
     let good : (heading_end c.args.p).refusal ≡ 0 = sym c.heading_refusal-refusal.ensures ∙ c.if-refusal-ne0.false in
     let orderly : InOrder c.args.p.reader.blocks c.args.p.row.coordinate c.args.p.row.power
     × (count_fits (tally c.args.p.reader) c.args.p.row.line.value ≡ true) = unrefused _ _ _ _ _ _ (good) in
@@ -57,16 +57,14 @@ overflow_add-k c =
     × (count_fits (tally c.args.p.reader) c.args.p.row.line.value ≡ true) = unrefused _ _ _ _ _ _ (good) in
     omega (arith, c.block_of-k.ensures, (orderly).0.inside)
 
-pub returns-in-NoRoom : goal.returns-in-NoRoom
-returns-in-NoRoom c =
+pub returns-in-Err : goal.returns-in-Err
+returns-in-Err c =
     let good : (heading_end c.args.p).refusal ≡ 0 = sym c.heading_refusal-refusal.ensures ∙ c.if-refusal-ne0.false in
     let p = c.args.p in
-    heading_full p _ c.block_of-k.ensures (good) _ _ _ _ _ c.put_heading-put.ensures.0 c.put_heading-put.ensures.1
-    c.in-NoRoom.is c.stopped-in-NoRoom.ensures
+    heading_full p _ c.block_of-k.ensures (good) _ _ _ c.in-Err.ensures.1 _ c.in-Err.ensures.0 c.stopped-in-Err.ensures
 
-pub returns-in-Next : goal.returns-in-Next
-returns-in-Next c =
+pub returns-in-Ok : goal.returns-in-Ok
+returns-in-Ok c =
     let good : (heading_end c.args.p).refusal ≡ 0 = sym c.heading_refusal-refusal.ensures ∙ c.if-refusal-ne0.false in
     let p = c.args.p in
-    heading_next p _ c.block_of-k.ensures (good) _ _ _ _ _ c.put_heading-put.ensures.0 c.put_heading-put.ensures.1
-    c.in-Next.is (c.advanced.ensures ∙ rw (c.open_block-opened.ensures, c.skip_blocks.ensures))
+    heading_next p _ c.block_of-k.ensures (good) _ _ _ c.in-Ok.ensures.1 _ c.in-Ok.ensures.0 (c.advanced.ensures ∙ rw (c.open_block-opened.ensures, c.skip_blocks.ensures))

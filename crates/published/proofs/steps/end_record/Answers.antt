@@ -25,8 +25,8 @@ returns-in-Err c =
     wrote_refused p.reader _ _ (record_end p) _ (e ∙ sym (record_as_line p (sym c.follows.ensures ∙ c.if-not-follows.false)))
     (fault_some c.in-Err.fault) c.refused.ensures
 
-pub put_term-put-requires : goal.put_term-put-requires
-put_term-put-requires c =
+pub put_term-requires : goal.put_term-requires
+put_term-requires c =
     let s = line_small c.block_factor-f.result (tally c.args.p.reader) c.args.p.row.line (sym c.in_default.ensures) in
     omega (arith, s.0, s.1)
 
@@ -34,18 +34,17 @@ pub add_term-more-requires : goal.add_term-more-requires
 add_term-more-requires c =
     rw c.sizes.ensures (c.block_factor-f.ensures.1, line_may_come _ (tally c.args.p.reader) c.args.p.row.line (sym c.in_default.ensures))
 
-pub returns-in-NoRoom : goal.returns-in-NoRoom
+pub returns-in-Err-put_term : goal.returns-in-Err-put_term
 unfolding has_room kept_out
-returns-in-NoRoom c =
+returns-in-Err-put_term c =
     let p = c.args.p in
     let e = rw (c.block_factor-f.ensures.0, c.saturating_sub.ensures) at c.in_default.ensures in
     let unrefused = record_as_line p (sym c.follows.ensures ∙ c.if-not-follows.false) ∙ sym e in
-    wrote_full p.reader _ _ (record_end p) unrefused _ _ _ _ c.put_term-put.ensures.0 c.put_term-put.ensures.1
-    c.in-NoRoom.is c.stopped-in-NoRoom.ensures
+    wrote_full p.reader _ _ (record_end p) unrefused _ _ c.in-Err-put_term.ensures.1 _ c.in-Err-put_term.ensures.0 c.stopped-in-Err-put_term.ensures
 
-pub returns-in-Next : goal.returns-in-Next
+pub returns-in-Ok : goal.returns-in-Ok
 unfolding has_room kept_out
-returns-in-Next c =
+returns-in-Ok c =
     let p = c.args.p in
     let s = tally p.reader in
     let l = p.row.line in
@@ -53,5 +52,4 @@ returns-in-Next c =
     let unrefused = record_as_line p (sym c.follows.ensures ∙ c.if-not-follows.false) ∙ sym e in
     let t : c.add_term-more.result ≡ (record_end p).tally =
     rw (c.sizes.ensures, c.block_factor-f.ensures.0, c.saturating_sub.ensures) at c.add_term-more.ensures ∙ line_added _ s l in
-    wrote_next p.reader _ _ (record_end p) unrefused _ _ _ _ c.put_term-put.ensures.0 c.put_term-put.ensures.1
-    c.in-Next.is (c.advanced.ensures ∙ rw (c.saturating_sub-in-Next.ensures, t))
+    wrote_next p.reader _ _ (record_end p) unrefused _ _ c.in-Ok.ensures.1 _ c.in-Ok.ensures.0 (c.advanced.ensures ∙ rw (c.saturating_sub-in-Ok.ensures, t))

@@ -17,15 +17,13 @@ overflow_add-r g c = omega (arith, (count_limits _ _ _ (sym c.in_default.ensures
 pub open_block-requires : goal.open_block-requires
 open_block-requires g c = (count_limits _ _ _ (sym c.in_default.ensures)).1
 
-pub returns-in-NoRoom : goal.returns-in-NoRoom
-returns-in-NoRoom g c =
+pub returns-in-Err-put_count : goal.returns-in-Err-put_count
+returns-in-Err-put_count g c =
     let r = c.args.r in
-    let p = c.put_count.ensures in
-    line_full _ r _ _ (count_end r) (sym (rw c.tally-s.ensures at c.in_default.ensures)) _ _ _ _ p.0 p.1 c.in-NoRoom.is c.refused-in-NoRoom.ensures
+    line_full _ r _ _ (count_end r) (sym (rw c.tally-s.ensures at c.in_default.ensures)) _ _ c.in-Err-put_count.ensures.1 _ c.in-Err-put_count.ensures.0 c.refused-in-Err-put_count.ensures
 
-pub returns-in-Next : goal.returns-in-Next
-returns-in-Next g c =
+pub returns-in-Ok : goal.returns-in-Ok
+returns-in-Ok g c =
     let r = c.args.r in
-    let p = c.put_count.ensures in
-    line_next _ r _ _ (count_end r) (sym (rw c.tally-s.ensures at c.in_default.ensures)) _ _ _ _ p.0 p.1 c.in-Next.is
+    line_next _ r _ _ (count_end r) (sym (rw c.tally-s.ensures at c.in_default.ensures)) _ _ c.in-Ok.ensures.1 _ c.in-Ok.ensures.0
     (c.advanced.ensures ∙ rw (c.open_block.ensures, c.tally-s.ensures))

@@ -20,19 +20,17 @@ put_term-requires g c =
 pub add_term-requires : goal.add_term-requires
 add_term-requires g c = rw c.sizes.ensures (c.block_factor-f.ensures.1, line_may_come _ _ c.args.r.line (sym c.in_default.ensures))
 
-pub returns-in-NoRoom : goal.returns-in-NoRoom
-returns-in-NoRoom g c =
+pub returns-in-Err-put_term : goal.returns-in-Err-put_term
+returns-in-Err-put_term g c =
     let r = c.args.r in
     let e = rw (c.tally-s.ensures, c.block_factor-f.ensures.0, c.saturating_sub.ensures) at c.in_default.ensures in
-    let p = c.put_term.ensures in
-    line_full _ r _ _ (term_end r) (sym e) _ _ _ _ p.0 p.1 c.in-NoRoom.is c.refused-in-NoRoom.ensures
+    line_full _ r _ _ (term_end r) (sym e) _ _ c.in-Err-put_term.ensures.1 _ c.in-Err-put_term.ensures.0 c.refused-in-Err-put_term.ensures
 
-pub returns-in-Next : goal.returns-in-Next
-returns-in-Next g c =
+pub returns-in-Ok : goal.returns-in-Ok
+returns-in-Ok g c =
     let r = c.args.r in
     let e = rw (c.tally-s.ensures, c.block_factor-f.ensures.0, c.saturating_sub.ensures) at c.in_default.ensures in
     let t =
     rw (c.sizes.ensures, c.tally-s.ensures, c.block_factor-f.ensures.0, c.saturating_sub.ensures) at c.add_term.ensures
     ∙ line_added _ (tally r) r.line in
-    let p = c.put_term.ensures in
-    line_next _ r _ _ (term_end r) (sym e) _ _ _ _ p.0 p.1 c.in-Next.is (c.advanced.ensures ∙ rw (c.saturating_sub-in-Next.ensures, t))
+    line_next _ r _ _ (term_end r) (sym e) _ _ c.in-Ok.ensures.1 _ c.in-Ok.ensures.0 (c.advanced.ensures ∙ rw (c.saturating_sub-in-Ok.ensures, t))
