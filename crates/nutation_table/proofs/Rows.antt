@@ -1,14 +1,13 @@
 -- Every row of the table is small: one number, computed over the table. Assumes nothing.
-use mathlib.Core.Path.{◌≡◌, refl, sym, ap, ◌∙◌, subst}
+use mathlib.Core.Path.{◌≡◌, refl, sym, subst}
 use mathlib.Core.List.{List, [], ◌∷◌}
-use Prim.Native.Nat.{ℕ, zero, suc, ◌+◌, ◌-◌, ◌≤◌, ◌<◌}
+use Prim.Native.Nat.{ℕ, zero, suc, ◌+◌, ◌-◌}
 use native.Mathlib.Omega.{arith}
 use lib.IntN.{nat_abs}
-use lib.ListN.{get_or, take, drop}
-use lib.Seq.{get_or-take, get_or-drop}
+use lib.ListN.{get_or}
 use Rattle.nutation_table.specs.declared.Row.{Row}
 use Rattle.nutation_table.specs.Table.{psi, psi_rate, eps, eps_rate, times_d, times_m, times_m1, times_f, times_node, rows, no_row}
-use Rattle.nutation_table.specs.Machine.Small.{part_size, figure_limit, rate_limit, multiplier_limit, Small}
+use Rattle.nutation_table.specs.Machine.Small.{figure_limit, rate_limit, multiplier_limit, Small}
 
 -- by how much the numbers of a row pass their limits, all together
 figures_over : Row → ℕ
@@ -49,11 +48,6 @@ rows_small : (i : ℕ) → Small (get_or rows i no_row)
 unfolding all_over figures_over multipliers_over rows
 rows_small i = at rows refl i
 
--- a row found in one of the parts of the table is that row of the whole
-pub part_is : (rs : List Row) (k i : ℕ) (r : Row) → k ≤ i → i - k < part_size → r ≡ get_or (take part_size (drop k rs)) (i - k) no_row → r ≡ get_or rs i no_row
-part_is rs k i r h l e =
-    let same : k + (i - k) ≡ i = omega arith in
-    e ∙ get_or-take part_size (drop k rs) (i - k) no_row l ∙ get_or-drop k rs (i - k) no_row ∙ ap (λ (j : ℕ). get_or rs j no_row) same
-
+-- what `row_at` answers
 pub found : (i : ℕ) (r : Row) → r ≡ get_or rows i no_row → (r ≡ get_or rows i no_row) × Small r
 found i r e = (e, subst Small (sym e) (rows_small i))

@@ -1,13 +1,10 @@
--- How many rows the table has, in parts of how many the code holds them, and the size of a row's numbers.
+-- How many rows the table has, and the size of a row's numbers.
 use Rattle.std.specs.Prelude.{ℕ, ◌≤◌, nat_abs}
 use Rattle.nutation_table.specs.declared.Row.{Row}
 use Rattle.nutation_table.specs.Table.{psi, psi_rate, eps, eps_rate, times_d, times_m, times_m1, times_f, times_node}
 
 abbrev pub row_count : ℕ
 row_count = 106
-
-abbrev pub part_size : ℕ
-part_size = 27
 
 -- The greatest figure of the table, the greatest rate, and the greatest multiplier.
 abbrev pub figure_limit : ℕ

@@ -1,8 +1,0 @@
--- `nutation_table::fourth_at` meets its contract: the code's rows are those of the definition, entry by entry. Assumes nothing.
-use mathlib.Core.Path.{refl}
-use Rattle.nutation_table.specs.Table.{rows}
-use Rattle.nutation_table.proofs.fourth_at.Goals as goal
-
-pub returns : goal.returns
-unfolding rows
-returns c = refl
