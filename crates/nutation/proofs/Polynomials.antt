@@ -1,12 +1,13 @@
 -- The sizes of a polynomial's values, and a factor of multiplier and divisor. Assumes nothing.
 use mathlib.Core.Path.{◌≡◌, refl, sym, ap, ◌∙◌}
-use mathlib.Core.List.{List, [], ◌∷◌}
+use mathlib.Core.List.{List, [], ◌∷◌, reverse}
 use Prim.Native.Nat.{ℕ, zero, suc, ◌+◌, ◌-◌, ◌*◌, ◌^◌, ◌≤◌, ◌<◌}
 use native.Mathlib.Omega.{arith}
 use native.Mathlib.Nat.{mul-le-mul_left}
 use lib.IntN.{ℤ, pos, nat_abs, ◌+ℤ◌, ◌*ℤ◌}
 use lib.ListN.{get_or, drop, length}
 use lib.Seq.{drop-cons, drop-length}
+use Rattle.std.proofs.lemmas.List.{get_or-reverse, length-reverse}
 use mir.Syntax.{w64}
 use mir.Val.{SFits}
 use Rattle.integers.specs.Division.{rounded}
@@ -50,42 +51,47 @@ polynomial_scale k hk n d h (c ∷ cs) =
     (ring! (pos k ∷ n ∷ polynomial n d cs ∷ []) {y = pos k *ℤ (polynomial n d cs *ℤ n)} (search polys depth 60 fits 100000) tt)
     ∙ ap (λ t. c +ℤ t) (rounded_scale k (polynomial n d cs *ℤ n) d hk h)
 
--- ---- from the highest coefficient down: v is worked out of those from i on
-pub record WorkedDown (n : ℤ) (d : ℕ) (cs : List ℤ) (v : ℤ) (i : ℕ) : Type 0 where
-  pub within : i ≤ length cs
-  pub value : v ≡ polynomial n d (drop i cs)
-
-pub worked_none : (n : ℤ) (d : ℕ) (cs : List ℤ) → WorkedDown n d cs (pos 0) (length cs)
-unfolding polynomial
-worked_none n d cs = record { within = omega arith; value = ap (λ l. polynomial n d l) (sym (drop-length cs)) }
-
--- the coefficients from one place less on
-from_one_less : (cs : List ℤ) (i : ℕ) → 0 < i → i ≤ length cs → drop (i - 1) cs ≡ get_or cs (i - 1) (pos 0) ∷ drop i cs
-from_one_less cs i h l =
-    let back : suc (i - 1) ≡ i = omega arith in
-    drop-cons cs (i - 1) (pos 0) (omega arith) ∙ ap (λ (k : ℕ). get_or cs (i - 1) (pos 0) ∷ drop k cs) back
-
-pub worked_more : (n : ℤ) (d : ℕ) (cs : List ℤ) (v r : ℤ) (i : ℕ) → 0 < i → WorkedDown n d cs v i → r ≡ get_or cs (i - 1) (pos 0) +ℤ rounded (v *ℤ n) d
-    → WorkedDown n d cs r (i - 1)
-unfolding polynomial
-worked_more n d cs v r i h w e = record {
-  within = omega (arith, w.within);
-  value = e ∙ ap (λ t. get_or cs (i - 1) (pos 0) +ℤ rounded (t *ℤ n) d) w.value ∙ ap (λ l. polynomial n d l) (sym (from_one_less cs i h w.within));
-}
-
-pub worked_all : (n : ℤ) (d : ℕ) (cs : List ℤ) (v : ℤ) (i : ℕ) → i ≤ 0 → WorkedDown n d cs v i → v ≡ polynomial n d cs
-worked_all n d cs v i h w = let none : i ≡ 0 = omega arith in w.value ∙ ap (λ (k : ℕ). polynomial n d (drop k cs)) none
-
--- what the next step asks for
+-- ---- no more is reached from some coefficients on
 reach_drop : (cs : List ℤ) (i : ℕ) → reach centuries (drop i cs) ≤ reach centuries cs
 unfolding reach
 reach_drop cs zero = omega arith
 reach_drop [] (suc i) = omega arith
 reach_drop (c ∷ cs) (suc i) = omega (arith, reach_drop cs i)
 
-pub worked_asks : (n : ℤ) (d : ℕ) (cs : List ℤ) (v : ℤ) (i : ℕ) → By n d → reach centuries cs < 2 ^ 63 - 1 → 0 < i → WorkedDown n d cs v i
-    → nat_abs (get_or cs (i - 1) (pos 0)) + centuries * nat_abs v < 2 ^ 63 - 1
-unfolding reach
-worked_asks n d cs v i b h g w =
-    let k = polynomial_bound centuries n d b.positive b.ratio (drop i cs) in
-    omega (arith, ap nat_abs w.value, reach_drop cs (i - 1), ap (reach centuries) (from_one_less cs i g w.within))
+-- ---- from the highest coefficient down: v is worked out of the last k of them
+pub record WorkedDown (n : ℤ) (d : ℕ) (cs : List ℤ) (v : ℤ) (k : ℕ) : Type 0 where
+  pub value : v ≡ polynomial n d (drop (length cs - k) cs)
+
+pub worked_none : (n : ℤ) (d : ℕ) (cs : List ℤ) → WorkedDown n d cs (pos 0) 0
+unfolding polynomial
+worked_none n d cs =
+    let all : length cs - 0 ≡ length cs = omega arith in record { value = ap (λ l. polynomial n d l) (sym (ap (λ (i : ℕ). drop i cs) all ∙ drop-length cs)) }
+
+pub worked_all : (n : ℤ) (d : ℕ) (cs : List ℤ) (v : ℤ) (k : ℕ) → k ≡ length (reverse cs) → WorkedDown n d cs v k → v ≡ polynomial n d cs
+worked_all n d cs v k e w =
+    let none : length cs - k ≡ 0 = omega (arith, length-reverse cs) in w.value ∙ ap (λ (i : ℕ). polynomial n d (drop i cs)) none
+
+-- the next coefficient a, as an iterator from the end has it
+module _ (n : ℤ) (d : ℕ) (cs : List ℤ) (v : ℤ) (k : ℕ) (w : WorkedDown n d cs v k) (a : ℤ)
+    (turn : (k < length (reverse cs)) × (a ≡ get_or (reverse cs) k a)) where
+  in_range : k < length cs
+  in_range = omega (arith, length-reverse cs, turn.0)
+
+  one_more : drop (length cs - (k + 1)) cs ≡ a ∷ drop (length cs - k) cs
+  one_more =
+      let h = in_range in
+      let at : length cs - 1 - k ≡ length cs - (k + 1) = omega arith in
+      let next : suc (length cs - (k + 1)) ≡ length cs - k = omega arith in
+      let here : get_or cs (length cs - (k + 1)) a ≡ a = sym (turn.1 ∙ get_or-reverse cs k a h ∙ ap (λ (i : ℕ). get_or cs i a) at) in
+      drop-cons cs (length cs - (k + 1)) a (omega arith) ∙ rw (here, next)
+
+  pub worked_more : (r : ℤ) → r ≡ a +ℤ rounded (v *ℤ n) d → WorkedDown n d cs r (k + 1)
+  unfolding polynomial
+  worked_more r e = record { value = e ∙ ap (λ t. a +ℤ rounded (t *ℤ n) d) w.value ∙ ap (λ l. polynomial n d l) (sym one_more) }
+
+  -- what the next step asks for
+  pub worked_asks : By n d → reach centuries cs < 2 ^ 63 - 1 → nat_abs a + centuries * nat_abs v < 2 ^ 63 - 1
+  unfolding reach
+  worked_asks b h =
+      let l = polynomial_bound centuries n d b.positive b.ratio (drop (length cs - k) cs) in
+      omega (arith, ap nat_abs w.value, reach_drop cs (length cs - (k + 1)), ap (reach centuries) one_more)

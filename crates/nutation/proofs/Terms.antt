@@ -3,16 +3,19 @@ use mathlib.Core.Path.{◌≡◌, refl, sym, ap, ap₂, ◌∙◌, subst}
 use mathlib.Core.List.{List, [], ◌∷◌}
 use Prim.Native.Nat.{ℕ, ◌-◌, ◌*◌, ◌^◌, ◌≤◌, ◌<◌}
 use native.Mathlib.Omega.{arith}
-use lib.Dec.{lit<, lit≤}
+use lib.Dec.{T, lit<, lit≤}
+use lib.Signed.{mag, non_neg}
 use lib.IntN.{ℤ, pos, nat_abs, ◌+ℤ◌, ◌*ℤ◌}
 use mir.Syntax.{w64}
-use mir.Val.{SFits}
+use mir.Val.{Fits, SFits, to_z}
+use Rattle.std.proofs.lemmas.Int.{to_z_pos}
+use Rattle.arith.proofs.Signs.{back, as_natural, is_nonNeg, nat_abs_fits}
 use Rattle.integers.specs.Order.{◌≼◌}
-use Rattle.integers.specs.Division.{floor, rounded}
+use Rattle.integers.specs.Division.{floor, rounded, modulo}
 use Rattle.integers.proofs.Pairs.{nonneg}
 use Rattle.integers.proofs.Auto.{ring!, polys}
 use Rattle.integers.proofs.Order.{nat_abs-*, nat_abs-+, fits}
-use Rattle.integers.proofs.Division.{floor_modulo, rounded_add}
+use Rattle.integers.proofs.Division.{floor_modulo, modulo_lt, rounded_add}
 use Rattle.integers.proofs.Rounding.{rounded_mono, rounded_zero, rounded_scale}
 use Rattle.arith.proofs.Ranges.{scaled_within}
 use Rattle.arith.proofs.Cells.{Cell, cell}
@@ -101,11 +104,49 @@ left_small m h = omega arith
 pub left_room : (m : ℕ) → m < argument_turn → m * turn < argument_turn * (2 ^ 63 - 1)
 left_room m h = omega arith
 
-pub left_angle : (m : ℕ) → pos 0 ≼ units_angle argument_turn (pos m)
+left_angle : (m : ℕ) → pos 0 ≼ units_angle argument_turn (pos m)
 unfolding units_angle
 left_angle m =
     subst (λ z. z ≼ rounded (pos m *ℤ pos turn) argument_turn) (rounded_zero argument_turn (lit< tt))
     (rounded_mono (pos 0) (pos m *ℤ pos turn) argument_turn (lit< tt) (nonneg (m * turn)))
+
+-- ---- a remainder by the turn and its angle, as the code has them
+pub record Left (a : ℤ) (n : ℕ) : Type 0 where
+  pub is : n ≡ modulo a argument_turn
+  pub small : n < argument_turn
+  pub room : SFits w64 (pos n)
+  pub cast : to_z w64 n ≡ pos n
+
+pub left_told : (a : ℤ) (n : ℕ) → SFits w64 a → n ≡ modulo (Cell a) argument_turn → Left a n
+left_told a n f e =
+    let p : n ≡ modulo a argument_turn = rw (back a f) at e in
+    let h : n < argument_turn = subst (λ (m : ℕ). m < argument_turn) (sym p) (modulo_lt a argument_turn (lit< tt)) in
+    record { is = p; small = h; room = record { sfits = omega arith }; cast = to_z_pos w64 n (omega arith) }
+
+module _ (a : ℤ) (n : ℕ) (l : Left a n) (r : ℤ) (fr : SFits w64 r) (pr : r ≡ units_angle argument_turn (to_z w64 n)) where
+  angle_told : r ≡ units_angle argument_turn (pos n)
+  angle_told = rw l.cast at pr
+
+  angle_natural : pos (nat_abs r) ≡ r
+  angle_natural = as_natural r (subst (λ z. pos 0 ≼ z) (sym angle_told) (left_angle n))
+
+  pub angle_casts : T (non_neg (Cell r)) × Fits w64 (nat_abs (Cell r))
+  angle_casts = rw (back r fr) (is_nonNeg r (subst (λ z. pos 0 ≼ z) (sym angle_told) (left_angle n)), record { fits = nat_abs_fits r fr })
+
+  pub angle_below : nat_abs (Cell r) < 2 ^ 63
+  angle_below = rw (back r fr) (subst (λ z. mag z < 2 ^ 63) (sym angle_natural) fr.sfits)
+
+  split : pos argument_turn *ℤ floor a argument_turn +ℤ pos n ≡ a
+  split = ap (λ (m : ℕ). pos argument_turn *ℤ floor a argument_turn +ℤ pos m) l.is ∙ floor_modulo a argument_turn (lit< tt)
+
+  worked : pos (nat_abs (Cell r)) ≡ units_angle argument_turn (pos n)
+  worked = ap (λ (z : ℤ). pos (nat_abs z)) (back r fr) ∙ angle_natural ∙ angle_told
+
+  pub cosine_told : (c : ℤ) → c ≡ cosine (pos (nat_abs (Cell r))) → c ≡ cosine (units_angle argument_turn a)
+  cosine_told c e = e ∙ ap cosine worked ∙ cosine_left (floor a argument_turn) (pos n) a split
+
+  pub sine_told : (c : ℤ) → c ≡ sine (pos (nat_abs (Cell r))) → c ≡ sine (units_angle argument_turn a)
+  sine_told c e = e ∙ ap sine worked ∙ sine_left (floor a argument_turn) (pos n) a split
 
 -- ---- coefficients and terms
 pub coefficient_is : (t first rate r : ℤ) → r ≡ pos 10 *ℤ first +ℤ rounded (rate *ℤ t) century → r ≡ coefficient t first rate

@@ -11,7 +11,6 @@ ghost use Rattle.nutation.specs.Nutation.{mean_obliquity, nutation_angle, obliqu
 
 use crate::polynomial::polynomial;
 use crate::rows::nutation_at;
-use arith::signed::add;
 use direction::units_angle;
 use units::MILLENNIUM;
 
@@ -26,7 +25,7 @@ const SUM_TURN: u64 = 360 * 3600 * 100000;
 // The coefficients of the mean obliquity, from the constant one up.
 const OBLIQUITY: [i64; 4] = [8438144800, -46815000, -5900, 181300];
 
-// D, M, M', F and the longitude of the node, in 10^-8 arcsecond.
+// D, M, M', F and the longitude of the node, in 10^-8 arcsecond: five fields and not an array, since the rules and the definitions know them by name.
 #[derive(Clone, Copy)]
 pub struct Arguments {
     pub elongation: i64,
@@ -50,6 +49,8 @@ pub struct Angles {
     pub obliquity: i64,
 }
 
+// Here and in `moon` and `rows`, t is a number whose limit each contract names, and not a type of its own: a caller has the number, and that it is in range.
+
 // The mean obliquity at t milliseconds, in 10^-5 arcsecond: its polynomial is in tau, so by t/T.
 pub fn mean_obliquity_at(t: i64) -> i64
     requires { nat_abs t ≤ t_limit }
@@ -64,8 +65,7 @@ pub fn angles_at(t: i64) -> Angles
     ensures { (result.nutation ≡ nutation_angle t) × (result.obliquity ≡ obliquity_angle t) }
 {
     let n = nutation_at(t);
-    let mean = mean_obliquity_at(t);
-    let obliquity = add(mean, n.obliquity);
+    let obliquity = mean_obliquity_at(t) + n.obliquity;
     Angles {
         nutation: units_angle(n.longitude, SUM_TURN),
         obliquity: units_angle(obliquity, SUM_TURN),

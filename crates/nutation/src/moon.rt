@@ -7,7 +7,6 @@ ghost use Rattle.nutation.specs.Machine.Reduced.{centuries, reach, less_turns, A
 use crate::polynomial::polynomial;
 use crate::{ARGUMENT_TURN, Arguments, CENTURY};
 use arith::residue::residue;
-use arith::signed::wide;
 
 // The coefficients of the five, from the constant one up.
 const ELONGATION: [i64; 5] = [
@@ -65,7 +64,7 @@ pub fn arguments_with_turns(t: i64) -> Arguments
 fn less_turns(a: i64) -> i64
     ensures { result ≡ less_turns a }
 {
-    wide(residue(a, ARGUMENT_TURN))
+    residue(a, ARGUMENT_TURN) as i64
 }
 
 // Each of the five so.

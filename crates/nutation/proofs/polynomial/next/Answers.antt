@@ -1,8 +1,8 @@
 -- `nutation::polynomial::next` meets its contract. Assumes nothing.
-use mathlib.Core.Path.{◌≡◌, ◌∙◌, ap}
+use mathlib.Core.Path.{◌≡◌}
 use Prim.Native.Nat.{ℕ, ◌+◌, ◌*◌, ◌-◌, ◌^◌, ◌<◌}
 use native.Mathlib.Omega.{arith}
-use lib.IntN.{nat_abs, ◌+ℤ◌, ◌*ℤ◌}
+use lib.IntN.{nat_abs, ◌*ℤ◌}
 use Rattle.integers.specs.Division.{rounded}
 use Rattle.arith.proofs.Signs.{back, ok}
 use Rattle.nutation.specs.Machine.Reduced.{centuries}
@@ -22,8 +22,8 @@ mul_div_round-requires c =
     more : (a v : ℕ) → a + centuries * v < 2 ^ 63 - 1 → centuries * v < 2 ^ 63 - 1
     more a v h = omega arith
 
-pub add-requires : goal.add-requires
-add-requires c =
+pub overflow_add-result : goal.overflow_add-result
+overflow_add-result c =
     let product : c.mul_div_round.result ≡ rounded (c.args.v *ℤ c.args.n) c.args.d =
     rw (back c.args.n c.ranges.n, back c.args.v c.ranges.v) at c.mul_div_round.ensures in
     rw (back c.args.c c.ranges.c, back c.mul_div_round.result (ok c.mul_div_round.type_inv), product)
@@ -33,6 +33,9 @@ pub returns : goal.returns
 returns c =
     let product : c.mul_div_round.result ≡ rounded (c.args.v *ℤ c.args.n) c.args.d =
     rw (back c.args.n c.ranges.n, back c.args.v c.ranges.v) at c.mul_div_round.ensures in
-    back c.add.result (ok c.add.type_inv)
-    ∙ rw (back c.args.c c.ranges.c, back c.mul_div_round.result (ok c.mul_div_round.type_inv)) at c.add.ensures
-    ∙ ap (λ t. c.args.c +ℤ t) (product)
+    rw (
+      back c.args.c c.ranges.c,
+      back c.mul_div_round.result (ok c.mul_div_round.type_inv),
+      product,
+      back _ (step_fits c.args.c c.args.v c.args.n c.args.d c.requires.0 c.requires.1),
+    )

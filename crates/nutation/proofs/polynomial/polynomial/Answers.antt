@@ -2,10 +2,13 @@
 use mathlib.Core.Path.{◌≡◌, ◌∙◌, sym, ap, subst}
 use Prim.Native.Nat.{◌+◌, ◌-◌, ◌*◌, ◌^◌, ◌<◌}
 use native.Mathlib.Omega.{arith}
-use lib.IntN.{pos, nat_abs, ◌+ℤ◌, ◌*ℤ◌}
-use lib.ListN.{get_or}
+use lib.IntN.{nat_abs, ◌+ℤ◌, ◌*ℤ◌}
+use lib.ListN.{length}
 use mir.Syntax.{w64}
 use mir.Val.{to_z}
+use Rattle.std.proofs.lemmas.Iterator.Adapters.{YieldsList-from_rev_slice}
+use Rattle.std.proofs.lemmas.Iterator.Consumers.{YieldsList-turn, YieldsList-end}
+use Rattle.std.proofs.lemmas.List.{length_push}
 use Rattle.integers.specs.Division.{rounded}
 use Rattle.arith.proofs.Cells.{Cell, cell}
 use Rattle.arith.proofs.Signs.{back, ok}
@@ -14,37 +17,33 @@ use Rattle.nutation.specs.Machine.Reduced.{By, centuries}
 use Rattle.nutation.proofs.Polynomials.{worked_none, worked_more, worked_all, worked_asks}
 use Rattle.nutation.proofs.polynomial.polynomial.Goals as goal
 
-pub loop-i-init : goal.loop-i-init
-loop-i-init c = worked_none _ _ _
-
-pub overflow_sub-i : goal.overflow_sub-i
-overflow_sub-i c = omega arith
-
-pub bounds-c-i : goal.bounds-c-i
-bounds-c-i c = omega arith
+pub loop-a-init : goal.loop-a-init
+loop-a-init c = (tt, tt, worked_none _ _ _)
 
 pub next-v-requires : goal.next-v-requires
 next-v-requires c =
     let by : By (Cell c.args.n) c.args.d = subst (λ z. By z c.args.d) (sym (back c.args.n c.ranges.n)) c.requires.0 in
-    let asked : nat_abs (get_or c.args.c.now (c.loop-i.i - 1) (pos 0)) + centuries * nat_abs (to_z w64 c.loop-i.v-bits) < 2 ^ 63 - 1 =
-    worked_asks (Cell c.args.n) c.args.d c.args.c.now (to_z w64 c.loop-i.v-bits) c.loop-i.i by c.requires.1 (omega arith) c.loop-i.invariant in
-    let read : Cell (get_or c.args.c.now (c.loop-i.i - 1) (pos 0)) ≡ get_or c.args.c.now (c.loop-i.i - 1) (pos 0) = cell _ (omega (arith, asked)) in
-    (by, rw read asked)
+    let t = YieldsList-turn (YieldsList-from_rev_slice c.args.c.now cc) c.loop-a.yielded _ c.loop-a.yielded_by _ _ c.in-Some.a c.in-Some.is c.next.ensures.steps in
+    let asked : nat_abs c.in-Some.a.now + centuries * nat_abs (to_z w64 c.loop-a.v-bits) < 2 ^ 63 - 1 =
+    worked_asks _ _ c.args.c.now _ (length c.loop-a.yielded) c.loop-a.invariant.2 c.in-Some.a.now t by c.requires.1 in
+    (by, rw (cell c.in-Some.a.now (omega (arith, asked))) asked)
 
-pub loop-i-smaller : goal.loop-i-smaller
-loop-i-smaller c = omega arith
-
-pub loop-i-preserved : goal.loop-i-preserved
-loop-i-preserved c =
+pub loop-a-preserved : goal.loop-a-preserved
+loop-a-preserved c =
     let by : By (Cell c.args.n) c.args.d = subst (λ z. By z c.args.d) (sym (back c.args.n c.ranges.n)) c.requires.0 in
-    let asked : nat_abs (get_or c.args.c.now (c.loop-i.i - 1) (pos 0)) + centuries * nat_abs (to_z w64 c.loop-i.v-bits) < 2 ^ 63 - 1 =
-    worked_asks (Cell c.args.n) c.args.d c.args.c.now (to_z w64 c.loop-i.v-bits) c.loop-i.i by c.requires.1 (omega arith) c.loop-i.invariant in
-    let read : Cell (get_or c.args.c.now (c.loop-i.i - 1) (pos 0)) ≡ get_or c.args.c.now (c.loop-i.i - 1) (pos 0) = cell _ (omega (arith, asked)) in
-    worked_more (Cell c.args.n) c.args.d c.args.c.now (to_z w64 c.loop-i.v-bits) _ c.loop-i.i (omega arith) c.loop-i.invariant
-    (back c.next-v.result (ok c.next-v.type_inv) ∙ c.next-v.ensures
-    ∙ ap (λ z. z +ℤ rounded (to_z w64 c.loop-i.v-bits *ℤ Cell c.args.n) c.args.d) read)
+    let t = YieldsList-turn (YieldsList-from_rev_slice c.args.c.now cc) c.loop-a.yielded _ c.loop-a.yielded_by _ _ c.in-Some.a c.in-Some.is c.next.ensures.steps in
+    let asked : nat_abs c.in-Some.a.now + centuries * nat_abs (to_z w64 c.loop-a.v-bits) < 2 ^ 63 - 1 =
+    worked_asks _ _ c.args.c.now _ (length c.loop-a.yielded) c.loop-a.invariant.2 c.in-Some.a.now t by c.requires.1 in
+    let read : Cell c.in-Some.a.now ≡ c.in-Some.a.now = cell c.in-Some.a.now (omega (arith, asked)) in (
+      tt,
+      tt,
+      rw (length_push c.loop-a.yielded c.in-Some.a)
+          (worked_more _ _ c.args.c.now _ (length c.loop-a.yielded) c.loop-a.invariant.2 c.in-Some.a.now t _
+          (back c.next-v.result (ok c.next-v.type_inv) ∙ c.next-v.ensures
+          ∙ ap (λ z. z +ℤ rounded (to_z w64 c.loop-a.v-bits *ℤ Cell c.args.n) c.args.d) read)),
+    )
 
 pub returns : goal.returns
 returns c =
-    worked_all (Cell c.args.n) c.args.d c.args.c.now (to_z w64 c.loop-i.v-bits) c.loop-i.i (omega arith) c.loop-i.invariant
-    ∙ ap (λ z. polynomial z c.args.d c.args.c.now) (back c.args.n c.ranges.n)
+    let t = YieldsList-end (YieldsList-from_rev_slice c.args.c.now cc) c.loop-a.yielded _ c.loop-a.yielded_by _ _ c.in-None.is c.next.ensures.steps in
+    worked_all _ _ c.args.c.now _ _ t.1 c.loop-a.invariant.2 ∙ ap (λ z. polynomial z c.args.d c.args.c.now) (back c.args.n c.ranges.n)
