@@ -9,7 +9,7 @@ use lib.IntN.{ℤ, pos, nat_abs, ◌+ℤ◌, ◌*ℤ◌}
 use mir.Syntax.{w64}
 use mir.Val.{Fits, SFits, to_z}
 use Rattle.std.proofs.lemmas.Int.{to_z_pos}
-use Rattle.arith.proofs.Signs.{back, as_natural, is_nonNeg, nat_abs_fits}
+use Rattle.arith.proofs.Signs.{back, as_natural, is_nonNeg}
 use Rattle.integers.specs.Order.{◌≼◌}
 use Rattle.integers.specs.Division.{floor, rounded, modulo}
 use Rattle.integers.proofs.Pairs.{nonneg}
@@ -130,11 +130,14 @@ module _ (a : ℤ) (n : ℕ) (l : Left a n) (r : ℤ) (fr : SFits w64 r) (pr : r
   angle_natural : pos (nat_abs r) ≡ r
   angle_natural = as_natural r (subst (λ z. pos 0 ≼ z) (sym angle_told) (left_angle n))
 
+  angle_small : nat_abs r < 2 ^ 63
+  angle_small = subst (λ z. mag z < 2 ^ 63) (sym angle_natural) fr.sfits
+
   pub angle_casts : T (non_neg (Cell r)) × Fits w64 (nat_abs (Cell r))
-  angle_casts = rw (back r fr) (is_nonNeg r (subst (λ z. pos 0 ≼ z) (sym angle_told) (left_angle n)), record { fits = nat_abs_fits r fr })
+  angle_casts = rw (back r fr) (is_nonNeg r (subst (λ z. pos 0 ≼ z) (sym angle_told) (left_angle n)), record { fits = (let h = angle_small in omega arith) })
 
   pub angle_below : nat_abs (Cell r) < 2 ^ 63
-  angle_below = rw (back r fr) (subst (λ z. mag z < 2 ^ 63) (sym angle_natural) fr.sfits)
+  angle_below = rw (back r fr) angle_small
 
   split : pos argument_turn *ℤ floor a argument_turn +ℤ pos n ≡ a
   split = ap (λ (m : ℕ). pos argument_turn *ℤ floor a argument_turn +ℤ pos m) l.is ∙ floor_modulo a argument_turn (lit< tt)
