@@ -1,12 +1,16 @@
 -- A signed number of 64 bits is what it was after it is clipped, or put into an answer. Assumes nothing.
-use mathlib.Core.Path.{◌≡◌, refl, ap}
+use mathlib.Core.Path.{◌≡◌, refl, ap, ◌∙◌}
 use Prim.Native.Nat.{ℕ, min, ◌≤◌, ◌<◌}
+use native.Mathlib.Decide.{dec_le}
 use native.Mathlib.Omega.{arith}
 use lib.IntN.{ℤ, pos, negsuc}
 use mir.Syntax.{w64}
-use mir.Val.{SFits, to_z, of_z}
+use mir.Val.{SFits, to_z, of_z, bool_byte}
+use Rattle.std.specs.Prelude.{Bool, true, false, Result, Ok, Err, OkIff}
+use Rattle.std.specs.Result.{result_unwrap_or}
+use Rattle.std.proofs.lemmas.Result.{OkIff-at_ok, OkIff-at_err}
 use Rattle.arith.proofs.Signs.{back}
-use Rattle.answers.specs.Answers.{greatest, clip, clipped}
+use Rattle.answers.specs.Answers.{greatest, clip, clipped, flag}
 use Rattle.answers.specs.declared.One.{One}
 use Rattle.answers.specs.declared.Moment.{Moment}
 use Rattle.answers.specs.declared.Three.{Three}
@@ -19,6 +23,25 @@ clip_small n h = let e : n ≡ min n greatest = omega arith in ap pos e
 pub clip_large : (n : ℕ) → greatest < n → pos greatest ≡ clip n
 unfolding clip
 clip_large n h = let e : greatest ≡ min n greatest = omega arith in ap pos e
+
+-- what a number is tried as, and the greatest where it does not fit
+pub clip_tried : {E : Type 0} (n : ℕ) (r : Result ℤ E) (z : ℤ) → OkIff r (SFits w64 (pos n)) (pos n)
+    → z ≡ result_unwrap_or r (pos greatest) → z ≡ clip n
+clip_tried {E = E} n (Ok x) z h e =
+    let p = OkIff-at_ok {T = ℤ} {E = E} (Ok x) (SFits w64 (pos n)) (pos n) x h refl in
+    let f : n < 9223372036854775808 = p.0.sfits in
+    e ∙ p.1 ∙ clip_small n (omega arith)
+clip_tried {E = E} n (Err x) z h e = e ∙ clip_large n (go (dec_le n greatest))
+  where
+    go : Dec (n ≤ greatest) → greatest < n
+    go (yes p) = absurd (OkIff-at_err {T = ℤ} {E = E} (Err x) (SFits w64 (pos n)) (pos n) x h refl (record { sfits = omega arith }))
+    go (no p) = omega arith
+
+-- a bool as a number
+pub flag_told : (b : Bool) → pos (bool_byte b) ≡ flag b
+unfolding flag
+flag_told true = refl
+flag_told false = refl
 
 -- a number of 64 bits stays what it is
 pub clip_held : (z : ℤ) → SFits w64 z → z ≡ clipped z

@@ -6,7 +6,7 @@ ghost use Rattle.std.specs.Prelude.{◌≡◌};
 ghost use Rattle.units.specs.Refusals.{figure};
 ghost use Rattle.answers.specs.Answers.{clip, clipped, one_refused, one_counted, moment_refused, three_refused};
 ghost use Rattle.answers.specs.Answers.{day_shown, date_shown, instant_shown, moment_shown, text_shown};
-ghost use Rattle.answers.specs.Answers.{examined_refused, flag, content_shown, checked_shown};
+ghost use Rattle.answers.specs.Answers.{examined_refused, content_shown, checked_shown};
 ghost use Rattle.answers.specs.Answers.{accepted, standing_shown, mended_refused, verdict_place, clean_shown, mending_shown};
 ghost use Rattle.answers.specs.Answers.{printed_shown, list_shown, coordinates_shown, place_shown, mount_shown};
 
@@ -91,17 +91,11 @@ pub struct Mended {
     pub place: i64,
 }
 
-// The greatest signed number.
-const GREATEST: u64 = i64::MAX as u64;
-
 // A number as a signed one; past the greatest, which no memory counts to, the greatest.
 fn clip(n: u64) -> i64
     ensures { result ≡ clip n }
 {
-    if n <= GREATEST {
-        return n as i64;
-    }
-    i64::MAX
+    i64::try_from(n).unwrap_or(i64::MAX)
 }
 
 // The figure of a refusal.
@@ -115,15 +109,73 @@ fn clipped_figure(r: Refusal) -> i64
     }
 }
 
-fn refused_one(r: Refusal) -> One
-    ensures { result ≡ one_refused r }
-{
-    let refusal = r.number();
-    let figure = clipped_figure(r);
-    One {
-        refusal,
-        figure,
-        value: 0,
+// A refused answer: what it does not use is 0.
+impl From<Refusal> for One {
+    ghost from_gives = { λ r a. a ≡ one_refused r };
+
+    fn from(r: Refusal) -> One {
+        One {
+            refusal: r.number(),
+            figure: clipped_figure(r),
+            value: 0,
+        }
+    }
+}
+
+impl From<Refusal> for Moment {
+    ghost from_gives = { λ r a. a ≡ moment_refused r };
+
+    fn from(r: Refusal) -> Moment {
+        Moment {
+            refusal: r.number(),
+            figure: clipped_figure(r),
+            year: 0,
+            month: 0,
+            day: 0,
+            ms: 0,
+        }
+    }
+}
+
+impl From<Refusal> for Three {
+    ghost from_gives = { λ r a. a ≡ three_refused r };
+
+    fn from(r: Refusal) -> Three {
+        Three {
+            refusal: r.number(),
+            figure: clipped_figure(r),
+            first: 0,
+            second: 0,
+            third: 0,
+        }
+    }
+}
+
+impl From<Refusal> for Examined {
+    ghost from_gives = { λ r a. a ≡ examined_refused r };
+
+    fn from(r: Refusal) -> Examined {
+        Examined {
+            refusal: r.number(),
+            figure: clipped_figure(r),
+            terms: 0,
+            wide: 0,
+        }
+    }
+}
+
+impl From<Refusal> for Mended {
+    ghost from_gives = { λ r a. a ≡ mended_refused r };
+
+    fn from(r: Refusal) -> Mended {
+        Mended {
+            refusal: r.number(),
+            figure: clipped_figure(r),
+            length: 0,
+            changes: 0,
+            verdict: 0,
+            place: 0,
+        }
     }
 }
 
@@ -139,35 +191,6 @@ fn counted(n: u64) -> One
     }
 }
 
-fn refused_moment(r: Refusal) -> Moment
-    ensures { result ≡ moment_refused r }
-{
-    let refusal = r.number();
-    let figure = clipped_figure(r);
-    Moment {
-        refusal,
-        figure,
-        year: 0,
-        month: 0,
-        day: 0,
-        ms: 0,
-    }
-}
-
-fn refused_three(r: Refusal) -> Three
-    ensures { result ≡ three_refused r }
-{
-    let refusal = r.number();
-    let figure = clipped_figure(r);
-    Three {
-        refusal,
-        figure,
-        first: 0,
-        second: 0,
-        third: 0,
-    }
-}
-
 pub fn of_day(a: Result<i64, Refusal>) -> One
     ensures { result ≡ day_shown a }
 {
@@ -177,7 +200,7 @@ pub fn of_day(a: Result<i64, Refusal>) -> One
             figure: 0,
             value: n,
         },
-        Err(r) => refused_one(r),
+        Err(r) => One::from(r),
     }
 }
 
@@ -193,7 +216,7 @@ pub fn of_date(a: Result<Date, Refusal>) -> Moment
             day: d.day,
             ms: 0,
         },
-        Err(r) => refused_moment(r),
+        Err(r) => Moment::from(r),
     }
 }
 
@@ -206,7 +229,7 @@ pub fn of_instant(a: Result<Instant, Refusal>) -> One
             figure: 0,
             value: t.ms,
         },
-        Err(r) => refused_one(r),
+        Err(r) => One::from(r),
     }
 }
 
@@ -222,38 +245,15 @@ pub fn of_moment(a: Result<calendar::Moment, Refusal>) -> Moment
             day: m.date.day,
             ms: m.ms,
         },
-        Err(r) => refused_moment(r),
+        Err(r) => Moment::from(r),
     }
-}
-
-fn refused_examined(r: Refusal) -> Examined
-    ensures { result ≡ examined_refused r }
-{
-    let refusal = r.number();
-    let figure = clipped_figure(r);
-    Examined {
-        refusal,
-        figure,
-        terms: 0,
-        wide: 0,
-    }
-}
-
-// 1 where it is so, else 0.
-fn flag(so: bool) -> i64
-    ensures { result ≡ flag so }
-{
-    if so {
-        return 1;
-    }
-    0
 }
 
 fn of_content(c: Content) -> Examined
     ensures { result ≡ content_shown c }
 {
     let terms = clip(c.terms);
-    let wide = flag(c.wide);
+    let wide = i64::from(c.wide);
     Examined {
         refusal: 0,
         figure: 0,
@@ -267,7 +267,7 @@ pub fn of_checked(a: Result<Content, Refusal>) -> Examined
 {
     match a {
         Ok(c) => of_content(c),
-        Err(r) => refused_examined(r),
+        Err(r) => Examined::from(r),
     }
 }
 
@@ -277,7 +277,7 @@ pub fn of_text(a: Outcome) -> One
     match a {
         Outcome::More(n) => counted(n as u64),
         Outcome::Accepted(n) => counted(n as u64),
-        Outcome::Refused(r) => refused_one(r),
+        Outcome::Refused(r) => One::from(r),
     }
 }
 
@@ -303,21 +303,6 @@ pub fn of_standing(a: Outcome) -> Standing
         figure: written.figure,
         length: written.value,
         accepted,
-    }
-}
-
-fn refused_mended(r: Refusal) -> Mended
-    ensures { result ≡ mended_refused r }
-{
-    let refusal = r.number();
-    let figure = clipped_figure(r);
-    Mended {
-        refusal,
-        figure,
-        length: 0,
-        changes: 0,
-        verdict: 0,
-        place: 0,
     }
 }
 
@@ -355,7 +340,7 @@ pub fn of_mending(a: Result<Clean, Refusal>) -> Mended
 {
     match a {
         Ok(c) => of_clean(c),
-        Err(r) => refused_mended(r),
+        Err(r) => Mended::from(r),
     }
 }
 
@@ -364,7 +349,7 @@ pub fn of_printed(a: Result<usize, Refusal>) -> One
 {
     match a {
         Ok(n) => counted(n as u64),
-        Err(r) => refused_one(r),
+        Err(r) => One::from(r),
     }
 }
 
@@ -373,7 +358,7 @@ pub fn of_list(a: Result<u64, Refusal>) -> One
 {
     match a {
         Ok(n) => counted(n),
-        Err(r) => refused_one(r),
+        Err(r) => One::from(r),
     }
 }
 
@@ -388,7 +373,7 @@ pub fn of_coordinates(a: Result<Coordinates, Refusal>) -> Three
             second: c.latitude,
             third: c.radius,
         },
-        Err(r) => refused_three(r),
+        Err(r) => Three::from(r),
     }
 }
 
@@ -403,7 +388,7 @@ pub fn of_place(a: Result<Equatorial, Refusal>) -> Three
             second: p.declination,
             third: p.distance,
         },
-        Err(r) => refused_three(r),
+        Err(r) => Three::from(r),
     }
 }
 

@@ -9,4 +9,4 @@ returns-in-Ok c = c.of_content.ensures ∙ ap checked_shown (sym c.in-Ok.is)
 
 pub returns-in-Err : goal.returns-in-Err
 unfolding checked_shown
-returns-in-Err c = c.refused_examined.ensures ∙ ap checked_shown (sym c.in-Err.is)
+returns-in-Err c = c.from.ensures ∙ ap checked_shown (sym c.in-Err.is)

@@ -13,4 +13,4 @@ returns-in-Ok c =
 
 pub returns-in-Err : goal.returns-in-Err
 unfolding coordinates_shown
-returns-in-Err c = c.refused_three.ensures ∙ ap coordinates_shown (sym c.in-Err.is)
+returns-in-Err c = c.from.ensures ∙ ap coordinates_shown (sym c.in-Err.is)

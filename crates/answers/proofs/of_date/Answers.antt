@@ -14,4 +14,4 @@ returns-in-Ok c =
 
 pub returns-in-Err : goal.returns-in-Err
 unfolding date_shown
-returns-in-Err c = c.refused_moment.ensures ∙ ap date_shown (sym c.in-Err.is)
+returns-in-Err c = c.from.ensures ∙ ap date_shown (sym c.in-Err.is)

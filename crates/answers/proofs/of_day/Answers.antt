@@ -11,4 +11,4 @@ returns-in-Ok c = one_held c.in-Ok.n (search rules) ∙ ap day_shown (sym c.in-O
 
 pub returns-in-Err : goal.returns-in-Err
 unfolding day_shown
-returns-in-Err c = c.refused_one.ensures ∙ ap day_shown (sym c.in-Err.is)
+returns-in-Err c = c.from.ensures ∙ ap day_shown (sym c.in-Err.is)

@@ -11,4 +11,4 @@ returns-in-Ok c = one_held c.in-Ok.t.ms (search rules) ∙ ap instant_shown (sym
 
 pub returns-in-Err : goal.returns-in-Err
 unfolding instant_shown
-returns-in-Err c = c.refused_one.ensures ∙ ap instant_shown (sym c.in-Err.is)
+returns-in-Err c = c.from.ensures ∙ ap instant_shown (sym c.in-Err.is)

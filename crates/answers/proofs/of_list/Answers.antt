@@ -9,4 +9,4 @@ returns-in-Ok c = c.counted.ensures ∙ ap list_shown (sym c.in-Ok.is)
 
 pub returns-in-Err : goal.returns-in-Err
 unfolding list_shown
-returns-in-Err c = c.refused_one.ensures ∙ ap list_shown (sym c.in-Err.is)
+returns-in-Err c = c.from.ensures ∙ ap list_shown (sym c.in-Err.is)

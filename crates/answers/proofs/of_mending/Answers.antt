@@ -9,4 +9,4 @@ returns-in-Ok c = c.of_clean.ensures ∙ ap mending_shown (sym c.in-Ok.is)
 
 pub returns-in-Err : goal.returns-in-Err
 unfolding mending_shown
-returns-in-Err c = c.refused_mended.ensures ∙ ap mending_shown (sym c.in-Err.is)
+returns-in-Err c = c.from.ensures ∙ ap mending_shown (sym c.in-Err.is)

@@ -13,4 +13,4 @@ returns-in-Ok c =
 
 pub returns-in-Err : goal.returns-in-Err
 unfolding moment_shown
-returns-in-Err c = c.refused_moment.ensures ∙ ap moment_shown (sym c.in-Err.is)
+returns-in-Err c = c.from.ensures ∙ ap moment_shown (sym c.in-Err.is)

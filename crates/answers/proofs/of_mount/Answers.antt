@@ -10,4 +10,4 @@ returns-in-Ok c = ap mount_shown (sym c.in-Ok.is)
 
 pub returns-in-Err : goal.returns-in-Err
 unfolding mount_shown of_bits of_int
-returns-in-Err c = ap mount_shown (sym c.in-Err.is)
+returns-in-Err c = rw c.number.ensures (ap mount_shown (sym c.in-Err.is))

@@ -9,4 +9,4 @@ returns-in-Ok c = c.counted.ensures ∙ ap printed_shown (sym c.in-Ok.is)
 
 pub returns-in-Err : goal.returns-in-Err
 unfolding printed_shown
-returns-in-Err c = c.refused_one.ensures ∙ ap printed_shown (sym c.in-Err.is)
+returns-in-Err c = c.from.ensures ∙ ap printed_shown (sym c.in-Err.is)

@@ -13,4 +13,4 @@ returns-in-Accepted c = c.counted-in-Accepted.ensures ∙ ap text_shown (sym c.i
 
 pub returns-in-Refused : goal.returns-in-Refused
 unfolding text_shown
-returns-in-Refused c = c.refused_one.ensures ∙ ap text_shown (sym c.in-Refused.is)
+returns-in-Refused c = c.from.ensures ∙ ap text_shown (sym c.in-Refused.is)
