@@ -19,45 +19,43 @@ use Rattle.calendar.specs.Calendar.{between, first_bad, first_bad_of_four, noon_
 use Rattle.calendar.specs.Calendar.{ms_of_instant, date_of_instant}
 use Rattle.calendar.specs.Machine.Shifted.{date_at, plain}
 use Rattle.calendar.specs.declared.Date.{Date}
-use Rattle.std.specs.Prelude.{Err, Ok}
+use Rattle.std.specs.Prelude.{Err, Ok, Result, IsErr, IsErrAnd}
+use lib.Signed.{lt_z}
+use mir.ValLaws.{to_z_pos}
+use Rattle.units.specs.declared.Refusal.{Refusal}
 use Rattle.calendar.specs.Constants.{last_day, day_ms, last_ms, half_day_ms, epoch_day}
 use Rattle.calendar.specs.Machine.Shifted.{epoch_ms}
 use Rattle.calendar.proofs.FirstBad.{is_same}
 use Rattle.calendar.proofs.DatesFound.{looked_for}
-use Rattle.calendar.proofs.WholeDates.{natural_back, Upto, inside, outside, upto}
+use Rattle.calendar.proofs.Compare.{between_in, natural_is}
+use Rattle.calendar.proofs.WholeDates.{Upto, inside, outside, upto}
+use Rattle.calendar.specs.declared.Field.{Field}
+use Rattle.calendar.specs.declared.Field.TheVariants.{Year, Month, Day, Ms, Number}
+use Rattle.calendar.specs.Machine.Fields.{field_number}
+
+-- ---- a field that is refused
+pub field_positive : (f : Field) → field_number f ≡ 0 → ⊥
+field_positive Year e = omega arith
+field_positive Month e = omega arith
+field_positive Day e = omega arith
+field_positive Ms e = omega arith
+field_positive Number e = omega arith
+
+pub refused : {A : Type 0} (r : Result A Refusal) (k : ℕ) → (IsErr r) × (IsErrAnd r (λ x. x ≡ NoSuchDate k)) → r ≡ Err (NoSuchDate k)
+refused (Ok x) k h = absurd h.1
+refused (Err x) k h = ap Err h.1
 
 -- ---- date to day number
-module _ (y m d : ℤ) (bad : ℕ) (e : bad ≡ first_bad y m d) where
-  pub day_refused : (bad ≡ 0 → ⊥) → Err (NoSuchDate bad) ≡ day_of_date y m d
+module _ (y m d : ℤ) where
+  pub day_refused : (f : Field) → field_number f ≡ first_bad y m d → Err (NoSuchDate (field_number f)) ≡ day_of_date y m d
   unfolding day_of_date
-  day_refused h = rw (← e, ne_eqb bad 0 h)
+  day_refused f e = rw (← e, ne_eqb (field_number f) 0 (field_positive f))
 
-  pub day_given : bad ≡ 0 → (z : ℤ) (n : ℕ) → z ≡ pos n → pos n ≡ noon_number y m d → n ≤ last_day → Ok (to_z w64 (of_z w64 z)) ≡ day_of_date y m d
+  pub day_given : 0 ≡ first_bad y m d → (n : ℕ) → pos n ≡ noon_number y m d → n ≤ last_day → Ok (to_z w64 n) ≡ day_of_date y m d
   unfolding day_of_date
-  day_given h z n f g l = rw (← e, eq-eqb bad 0 h) (ap Ok (natural_back z n f (omega arith) ∙ g))
+  day_given e n g l = rw (← e) (ap Ok (to_z_pos w64 n (omega arith) ∙ g))
 
-  -- ---- the first bad of four fields
-  pub four_date : (ms : ℤ) → (bad ≡ 0 → ⊥) → bad ≡ first_bad_of_four y m d ms
-  unfolding first_bad_of_four
-  four_date ms h = rw (← e, ne_eqb bad 0 h)
-
-  pub four_ms : (ms : ℤ) (k : ℕ) → bad ≡ 0 → k ≡ natural_or ms day_ms → last_ms < k → 4 ≡ first_bad_of_four y m d ms
-  unfolding first_bad_of_four
-  four_ms ms k h f l = rw (← e, eq-eqb bad 0 h) (go (upto ms last_ms))
-    where
-      go : Upto ms last_ms → ◌≡◌ {A = ℕ} 4 (cond (between (pos 0) ms (pos last_ms)) 0 4)
-      go (outside g b) = rw b
-      go (inside n p q r b) = absurd (omega (arith, r day_ms))
-
-  pub four_none : (ms : ℤ) (k : ℕ) → bad ≡ 0 → k ≡ natural_or ms day_ms → k ≤ last_ms → 0 ≡ first_bad_of_four y m d ms
-  unfolding first_bad_of_four
-  four_none ms k h f l = rw (← e, eq-eqb bad 0 h) (go (upto ms last_ms))
-    where
-      go : Upto ms last_ms → ◌≡◌ {A = ℕ} 0 (cond (between (pos 0) ms (pos last_ms)) 0 4)
-      go (outside g b) = absurd (omega (arith, g day_ms (lit< tt)))
-      go (inside n p q r b) = rw b
-
--- what it says where it is 0
+-- what the first bad of four fields says where it is 0
 pub record Fields (y m d ms : ℤ) : Type 0 where
   pub date : first_bad y m d ≡ 0
   pub k : ℕ
@@ -80,25 +78,31 @@ unfolding instant
 instant_is n ms =
     same (nat day_ms *ᵢ (nat n -ᵢ nat epoch_day) +ᵢ nat ms -ᵢ nat half_day_ms) (nat (day_ms * n + ms) -ᵢ nat epoch_ms) (omega arith)
 
-module _ (y m d ms : ℤ) (bad : ℕ) (e : bad ≡ first_bad_of_four y m d ms) where
-  pub instant_refused : (bad ≡ 0 → ⊥) → Err (NoSuchDate bad) ≡ instant_of_date y m d ms
-  unfolding instant_of_date
-  instant_refused h = rw (← e, ne_eqb bad 0 h)
+module _ (y m d ms : ℤ) where
+  pub instant_refused : (f : Field) → field_number f ≡ first_bad y m d → Err (NoSuchDate (field_number f)) ≡ instant_of_date y m d ms
+  unfolding instant_of_date first_bad_of_four
+  instant_refused f e = let g = ne_eqb (field_number f) 0 (field_positive f) in rw (← e, g, g)
 
-  module _ (h : bad ≡ 0) (n k : ℕ) (f : pos n ≡ noon_number y m d) (g : k ≡ natural_or ms 0) (t : ℤ) (i : t ≡ instant (pos n) (pos k)) where
-    known : t ≡ instant (noon_number y m d) ms
-    known =
-        let r = fields y m d ms (sym e ∙ h) in
-        let z : pos k ≡ ms = ap pos (g ∙ r.natural 0) ∙ sym r.ms_is in
-        i ∙ (λ x. instant (f x) (z x))
+  module _ (e : 0 ≡ first_bad y m d) where
+    pub ms_refused : between (pos 0) ms (pos last_ms) ≡ false → Err (NoSuchDate 4) ≡ instant_of_date y m d ms
+    unfolding instant_of_date first_bad_of_four
+    ms_refused f = rw (← e, f)
 
-    pub instant_past : in_limit t ≡ false → Err (PastLimit (record { ms = t })) ≡ instant_of_date y m d ms
-    unfolding instant_of_date
-    instant_past l = rw (← e, eq-eqb bad 0 h, ← known, l)
+    module _ (low : lt_z ms (pos 0) ≡ false) (high : lt_z (pos last_ms) ms ≡ false) (n : ℕ) (f : pos n ≡ noon_number y m d) (t : ℤ) (i : t ≡ instant (pos n) (pos (nat_abs ms))) where
+      known : t ≡ instant (noon_number y m d) ms
+      known = let z = natural_is ms low in i ∙ (λ x. instant (f x) (z x))
 
-    pub instant_given : in_limit t ≡ true → Ok (record { ms = t }) ≡ instant_of_date y m d ms
-    unfolding instant_of_date
-    instant_given l = rw (← e, eq-eqb bad 0 h, ← known, l)
+      none : first_bad_of_four y m d ms ≡ 0
+      unfolding first_bad_of_four
+      none = rw (← e, between_in ms last_ms low high)
+
+      pub instant_past : in_limit t ≡ false → Err (PastLimit (record { ms = t })) ≡ instant_of_date y m d ms
+      unfolding instant_of_date
+      instant_past l = rw (none, ← known, l)
+
+      pub instant_given : in_limit t ≡ true → Ok (record { ms = t }) ≡ instant_of_date y m d ms
+      unfolding instant_of_date
+      instant_given l = rw (none, ← known, l)
 
 -- ---- instant to date: u is the milliseconds from 0h of day number 0
 module _ (t : ℤ) (u : ℕ) (e : pos u ≡ t +ℤ pos epoch_ms) where
@@ -123,20 +127,9 @@ pub moment_past : (t : Instant) → in_limit t.ms ≡ false → Err (PastLimit t
 unfolding date_of_instant
 moment_past t l = rw l
 
-pub moment_given : (t : Instant) (u : ℕ) (d : Date) (r : ℤ) → in_limit t.ms ≡ true → pos u ≡ t.ms +ℤ pos epoch_ms → u ≤ epoch_ms + t_limit
-    → d ≡ plain (date_at (u / day_ms)) → r ≡ pos (u % day_ms) → Ok (record { date = d; ms = to_z w64 (of_z w64 r) }) ≡ date_of_instant t
+pub moment_given : (t : Instant) (u : ℕ) (d : Date) → in_limit t.ms ≡ true → pos u ≡ t.ms +ℤ pos epoch_ms → u ≤ epoch_ms + t_limit
+    → d ≡ plain (date_at (u / day_ms)) → Ok (record { date = d; ms = to_z w64 (u % day_ms) }) ≡ date_of_instant t
 unfolding date_of_instant
-moment_given t u d r l f b g h =
+moment_given t u d l f b g =
     rw (l, day_is t.ms u f)
-    (λ i. Ok (record { date = (g ∙ sym (looked_for (u / day_ms) (omega arith))) i; ms = (natural_back r (u % day_ms) h (omega arith) ∙ sym (ms_is t.ms u f)) i }))
-
--- the milliseconds from 0h of day number 0, by sign and magnitude
-pub since_below : (t : ℤ) (n : ℕ) → negative t ≡ true → n ≡ nat_abs t → n ≤ t_limit → pos (epoch_ms - n) ≡ t +ℤ pos epoch_ms
-unfolding negative
-since_below (pos k) n s e h = absurd (false≢true s)
-since_below (negsuc k) n s e h = same (nat (epoch_ms - n)) (int (negsuc k) +ᵢ nat epoch_ms) (omega arith)
-
-pub since_from : (t : ℤ) (n : ℕ) → negative t ≡ false → n ≡ nat_abs t → pos (epoch_ms + n) ≡ t +ℤ pos epoch_ms
-unfolding negative
-since_from (negsuc k) n s e = absurd (true≢false s)
-since_from (pos k) n s e = same (nat (epoch_ms + n)) (int (pos k) +ᵢ nat epoch_ms) (omega arith)
+    (λ i. Ok (record { date = (g ∙ sym (looked_for (u / day_ms) (omega arith))) i; ms = (to_z_pos w64 (u % day_ms) (omega arith) ∙ sym (ms_is t.ms u f)) i }))

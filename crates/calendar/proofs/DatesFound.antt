@@ -1,11 +1,11 @@
 -- A date that exists is the date of its day number, and the date that specs/Calendar looks for is the one that the code works out.
 -- Assumes nothing.
 use mathlib.Core.Path.{◌≡◌, refl, sym, ap, ◌∙◌}
-use mathlib.Core.Bool.{Bool, true, false, ◌&&◌, cond, false≢true}
+use mathlib.Core.Bool.{Bool, true, false, ◌&&◌, cond, false≢true, true≢false}
 use Prim.Native.Nat.{ℕ, zero, suc, ◌+◌, ◌*◌, ◌/◌, ◌%◌, ◌-◌, ◌≤◌, ◌<◌}
 use native.Mathlib.Decide.{ℕ_discrete}
 use native.Mathlib.Omega.{arith}
-use borrow.Author.Tests.{le-leb, leb-true, eqb-true}
+use borrow.Author.Tests.{le-leb, leb-true, eqb-true, ltb-false}
 use lib.Dec.{eqb, leb, lit<}
 use lib.IntN.{ℤ, pos, negsuc, nat_abs, ◌-ℤ◌}
 use Rattle.integers.proofs.Pairs.{Is, nat, same, ◌-ᵢ◌}
@@ -13,7 +13,9 @@ use Rattle.units.specs.declared.Refusal.{Refusal}
 use Rattle.units.specs.declared.Refusal.TheVariants.{NoSuchDate}
 use Rattle.arith.specs.Naturals.{natural_or}
 use Rattle.arith.proofs.Naturals.{natural_back as field_back}
-use Rattle.calendar.specs.Calendar.{first_bad, noon_number, day_of_date, is_day, has_number, written_as, date_below, date_numbered, date_of_day}
+use lib.Signed.{lt_z}
+use Rattle.calendar.proofs.Compare.{between_in}
+use Rattle.calendar.specs.Calendar.{between, first_bad, noon_number, day_of_date, is_day, has_number, written_as, date_below, date_numbered, date_of_day}
 use Rattle.calendar.specs.Machine.Shifted.{first_index, year_index, bad_field, Sound, noon, date_at, plain}
 use Rattle.calendar.specs.declared.Date.{Date}
 use Rattle.calendar.specs.declared.Shifted.{Shifted}
@@ -155,18 +157,11 @@ looked_for n h =
     only v q = sym q.back ∙ ap (λ (x : ℕ). plain (date_at x)) (sym (ap nat_abs q.is))
 
 -- ---- what date_of_day answers
-pub no_date : (x : ℤ) (k : ℕ) → k ≡ natural_or x 5373485 → last_day < k → Err (NoSuchDate 5) ≡ date_of_day x
+pub no_date : (x : ℤ) → between (pos 0) x (pos last_day) ≡ false → Err (NoSuchDate 5) ≡ date_of_day x
 unfolding date_of_day
-no_date x k e h = go (upto x last_day)
-  where
-    go : Upto x last_day → Err (NoSuchDate 5) ≡ date_of_day x
-    go (outside f b) = rw b
-    go (inside n p q r b) = absurd (omega (arith, r 5373485))
+no_date x e = rw e
 
-pub on_date : (x : ℤ) (k : ℕ) (d : Date) → k ≡ natural_or x 5373485 → k ≤ last_day → d ≡ plain (date_at k) → Ok d ≡ date_of_day x
+pub on_date : (x : ℤ) (d : Date) → lt_z x (pos 0) ≡ false → lt_z (pos last_day) x ≡ false → d ≡ plain (date_at (nat_abs x)) → Ok d ≡ date_of_day x
 unfolding date_of_day
-on_date x k d e h f = go (upto x last_day)
-  where
-    go : Upto x last_day → Ok d ≡ date_of_day x
-    go (outside g b) = absurd (omega (arith, g 5373485 (lit< tt)))
-    go (inside n p q r b) = let z : k ≡ n = omega (arith, r 5373485) in rw (b, p) (ap Ok (f ∙ ap (λ (j : ℕ). plain (date_at j)) z ∙ sym (looked_for n q)))
+on_date (pos n) d h l f = let g : n ≤ last_day = ltb-false last_day n l in rw (between_in (pos n) last_day h l) (ap Ok (f ∙ sym (looked_for n g)))
+on_date (negsuc n) d h l f = absurd (true≢false h)

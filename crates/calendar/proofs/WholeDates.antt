@@ -12,11 +12,15 @@ use mir.Val.{SFits, to_z, of_z}
 use Rattle.integers.specs.Signs.{negative}
 use Rattle.integers.proofs.Pairs.{Is}
 use Rattle.integers.proofs.Order.{fits, nat_difference_fits}
+use Rattle.std.proofs.lemmas.Int.{ints}
 use Rattle.arith.specs.Naturals.{natural_or}
 use Rattle.arith.proofs.Signs.{back}
 use Rattle.calendar.specs.Calendar.{between, first_bad, noon_number}
 use Rattle.calendar.specs.Machine.Shifted.{year_index, Sound, noon, date_at, plain}
 use Rattle.calendar.specs.declared.Date.{Date}
+use Rattle.calendar.specs.declared.Field.{Field as BadField}
+use Rattle.calendar.specs.Machine.Fields.{Counted, bad_number}
+use Rattle.std.proofs.Common.{Result, Ok as Given, Err, IfOk}
 use Rattle.calendar.specs.declared.Shifted.{Shifted}
 use Rattle.calendar.specs.Constants.{years_before_zero, last_year, year_shift, last_day}
 use Rattle.calendar.specs.Machine.Shifted.{last_index}
@@ -26,41 +30,6 @@ use Rattle.calendar.proofs.Existing.{Exists, ok}
 use Rattle.calendar.proofs.FirstBad.{Year, year, missing, year_of_index, Field, low, good, high, field, bad_law}
 use Rattle.calendar.proofs.Formula.{literal}
 use Rattle.calendar.proofs.DateToDay.{numbered}
-
--- ---- the index of a year, from its sign and magnitude
-pub index_below : (y : ℤ) (n : ℕ) → negative y ≡ true → n ≡ nat_abs y → n ≤ years_before_zero → year_shift - n ≡ year_index y
-unfolding negative year_index
-index_below (pos k) n s e h = absurd (false≢true s)
-index_below (negsuc k) n s e h = rw (le-leb k (years_before_zero - 1) (omega arith)) (omega arith)
-
-pub index_too_low : (y : ℤ) (n : ℕ) → negative y ≡ true → n ≡ nat_abs y → years_before_zero < n → 0 ≡ year_index y
-unfolding negative year_index
-index_too_low (pos k) n s e h = absurd (false≢true s)
-index_too_low (negsuc k) n s e h = rw (lt-leb k (years_before_zero - 1) (omega arith))
-
-pub index_from : (y : ℤ) (n : ℕ) → negative y ≡ false → n ≡ nat_abs y → n ≤ last_year → n + year_shift ≡ year_index y
-unfolding negative year_index
-index_from (negsuc k) n s e h = absurd (true≢false s)
-index_from (pos k) n s e h = rw (le-leb k last_year (omega arith)) (omega arith)
-
-pub index_too_high : (y : ℤ) (n : ℕ) → negative y ≡ false → n ≡ nat_abs y → last_year < n → 0 ≡ year_index y
-unfolding negative year_index
-index_too_high (negsuc k) n s e h = absurd (true≢false s)
-index_too_high (pos k) n s e h = rw (lt-leb k last_year (omega arith))
-
--- ---- a difference of two naturals, by machine numbers
-module _ (w : ℤ) (n k : ℕ) (e : w ≡ pos n) (p : n < 2 ^ 63) (q : k < 2 ^ 63) where
-  wide_back : to_z w64 (of_z w64 w) ≡ pos n
-  wide_back = ap (λ (x : ℤ). to_z w64 (of_z w64 x)) e ∙ back (pos n) (fits (pos n) p)
-
-  pub sub_asked : SFits w64 (to_z w64 (of_z w64 w) -ℤ pos k)
-  sub_asked = rw wide_back (nat_difference_fits n k p q)
-
-  pub sub_back : (r : ℤ) → r ≡ to_z w64 (of_z w64 w) -ℤ pos k → to_z w64 (of_z w64 r) ≡ pos n -ℤ pos k
-  sub_back r f = ap (λ (x : ℤ). to_z w64 (of_z w64 x)) (f ∙ ap (λ (x : ℤ). x -ℤ pos k) wide_back) ∙ back (pos n -ℤ pos k) (nat_difference_fits n k p q)
-
-pub natural_back : (w : ℤ) (n : ℕ) → w ≡ pos n → n < 2 ^ 63 → to_z w64 (of_z w64 w) ≡ pos n
-natural_back w n e p = wide_back w n 0 e p (lit< tt)
 
 -- ---- the date of a day number
 pub record Small (s : Shifted) : Type 0 where
@@ -76,12 +45,12 @@ small_of s p =
 pub date_small : (n : ℕ) (s : Shifted) → n ≤ last_day → s ≡ date_at n → Small s
 date_small n s h e = rw e (small_of (date_at n) (found n h).sound)
 
-pub plain_law : (s : Shifted) (i y m d : ℤ) → Small s → i ≡ pos s.index → y ≡ to_z w64 (of_z w64 i) -ℤ pos year_shift → m ≡ pos s.month → d ≡ pos s.day
-    → ◌≡◌ {A = Date} (record { year = to_z w64 (of_z w64 y); month = to_z w64 (of_z w64 m); day = to_z w64 (of_z w64 d) }) (plain s)
-plain_law s i y m d b f p q r =
-    let py = sub_back i s.index year_shift f (omega (arith, b.index)) (lit< tt) y p in
-    let pm = natural_back m s.month q (omega (arith, b.month)) in
-    let pd = natural_back d s.day r (omega (arith, b.day)) in
+pub plain_law : (s : Shifted) → Small s
+    → ◌≡◌ {A = Date} (record { year = to_z w64 (of_z w64 (to_z w64 s.index -ℤ pos year_shift)); month = to_z w64 s.month; day = to_z w64 s.day }) (plain s)
+plain_law s b =
+    let py : to_z w64 (of_z w64 (to_z w64 s.index -ℤ pos year_shift)) ≡ pos s.index -ℤ pos year_shift = omega (arith, ints, b.index) in
+    let pm : to_z w64 s.month ≡ pos s.month = omega (arith, ints, b.month) in
+    let pd : to_z w64 s.day ≡ pos s.day = omega (arith, ints, b.day) in
     λ t. record { year = py t; month = pm t; day = pd t }
 
 -- ---- a number that has to be from 0 to l
@@ -123,3 +92,16 @@ module _ (y m d : ℤ) (e : first_bad y m d ≡ 0) where
 
   pub noon_small : noon (year_index y) (natural_or m 0) (natural_or d 0) ≤ last_day
   noon_small = (numbered _ _ _ sound_of).small
+
+  pub counted_is : Counted y m d (record { index = year_index y; month = natural_or m 0; day = natural_or d 0 })
+  counted_is = record { sound = sound_of; number = noon_law; small = noon_small }
+
+-- ---- a date of three fields, counted
+pub counted_of : (y m d : ℤ) (i k j : ℕ) → i ≡ year_index y → k ≡ natural_or m 0 → j ≡ natural_or d 0 → first_bad y m d ≡ 0
+    → Counted y m d (record { index = i; month = k; day = j })
+counted_of y m d i k j p q r e = rw (p, q, r) (counted_is y m d e)
+
+pub counted_where : (y m d : ℤ) (s : Shifted) (r : Result Shifted BadField) → IfOk r (λ t. t ≡ s) → bad_number r ≡ first_bad y m d
+    → (first_bad y m d ≡ 0 → Counted y m d s) → IfOk r (Counted y m d)
+counted_where y m d s (Given t) h e f = rw h (f (sym e))
+counted_where y m d s (Err k) h e f = tt

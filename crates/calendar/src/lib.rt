@@ -2,10 +2,11 @@
 #![tactic(auto)]
 
 ghost use Rattle.std.specs.Prelude.{◌≡◌};
+ghost use Rattle.units.specs.declared.Refusal.TheVariants.{NoSuchDate};
 ghost use Rattle.calendar.specs.Calendar.{day_of_date, date_of_day, instant_of_date, date_of_instant};
+ghost use Rattle.calendar.specs.Machine.Fields.{field_number};
 
-use crate::whole::{bad_of_date, bad_of_four, instant_at, noon_of_date, plain_date, since_start};
-use arith::signed::{natural_or, wide};
+use crate::whole::{counted, instant_at, plain_date, since_start};
 use units::{Instant, Refusal, in_limit};
 
 mod naturals;
@@ -25,17 +26,6 @@ const FIRST_SKIPPED: u64 = 15821005;
 
 const FIRST_GREGORIAN: u64 = 15821015;
 
-// What a refusal calls the fields of a date with milliseconds, and a day number.
-const YEAR_FIELD: u64 = 1;
-
-const MONTH_FIELD: u64 = 2;
-
-const DAY_FIELD: u64 = 3;
-
-const MS_FIELD: u64 = 4;
-
-const NUMBER_FIELD: u64 = 5;
-
 // The figures of the formula of the noon day number.
 const FOUR_YEARS: u64 = 1461;
 
@@ -47,15 +37,13 @@ const RATE_SCALE: u64 = 10000;
 
 const DAY_SHIFT: u64 = 1524;
 
-// The day numbers are from 0 to LAST_DAY; the one past it stands for a number that is negative.
-const LAST_DAY: u64 = 5373484;
-
-const NO_DAY: u64 = LAST_DAY + 1;
+// The day numbers are from 0 to LAST_DAY.
+const LAST_DAY: i64 = 5373484;
 
 // The milliseconds of a day, the last of them, and half a day; the day number at whose noon instants begin.
 const DAY_MS: u64 = 86400000;
 
-const LAST_MS: u64 = DAY_MS - 1;
+const LAST_MS: i64 = DAY_MS as i64 - 1;
 
 const HALF_DAY_MS: u64 = DAY_MS / 2;
 
@@ -77,6 +65,24 @@ struct Shifted {
     day: u64,
 }
 
+// What may be bad of a date with milliseconds, in the order in which it is judged, and of a day number; with the number that a refusal calls it by.
+#[derive(Clone, Copy)]
+enum Field {
+    Year = 1,
+    Month = 2,
+    Day = 3,
+    Ms = 4,
+    Number = 5,
+}
+
+impl From<Field> for Refusal {
+    ghost from_gives = { λ field refusal. refusal ≡ NoSuchDate (field_number field) };
+
+    fn from(field: Field) -> Refusal {
+        Refusal::NoSuchDate(field as u64)
+    }
+}
+
 // A date with the milliseconds from its 0h.
 #[derive(Clone, Copy)]
 pub struct Moment {
@@ -88,34 +94,30 @@ pub struct Moment {
 pub fn day_of_date(year: i64, month: i64, day: i64) -> Result<i64, Refusal>
     ensures { result ≡ day_of_date year month day }
 {
-    let bad = bad_of_date(year, month, day);
-    if bad != 0 {
-        return Err(Refusal::NoSuchDate(bad));
-    }
-    Ok(wide(noon_of_date(year, month, day)))
+    let date = counted(year, month, day)?;
+    Ok(date.noon() as i64)
 }
 
 // The date of a noon day number.
 pub fn date_of_day(number: i64) -> Result<Date, Refusal>
     ensures { result ≡ date_of_day number }
 {
-    let n = natural_or(number, NO_DAY);
-    if LAST_DAY < n {
-        return Err(Refusal::NoSuchDate(NUMBER_FIELD));
+    if number < 0 || LAST_DAY < number {
+        return Err(Field::Number.into());
     }
-    Ok(plain_date(n))
+    Ok(plain_date(number as u64))
 }
 
 // The instant of a date and of the milliseconds from its 0h.
 pub fn instant_of_date(year: i64, month: i64, day: i64, ms: i64) -> Result<Instant, Refusal>
     ensures { result ≡ instant_of_date year month day ms }
 {
-    let bad = bad_of_four(year, month, day, ms);
-    if bad != 0 {
-        return Err(Refusal::NoSuchDate(bad));
+    let date = counted(year, month, day)?;
+    if ms < 0 || LAST_MS < ms {
+        return Err(Field::Ms.into());
     }
     let t = Instant {
-        ms: instant_at(noon_of_date(year, month, day), natural_or(ms, 0)),
+        ms: instant_at(date.noon(), ms as u64),
     };
     if !in_limit(t) {
         return Err(Refusal::PastLimit(t));
@@ -132,6 +134,6 @@ pub fn date_of_instant(t: Instant) -> Result<Moment, Refusal>
     }
     let u = since_start(t.ms);
     let date = plain_date(u / DAY_MS);
-    let ms = wide(u % DAY_MS);
+    let ms = (u % DAY_MS) as i64;
     Ok(Moment { date, ms })
 }

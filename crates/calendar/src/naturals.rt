@@ -1,12 +1,13 @@
 // The calendar counted in naturals: a year is its index, the year plus 4716. All of this is for lib.rt.
-ghost use Rattle.std.specs.Prelude.{◌≡◌, ◌+◌, ◌*◌, ◌/◌, ◌≤◌, ◌<◌};
+ghost use Rattle.std.specs.Prelude.{◌≡◌, ◌+◌, ◌*◌, ◌/◌, ◌≤◌, ◌<◌, IfOk};
 ghost use Rattle.calendar.specs.Constants.{last_day};
+ghost use Rattle.calendar.specs.Machine.Fields.{bad_number};
 ghost use Rattle.calendar.specs.Machine.Shifted.{last_index, leap_day, month_days, bad_field, Sound};
-ghost use Rattle.calendar.specs.Machine.Shifted.{march_year, march_month, noon, julian_count, before_month, from_march, date_at};
+ghost use Rattle.calendar.specs.Machine.Shifted.{march_year, march_month, key, noon, julian_count, before_month, from_march, date_at};
 
 use crate::{
-    DAY_FIELD, DAY_SHIFT, FIRST_GREGORIAN, FIRST_SKIPPED, FOUR_YEARS, MONTH_FIELD, MONTH_RATE,
-    RATE_SCALE, REFORM_YEAR, Shifted, YEAR_FIELD, YEAR_SHIFT,
+    DAY_SHIFT, FIRST_GREGORIAN, FIRST_SKIPPED, FOUR_YEARS, Field, MONTH_RATE, RATE_SCALE,
+    REFORM_YEAR, Shifted, YEAR_SHIFT,
 };
 
 // specs/Machine/Shifted.antt has the same constants under the same names.
@@ -34,6 +35,7 @@ const FOUR_CENTURIES: u64 = 146097;
 const FIVE_MONTHS: u64 = 153;
 
 // The days that February has past its 28.
+#[tactic(auto, unfolding(crate::specs::Machine::Shifted::leap_day))]
 fn leap_day(index: u64) -> u64
     ensures { result ≡ leap_day index }
 {
@@ -43,86 +45,103 @@ fn leap_day(index: u64) -> u64
     if index <= REFORM_INDEX {
         return 1;
     }
-    if (index - YEAR_SHIFT) % 100 != 0 {
-        return 1;
+    let year = index - YEAR_SHIFT;
+    if year % 100 != 0 || year % 400 == 0 {
+        1
+    } else {
+        0
     }
-    if (index - YEAR_SHIFT) % 400 != 0 {
-        return 0;
-    }
-    1
 }
 
-fn month_length(index: u64, month: u64) -> u64
-    requires { month ≤ 12 }
-    ensures { result ≡ month_days index month }
-{
-    if month == 2 {
-        return 28 + leap_day(index);
+impl Shifted {
+    #[tactic(auto, using(crate::proofs::Bounds::leap_le), unfolding(crate::specs::Machine::Shifted::month_days))]
+    fn month_length(self) -> u64
+        requires { self.month ≤ 12 }
+        ensures { result ≡ month_days self.index self.month }
+    {
+        if self.month == 2 {
+            28 + leap_day(self.index)
+        } else {
+            30 + (self.month + self.month / 8) % 2
+        }
     }
-    30 + (month + month / 8) % 2
-}
 
-// The first of year, month and day that does not exist, or 0.
-pub fn bad_field(index: u64, month: u64, day: u64) -> u64
-    requires { index ≤ last_index }
-    ensures { result ≡ bad_field index month day }
-{
-    if index == 0 {
-        return YEAR_FIELD;
+    // The date as yyyymmdd, with its index for the year.
+    fn key(self) -> u64
+        requires { (self.index ≤ last_index) × (self.month ≤ 12) × (self.day ≤ 31) }
+        ensures { result ≡ key self.index self.month self.day }
+    {
+        10000 * self.index + 100 * self.month + self.day
     }
-    if month == 0 {
-        return MONTH_FIELD;
-    }
-    if 12 < month {
-        return MONTH_FIELD;
-    }
-    if day == 0 {
-        return DAY_FIELD;
-    }
-    if month_length(index, month) < day {
-        return DAY_FIELD;
-    }
-    let key = 10000 * index + 100 * month + day;
-    if key < SKIPPED_KEY {
-        return 0;
-    }
-    if key < GREGORIAN_KEY {
-        return DAY_FIELD;
-    }
-    0
-}
 
-// The index of the year, and the month, with January and February counted to the year before.
-fn march_year(index: u64, month: u64) -> u64
-    requires { 0 < index }
-    ensures { result ≡ march_year index month }
-{
-    if month < 3 { index - 1 } else { index }
-}
-
-fn march_month(month: u64) -> u64
-    requires { month ≤ 12 }
-    ensures { result ≡ march_month month }
-{
-    if month < 3 { month + 12 } else { month }
-}
-
-// The noon day number of a date that exists.
-pub fn noon_of(index: u64, month: u64, day: u64) -> u64
-    requires { Sound index month day }
-    ensures { result ≡ noon index month day }
-{
-    let a = march_year(index, month);
-    let m = march_month(month);
-    let n = FOUR_YEARS * a / 4 + MONTH_RATE * (m + 1) / RATE_SCALE + day - DAY_SHIFT;
-    if 10000 * index + 100 * month + day < GREGORIAN_KEY {
-        return n;
+    // The date where it exists, else the first of year, month and day that does not. A year, a month or a day that is 0 does not.
+    #[tactic(auto, using(crate::proofs::Bounds::month_le), unfolding(crate::specs::Machine::Shifted::bad_field))]
+    pub fn judge(self) -> Result<Shifted, Field>
+        requires { self.index ≤ last_index }
+        ensures judged { bad_number result ≡ bad_field self.index self.month self.day }
+        ensures same { IfOk result (λ date. date ≡ self) }
+    {
+        if self.index == 0 {
+            return Err(Field::Year);
+        }
+        if self.month == 0 || 12 < self.month {
+            return Err(Field::Month);
+        }
+        if self.day == 0 || self.month_length() < self.day {
+            return Err(Field::Day);
+        }
+        let key = self.key();
+        if key < SKIPPED_KEY {
+            return Ok(self);
+        }
+        if key < GREGORIAN_KEY {
+            return Err(Field::Day);
+        }
+        Ok(self)
     }
-    let century = (a - YEAR_SHIFT) / 100;
-    n + (2 + century / 4) - century
+
+    // The index of the year, and the month, with January and February counted to the year before.
+    fn march_year(self) -> u64
+        requires { 0 < self.index }
+        ensures { result ≡ march_year self.index self.month }
+    {
+        if self.month < 3 {
+            self.index - 1
+        } else {
+            self.index
+        }
+    }
+
+    fn march_month(self) -> u64
+        requires { self.month ≤ 12 }
+        ensures { result ≡ march_month self.month }
+    {
+        if self.month < 3 {
+            self.month + 12
+        } else {
+            self.month
+        }
+    }
+
+    // The noon day number of a date that exists.
+    #[tactic(auto, using(crate::proofs::DateToDay::room), unfolding(crate::specs::Machine::Shifted::noon))]
+    pub fn noon(self) -> u64
+        requires { Sound self.index self.month self.day }
+        ensures { result ≡ noon self.index self.month self.day }
+    {
+        let a = self.march_year();
+        let m = self.march_month();
+        let n = FOUR_YEARS * a / 4 + MONTH_RATE * (m + 1) / RATE_SCALE + self.day - DAY_SHIFT;
+        if self.key() < GREGORIAN_KEY {
+            return n;
+        }
+        let century = (a - YEAR_SHIFT) / 100;
+        n + (2 + century / 4) - century
+    }
 }
 
 // The Julian count of a day number.
+#[tactic(auto, unfolding(crate::specs::Machine::Shifted::julian_count))]
 fn julian_count(n: u64) -> u64
     requires { n ≤ last_day }
     ensures { result ≡ julian_count n }

@@ -1,21 +1,23 @@
 -- `day_of_date` meets its contract. Assumes nothing.
-use mathlib.Core.Path.{◌≡◌}
-use lib.IntN.{pos}
-use Rattle.calendar.specs.Calendar.{first_bad, noon_number}
-use Rattle.calendar.proofs.CallAnswers.{day_refused, day_given}
-use Rattle.arith.proofs.Signs.{back}
+use mathlib.Core.Path.{◌∙◌}
+use native.Mathlib.Omega.{arith}
+use Rattle.arith.proofs.Signs.{back, ok}
+use Rattle.calendar.proofs.CallAnswers.{refused, day_refused, day_given}
 use Rattle.calendar.proofs.day_of_date.Goals as goal
 
-pub returns-then-bad-ne0 : goal.returns-then-bad-ne0
-returns-then-bad-ne0 c =
-    let bad_is : c.bad_of_date-bad.result ≡ first_bad c.args.year c.args.month c.args.day =
-    rw (back _ c.ranges.year, back _ c.ranges.month, back _ c.ranges.day) at c.bad_of_date-bad.ensures in
-    day_refused _ _ _ _ (bad_is) c.if-bad-ne0.true
+pub returns-in_err-date : goal.returns-in_err-date
+returns-in_err-date c =
+    let e = rw (back _ c.ranges.year, back _ c.ranges.month, back _ c.ranges.day) at c.in_err-date.ensures.judged in
+    refused _ _ c.from_residual.ensures ∙ day_refused c.args.year c.args.month c.args.day c.in_err-date.field-0.0 e
+
+pub noon-requires : goal.noon-requires
+noon-requires c = c.in_ok-date.ensures.counted.sound
+
+pub overflow_cast-result : goal.overflow_cast-result
+overflow_cast-result c = let l = c.in_ok-date.ensures.counted.small in ok (omega (arith, l, c.noon.ensures))
 
 pub returns : goal.returns
 returns c =
-    let bad_is : c.bad_of_date-bad.result ≡ first_bad c.args.year c.args.month c.args.day =
-    rw (back _ c.ranges.year, back _ c.ranges.month, back _ c.ranges.day) at c.bad_of_date-bad.ensures in
-    let noon-is : pos c.noon_of_date.result ≡ noon_number c.args.year c.args.month c.args.day =
-    rw (back _ c.ranges.year, back _ c.ranges.month, back _ c.ranges.day) at c.noon_of_date.ensures.0 in
-    day_given _ _ _ _ (bad_is) c.if-bad-ne0.false _ _ c.wide.ensures (noon-is) c.noon_of_date.ensures.1
+    let e = rw (back _ c.ranges.year, back _ c.ranges.month, back _ c.ranges.day) at c.in_ok-date.ensures.judged in
+    let k = rw (back _ c.ranges.year, back _ c.ranges.month, back _ c.ranges.day) at c.in_ok-date.ensures.counted in
+    rw c.noon.ensures (day_given c.args.year c.args.month c.args.day e _ k.number k.small)

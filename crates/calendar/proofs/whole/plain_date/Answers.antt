@@ -1,34 +1,20 @@
 -- `plain_date` meets its contract. Assumes nothing.
 use mathlib.Core.Path.{ap, ◌∙◌}
-use lib.Dec.{lit<}
-use native.Mathlib.Omega.{arith}
 use Rattle.calendar.specs.Machine.Shifted.{plain}
-use Rattle.calendar.proofs.WholeDates.{Small, date_small, plain_law, sub_asked}
-use Rattle.calendar.specs.Constants.{year_shift}
+use native.Mathlib.Omega.{arith}
+use Rattle.std.proofs.lemmas.Int.{ints}
+use Rattle.arith.proofs.Signs.{ok}
+use Rattle.calendar.proofs.WholeDates.{Small, date_small, plain_law}
 use Rattle.calendar.proofs.whole.plain_date.Goals as goal
 
-pub wide-index-requires : goal.wide-index-requires
-wide-index-requires c =
-    let small : Small c.date_at-s.result = date_small _ _ c.requires c.date_at-s.ensures in
-    omega (arith, small)
+pub overflow_cast-result : goal.overflow_cast-result
+overflow_cast-result c = let small = date_small _ c.date_at-s.result c.requires c.date_at-s.ensures in ok (omega (arith, small.index))
 
-pub sub-year-requires : goal.sub-year-requires
-sub-year-requires c =
-    let small : Small c.date_at-s.result = date_small _ _ c.requires c.date_at-s.ensures in
-    sub_asked _ _ year_shift c.wide-index.ensures (omega (arith, small)) (lit< tt)
+pub overflow_sub-result : goal.overflow_sub-result
+overflow_sub-result c = let small = date_small _ c.date_at-s.result c.requires c.date_at-s.ensures in omega (arith, ints, small.index)
 
-pub wide-month-requires : goal.wide-month-requires
-wide-month-requires c =
-    let small : Small c.date_at-s.result = date_small _ _ c.requires c.date_at-s.ensures in
-    omega (arith, small)
-
-pub wide-day-requires : goal.wide-day-requires
-wide-day-requires c =
-    let small : Small c.date_at-s.result = date_small _ _ c.requires c.date_at-s.ensures in
-    omega (arith, small)
+pub overflow_cast-result-2 : goal.overflow_cast-result-2
+overflow_cast-result-2 c = let small = date_small _ c.date_at-s.result c.requires c.date_at-s.ensures in ok (omega (arith, small.month))
 
 pub returns : goal.returns
-returns c =
-    let small : Small c.date_at-s.result = date_small _ _ c.requires c.date_at-s.ensures in
-    plain_law _ _ _ _ _ (small) c.wide-index.ensures c.sub-year.ensures c.wide-month.ensures c.wide-day.ensures
-    ∙ ap plain c.date_at-s.ensures
+returns c = let e = c.date_at-s.ensures in plain_law c.date_at-s.result (date_small _ c.date_at-s.result c.requires e) ∙ ap plain e
