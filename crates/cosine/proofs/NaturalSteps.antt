@@ -1,9 +1,12 @@
 -- The working cosine in natural numbers: the working angle as v = w + U, and each rounded quotient as one quotient of naturals. Assumes nothing.
 use mathlib.Core.Path.{◌≡◌, sym, ap, ap₂, ◌∙◌, subst}
 use mathlib.Core.List.{List, [], ◌∷◌}
-use Prim.Native.Nat.{ℕ, ◌+◌, ◌*◌, ◌-◌, ◌/◌, ◌%◌, ◌≤◌, ◌<◌}
+use Prim.Native.Nat.{ℕ, zero, suc, ◌+◌, ◌*◌, ◌-◌, ◌/◌, ◌%◌, ◌≤◌, ◌<◌}
 use native.Mathlib.Omega.{arith}
 use native.Mathlib.Nat.{mul-le-mul, mul-le-mul_right, div-div-eq-div-mul, div-le_of_le-mul}
+use native.Mathlib.Numerals.{unary_clauses}
+use lib.ListN.{length, get_or, drop, drop_of_length-le}
+use lib.Seq.{drop-cons}
 use lib.IntN.{ℤ, pos, neg_ℤ, ◌+ℤ◌, ◌-ℤ◌, ◌*ℤ◌}
 use Rattle.integers.specs.Order.{◌≼◌}
 use Rattle.integers.specs.Division.{floor, rounded}
@@ -131,28 +134,29 @@ odd_is v h e =
     expand : (v h : ℤ) → pos U *ℤ neg_ℤ h +ℤ v *ℤ h ≡ (v -ℤ pos U) *ℤ h
     expand v h = ring! (v ∷ h ∷ []) (search polys depth 60 fits 100000) tt
 
--- six steps, from the last divisor to the first
-pub six : (y : ℤ) (a b c d e f : ℕ) (h₆ h₅ h₄ h₃ h₂ h₁ : ℤ)
-    → h₆ ≡ pos U -ℤ rounded (y *ℤ pos U) (U * f) → h₅ ≡ pos U -ℤ rounded (y *ℤ h₆) (U * e) → h₄ ≡ pos U -ℤ rounded (y *ℤ h₅) (U * d)
-    → h₃ ≡ pos U -ℤ rounded (y *ℤ h₄) (U * c) → h₂ ≡ pos U -ℤ rounded (y *ℤ h₃) (U * b) → h₁ ≡ pos U -ℤ rounded (y *ℤ h₂) (U * a)
-    → h₁ ≡ horner y (a ∷ b ∷ c ∷ d ∷ e ∷ f ∷ [])
+-- the step by the divisor before place m takes it to the series of those from m on
+pub series_more : (y : ℤ) (ds : List ℕ) (m : ℕ) → 0 < m → m ≤ length ds → (h k : ℤ) → h ≡ horner y (drop m ds)
+    → k ≡ pos U -ℤ rounded (y *ℤ h) (U * get_or ds (m - 1) 0) → k ≡ horner y (drop (m - 1) ds)
 unfolding horner
-six y a b c d e f h₆ h₅ h₄ h₃ h₂ h₁ p₆ p₅ p₄ p₃ p₂ p₁ = p₁ ∙ ap (less a) (p₂ ∙ ap (less b) (p₃ ∙ ap (less c) (p₄ ∙ ap (less d) (p₅ ∙ ap (less e) p₆))))
-  where
-    less : ℕ → ℤ → ℤ
-    less n h = pos U -ℤ rounded (y *ℤ h) (U * n)
+series_more y ds zero o l h k e f = absurd (omega arith)
+series_more y ds (suc n) o l h k e f =
+    let less = λ (z : ℤ). pos U -ℤ rounded (y *ℤ z) (U * get_or ds n 0) in
+    let g : k ≡ less h = simp unary_clauses at f in
+    simp unary_clauses (g ∙ ap less e ∙ sym (ap (λ (r : List ℕ). horner y r) (drop-cons ds n 0 l)))
+
+-- past the last divisor the series is U
+pub series_last : (y : ℤ) (ds : List ℕ) (n : ℕ) → length ds ≡ n + 1 → (k : ℤ) → k ≡ pos U -ℤ rounded (y *ℤ pos U) (U * get_or ds n 0)
+    → k ≡ horner y (drop n ds)
+unfolding horner
+series_last y ds n l k f =
+    let all : length ds ≤ suc n = omega arith in
+    let none : pos U ≡ horner y (drop (suc n) ds) = sym (ap (λ (r : List ℕ). horner y r) (drop_of_length-le ds all)) in
+    simp unary_clauses at (series_more y ds (suc n) (omega arith) (omega arith) (pos U) k none (simp unary_clauses f))
 
 -- ---- by the quarter: what stands for the even part is e, for the odd part o - h
 
 pub series_at : (v y h : ℕ) (ds : List ℕ) → pos y ≡ y_of (pos v -ℤ pos U) → pos h ≡ horner (pos y) ds → pos h ≡ horner (y_of (pos v -ℤ pos U)) ds
 series_at v y h ds p q = q ∙ ap (λ t. horner t ds) p
-
-even_of : (v y e : ℕ) → pos y ≡ y_of (pos v -ℤ pos U) → pos e ≡ horner (pos y) evens → pos e ≡ even_part (pos v -ℤ pos U)
-unfolding even_part
-even_of v y e p q = series_at v y e evens p q
-
-odd_of : (v y h : ℕ) → pos y ≡ y_of (pos v -ℤ pos U) → pos h ≡ horner (pos y) odds → pos ((v * h + U / 2) / U) -ℤ pos h ≡ odd_part (pos v -ℤ pos U)
-odd_of v y h p q = odd_is v h (series_at v y h odds p q)
 
 flip : (a b : ℤ) → a -ℤ b ≡ neg_ℤ (b -ℤ a)
 flip a b = ring! (a ∷ b ∷ []) (search polys depth 60 fits 100000) tt
@@ -162,43 +166,38 @@ lift : (a b : ℕ) → b ≤ U + a → pos (U + a - b) ≡ pos U +ℤ (pos a -�
 lift a b h = same (nat (U + a - b)) (nat U +ᵢ (nat a -ᵢ nat b)) (omega arith)
 
 -- the even part and the odd part turned about, U more
-pub even_biased : (v y e : ℕ) → pos y ≡ y_of (pos v -ℤ pos U) → pos e ≡ horner (pos y) evens → pos (U + e) ≡ pos U +ℤ even_part (pos v -ℤ pos U)
-even_biased v y e p q = ap (λ z. pos U +ℤ z) (even_of v y e p q)
+pub even_lifted : (v h : ℕ) → pos h ≡ horner (y_of (pos v -ℤ pos U)) evens → pos (U + h) ≡ pos U +ℤ even_part (pos v -ℤ pos U)
+unfolding even_part
+even_lifted v h q = ap (λ z. pos U +ℤ z) q
 
-pub odd_biased : (v h : ℕ) → pos h ≡ horner (y_of (pos v -ℤ pos U)) odds → (v * h + U / 2) / U ≤ U + h
-    → pos (U + h - (v * h + U / 2) / U) ≡ pos U -ℤ odd_part (pos v -ℤ pos U)
-odd_biased v h q l =
+pub odd_lifted : (v h : ℕ) → pos h ≡ horner (y_of (pos v -ℤ pos U)) odds → (v * h + U / 2) / U ≤ U + h
+    → pos (U + h - (v * h + U / 2) / U) ≡ pos U +ℤ neg_ℤ (odd_part (pos v -ℤ pos U))
+odd_lifted v h q l =
     let o = (v * h + U / 2) / U in
     lift h o l ∙ ap (λ z. pos U +ℤ z) (flip (pos h) (pos o) ∙ ap neg_ℤ (odd_is v h q))
 
--- the cosine at the quarter k, U more
-abbrev Biased : ℕ → ℕ → ℕ → Type 0
-Biased r k v = pos r ≡ pos U +ℤ cosine_by neg_ℤ k (even_part (pos v -ℤ pos U)) (odd_part (pos v -ℤ pos U))
+twice : (z : ℤ) → neg_ℤ (neg_ℤ z) ≡ z
+twice z = ring! (z ∷ []) (search polys depth 60 fits 100000) tt
 
-at : (r k m v : ℕ) → k ≡ m → Biased r m v → Biased r k v
-at r k m v i h = subst (λ n. Biased r n v) (sym i) h
+turned : (c : ℕ) (z : ℤ) → c ≤ 2 * U → pos c ≡ pos U +ℤ z → pos (2 * U - c) ≡ pos U +ℤ neg_ℤ z
+turned c z l e = minus_nat (2 * U) c l ∙ ap (λ t. pos (2 * U) -ℤ t) e ∙ ring! (z ∷ []) (search polys depth 60 fits 100000) tt
 
-pub in_0 : (k v y e : ℕ) → k ≡ 0 → pos y ≡ y_of (pos v -ℤ pos U) → pos e ≡ horner (pos y) evens
-    → pos (U + e) ≡ pos U +ℤ cosine_by neg_ℤ k (even_part (pos v -ℤ pos U)) (odd_part (pos v -ℤ pos U))
+-- the cosine at the quarter k, U more: at 0 and 1 as lifted, two quarters on with the other sign
+pub biased_as : (k c : ℕ) (e o : ℤ) → k < 2 → (k % 2 ≡ 0 → pos c ≡ pos U +ℤ e) → ((k % 2 ≡ 0 → ⊥) → pos c ≡ pos U +ℤ neg_ℤ o)
+    → pos c ≡ pos U +ℤ cosine_by neg_ℤ k e o
 unfolding cosine_by
-in_0 k v y e i p q = at (U + e) k 0 v i (even_biased v y e p q)
+biased_as zero c e o h f g = f (omega arith)
+biased_as (suc zero) c e o h f g = g (λ i. omega (arith, i))
+biased_as (suc (suc k)) c e o h f g = absurd (omega arith)
 
-pub in_2 : (k v y e : ℕ) → k ≡ 2 → pos y ≡ y_of (pos v -ℤ pos U) → pos e ≡ horner (pos y) evens → e ≤ U
-    → pos (U - e) ≡ pos U +ℤ cosine_by neg_ℤ k (even_part (pos v -ℤ pos U)) (odd_part (pos v -ℤ pos U))
+pub biased_turned : (k c : ℕ) (e o : ℤ) → k < 4 → 2 ≤ k → c ≤ 2 * U → (k % 2 ≡ 0 → pos c ≡ pos U +ℤ e) → ((k % 2 ≡ 0 → ⊥) → pos c ≡ pos U +ℤ neg_ℤ o)
+    → pos (2 * U - c) ≡ pos U +ℤ cosine_by neg_ℤ k e o
 unfolding cosine_by
-in_2 k v y e i p q l = at (U - e) k 2 v i (minus_nat U e l ∙ ap (λ z. pos U +ℤ neg_ℤ z) (even_of v y e p q))
-
-pub in_1 : (k v y h : ℕ) → k ≡ 1 → pos y ≡ y_of (pos v -ℤ pos U) → pos h ≡ horner (pos y) odds → (v * h + U / 2) / U ≤ U + h
-    → pos (U + h - (v * h + U / 2) / U) ≡ pos U +ℤ cosine_by neg_ℤ k (even_part (pos v -ℤ pos U)) (odd_part (pos v -ℤ pos U))
-unfolding cosine_by
-in_1 k v y h i p q l = at (U + h - (v * h + U / 2) / U) k 1 v i (odd_biased v h (series_at v y h odds p q) l)
-
-pub in_3 : (k v y h : ℕ) → k ≡ 3 → pos y ≡ y_of (pos v -ℤ pos U) → pos h ≡ horner (pos y) odds → h ≤ U
-    → pos (U + (v * h + U / 2) / U - h) ≡ pos U +ℤ cosine_by neg_ℤ k (even_part (pos v -ℤ pos U)) (odd_part (pos v -ℤ pos U))
-unfolding cosine_by
-in_3 k v y h i p q l =
-    let o = (v * h + U / 2) / U in
-    at (U + o - h) k 3 v i (lift o h (omega arith) ∙ ap (λ z. pos U +ℤ z) (odd_of v y h p q))
+biased_turned zero c e o h i l f g = absurd (omega arith)
+biased_turned (suc zero) c e o h i l f g = absurd (omega arith)
+biased_turned (suc (suc zero)) c e o h i l f g = turned c e l (f (omega arith))
+biased_turned (suc (suc (suc zero))) c e o h i l f g = turned c (neg_ℤ o) l (g (λ i. omega (arith, i))) ∙ ap (λ z. pos U +ℤ z) (twice o)
+biased_turned (suc (suc (suc (suc k)))) c e o h i l f g = absurd (omega arith)
 
 -- the odd part is small
 pub odd_small : (v h : ℕ) → InRange v → v * h ≤ (U + eighth) * h

@@ -1,6 +1,8 @@
 -- What `prepare` works out, and the angle that `angle` makes of it. Assumes nothing.
 use mathlib.Core.Path.{◌≡◌, refl, sym, ap, ap₂, ◌∙◌, subst}
 use mathlib.Core.List.{[], ◌∷◌}
+use Rattle.std.proofs.Math.Logic.{∥∥₁_elim}
+use Rattle.std.proofs.Props.{props}
 use Prim.Native.Nat.{ℕ, suc, ◌+◌, ◌*◌, ◌-◌, ◌/◌, ◌%◌, ◌^◌, ◌≤◌, ◌<◌}
 use native.Mathlib.Omega.{arith}
 use native.Mathlib.Nat.{mul-le-mul}
@@ -13,7 +15,7 @@ use Rattle.integers.proofs.Auto.{polys, ring!, cert!, gap}
 use Rattle.integers.proofs.Division.{rounded_add}
 use Rattle.integers.proofs.Order.{nat_abs_low, nat_abs-+, fits}
 use Rattle.units.specs.Units.{U, turn as P, tau_limit, t_limit, a_limit, angle_per_part}
-use Rattle.cosine.specs.declared.term.Prepared.{Prepared}
+use Rattle.cosine.specs.declared.term.ByCuts.{ByCuts}
 use Rattle.cosine.specs.declared.term.ByTick.{ByTick}
 use Rattle.cosine.specs.Machine.Prepared.{tick as D, half_tick, cut, cuts, base, c_bias, three_steps, base_step, bias_step, Residue, Times, Ready}
 use Rattle.cosine.specs.Cosine.{cosine}
@@ -45,18 +47,10 @@ place_first t m e = residue_carry (record {
 
 pub ready : (t : ℤ) (m : ℕ) (a b : ByTick) → pos m ≡ t +ℤ pos t_limit
     → Times (three_steps * base_step) ((P - angle_per_part * tau_limit + m / D) % P) (m % D) a → Times (three_steps * bias_step) a.q a.r b
-    → (let q = (P - angle_per_part * tau_limit + m / D) % P in let e = (P - 1) - b.q in Ready (record {
-      t = t;
-      h0 = q / cut;
-      h1 = a.q / cut;
-      h2 = e / cut;
-      l0 = q % cut;
-      l1 = a.q % cut;
-      l2 = e % cut;
-      r0 = m % D;
-      r1 = a.r;
-      r2 = (D + half_tick) - b.r;
-    }))
+    → (let q = (P - angle_per_part * tau_limit + m / D) % P in let e = (P - 1) - b.q in Ready t
+    (record { h = q / cut; l = q % cut; r = m % D })
+    (record { h = a.q / cut; l = a.q % cut; r = a.r })
+    (record { h = e / cut; l = e % cut; r = (D + half_tick) - b.r }))
 ready t m a b e f g =
     let p = place_first t m e in
     let s = residue_times f p in
@@ -108,19 +102,46 @@ together g₀ g₁ h₀ h₁ h₂ l₀ l₁ l₂ h l e f = sum cut ∙ ap₂ (λ
     sum : (k : ℕ) → g₀ * (k * h₀ + l₀) + g₁ * (k * h₁ + l₁) + (k * h₂ + l₂) ≡ k * (g₀ * h₀ + g₁ * h₁ + h₂) + (g₀ * l₀ + g₁ * l₁ + l₂)
     sum k = omega arith
 
-pub angle_is : (p : Prepared) → Ready p → (b : ℕ) (c : ℤ) (d h l r : ℕ) → pos d ≡ c +ℤ pos c_bias
-    → h ≡ d % base * p.h0 + d / base * p.h1 + p.h2
-    → l ≡ d % base * p.l0 + d / base * p.l1 + p.l2
-    → r ≡ d % base * p.r0 + d / base * p.r1 + p.r2
-    → modulo (pos (h % cuts * cut + l + r / D + angle_per_part * b)) P ≡ term_angle b c p.t
-angle_is p a b c d h l r e eh el er =
+-- each figure in its range
+pub record Ranges (p₀ p₁ p₂ : ByCuts) : Type 0 where
+  pub h0_in : p₀.h < cuts
+  pub h1_in : p₁.h < cuts
+  pub h2_in : p₂.h < cuts
+  pub l0_in : p₀.l < cut
+  pub l1_in : p₁.l < cut
+  pub l2_in : p₂.l < cut
+  pub r0_in : p₀.r < D
+  pub r1_in : p₁.r < D
+  pub r2_in : p₂.r < 2 * D
+
+pub ranges_of : {t : ℤ} {p₀ p₁ p₂ : ByCuts} → ∥ Ready t p₀ p₁ p₂ ∥₁ → Ranges p₀ p₁ p₂
+ranges_of h = ∥∥₁_elim h (hlevel props)
+    (λ a. record {
+      h0_in = a.h0_in;
+      h1_in = a.h1_in;
+      h2_in = a.h2_in;
+      l0_in = a.l0_in;
+      l1_in = a.l1_in;
+      l2_in = a.l2_in;
+      r0_in = a.r0_in;
+      r1_in = a.r1_in;
+      r2_in = a.r2_in;
+    })
+
+pub angle_is : (t : ℤ) (p₀ p₁ p₂ : ByCuts) → ∥ Ready t p₀ p₁ p₂ ∥₁ → (b : ℕ) (c : ℤ) (d h l r : ℕ) → pos d ≡ c +ℤ pos c_bias
+    → h ≡ d % base * p₀.h + d / base * p₁.h + p₂.h
+    → l ≡ d % base * p₀.l + d / base * p₁.l + p₂.l
+    → r ≡ d % base * p₀.r + d / base * p₁.r + p₂.r
+    → modulo (pos (h % cuts * cut + l + r / D + angle_per_part * b)) P ≡ term_angle b c t
+angle_is t p₀ p₁ p₂ k b c d h l r e eh el er =
+    ∥∥₁_elim k (hlevel props) (λ a.
     let g₀ = d % base in
     let g₁ = d / base in
     let whole : d ≡ g₀ + base * g₁ = omega arith in
     let all = residue-+ (residue-+ (residue-* g₀ a.place_0) (residue-* g₁ a.place_1)) a.rest in
-    let n = digits c p.t (pos g₀) (pos g₁) (pos d) e (ap pos whole) in
-    let s = together g₀ g₁ p.h0 p.h1 p.h2 p.l0 p.l1 p.l2 h l eh el in
-    angle_of b c p.t (h % cuts * cut + l) r (residue_at refl er (residue_less (h / cuts) (h % cuts * cut + l) s (residue_as n all)))
+    let n = digits c t (pos g₀) (pos g₁) (pos d) e (ap pos whole) in
+    let s = together g₀ g₁ p₀.h p₁.h p₂.h p₀.l p₁.l p₂.l h l eh el in
+    angle_of b c t (h % cuts * cut + l) r (residue_at refl er (residue_less (h / cuts) (h % cuts * cut + l) s (residue_as n all))))
 
 -- ---- what fits
 

@@ -1,6 +1,7 @@
 // The working cosine and sine, equal to the rules to the last unit, and a term of a series: RULES, "Working cosine and sums".
 #![tactic(auto)]
 
+pub mod parity;
 pub mod parts;
 pub mod term;
 pub mod working;

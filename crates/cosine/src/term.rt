@@ -1,10 +1,10 @@
 // A term of a series at an instant: its angle, its value: RULES, "Working cosine and sums". What is public is for the crates above.
 // c t is divided by a tick modulo the turn, so that no product passes 64 bits.
-ghost use Rattle.std.specs.Prelude.{◌≡◌, ◌+◌, ◌*◌, ◌<◌, ◌≤◌, ◌^◌, pos, neg_ℤ, nat_abs, ◌+ℤ◌, ◌-ℤ◌, ◌*ℤ◌};
+ghost use Rattle.std.specs.Prelude.{◌≡◌, ◌+◌, ◌*◌, ◌/◌, ◌%◌, ◌<◌, ◌≤◌, ◌^◌, pos, neg_ℤ, nat_abs, ◌+ℤ◌, ◌-ℤ◌, ◌*ℤ◌};
 ghost use Rattle.integers.specs.Division.{rounded, modulo};
 ghost use Rattle.units.specs.Units.{U, turn, t_limit, a_limit, b_limit, c_limit};
 ghost use Rattle.cosine.specs.Machine.Parity.{value_by_parity, InRange};
-ghost use Rattle.cosine.specs.Machine.Prepared.{tick, cuts, base, top_digit, step_limit, three_steps, combined_limit, Times, Ready};
+ghost use Rattle.cosine.specs.Machine.Prepared.{tick, cut, cuts, base, top_digit, step_limit, three_steps, combined_limit, Times, Ready};
 ghost use Rattle.cosine.specs.Terms.{term_angle, term_value};
 
 use crate::working::{HALF_UNIT, biased_angle, difference, quarters};
@@ -48,19 +48,22 @@ const REST_R: u64 = TICK + HALF_TICK;
 // An amplitude is raised by A_LIMIT; its quotient by U is so much too great.
 const A_BIAS: u64 = A_LIMIT / U;
 
-// specs/Machine/Prepared.antt says what the figures are.
+// tick (cut h + l) + r.
+#[derive(Clone, Copy)]
+pub struct ByCuts {
+    pub h: u64,
+    pub l: u64,
+    pub r: u64,
+}
+
+// What is worked out once for an instant: specs/Machine/Prepared.antt says of what number each figure is.
 #[derive(Clone, Copy)]
 pub struct Prepared {
     pub t: i64,
-    pub h0: u64,
-    pub h1: u64,
-    pub h2: u64,
-    pub l0: u64,
-    pub l1: u64,
-    pub l2: u64,
-    pub r0: u64,
-    pub r1: u64,
-    pub r2: u64,
+    pub place_0: ByCuts,
+    pub place_1: ByCuts,
+    pub rest: ByCuts,
+    pub ghost ready: { ∥ Ready t place_0 place_1 rest ∥₁ },
 }
 
 // tick q + r.
@@ -70,7 +73,7 @@ struct ByTick {
     pub r: u64,
 }
 
-// specs/Machine/Parity.antt says what a term's value is of these.
+// specs/Machine/Parity.antt says what a term's value is of these. The parity is a number and not an enum: it is counted with, so that nothing jumps on it.
 #[derive(Clone, Copy)]
 pub struct ReducedTerm {
     pub a: i64,
@@ -86,52 +89,39 @@ fn biased(x: i64, k: u64) -> u64
     low(add(x, wide(k)))
 }
 
-// g times tick q + r, brought below a tick and a turn again.
-fn times(g: u64, q: u64, r: u64) -> ByTick
-    requires { (g ≤ step_limit) × (q < turn) × (r < tick) }
-    ensures { Times g q r result }
-{
-    let s = g * r;
-    ByTick {
-        q: (g * q + s / TICK) % TURN,
-        r: s % TICK,
+impl ByTick {
+    // g times as much, brought below a tick and a turn again.
+    fn times(self, g: u64) -> ByTick
+        requires { (g ≤ step_limit) × (self.q < turn) × (self.r < tick) }
+        ensures { Times g self.q self.r result }
+    {
+        let s = g * self.r;
+        ByTick {
+            q: (g * self.q + s / TICK) % TURN,
+            r: s % TICK,
+        }
     }
-}
 
-// The same for a factor of four steps, g times 2^24.
-fn times_far(g: u64, q: u64, r: u64) -> ByTick
-    requires { (g ≤ step_limit) × (q < turn) × (r < tick) }
-    ensures { Times (three_steps * g) q r result }
-{
-    let a = times(STEP_LIMIT, q, r);
-    let b = times(STEP_LIMIT, a.q, a.r);
-    let c = times(STEP_LIMIT, b.q, b.r);
-    times(g, c.q, c.r)
-}
+    // The same for a factor of four steps, g times 2^24.
+    fn times_far(self, g: u64) -> ByTick
+        requires { (g ≤ step_limit) × (self.q < turn) × (self.r < tick) }
+        ensures { Times (three_steps * g) self.q self.r result }
+    {
+        let a = self.times(STEP_LIMIT);
+        let b = a.times(STEP_LIMIT);
+        let c = b.times(STEP_LIMIT);
+        c.times(g)
+    }
 
-// Once for an instant.
-pub fn prepare(at: Instant) -> Prepared
-    requires { nat_abs at.ms ≤ t_limit }
-    ensures { (result.t ≡ at.ms) × Ready result }
-{
-    let t = at.ms;
-    let n = biased(t, T_LIMIT);
-    let q = (T_BIAS + n / TICK) % TURN;
-    let r = n % TICK;
-    let a = times_far(BASE_STEP, q, r);
-    let b = times_far(BIAS_STEP, a.q, a.r);
-    let e = REST_Q - b.q;
-    Prepared {
-        t: t,
-        h0: q / CUT,
-        h1: a.q / CUT,
-        h2: e / CUT,
-        l0: q % CUT,
-        l1: a.q % CUT,
-        l2: e % CUT,
-        r0: r,
-        r1: a.r,
-        r2: REST_R - b.r,
+    // The quotient by cuts.
+    fn by_cuts(self) -> ByCuts
+        ensures { result ≡ record { h = self.q / cut; l = self.q % cut; r = self.r } }
+    {
+        ByCuts {
+            h: self.q / CUT,
+            l: self.q % CUT,
+            r: self.r,
+        }
     }
 }
 
@@ -141,20 +131,6 @@ fn combined(g0: u64, g1: u64, x0: u64, x1: u64, x2: u64) -> u64
     ensures { (result ≡ g0 * x0 + g1 * x1 + x2) × (result < combined_limit) }
 {
     g0 * x0 + g1 * x1 + x2
-}
-
-// A term's angle, but for whole turns.
-pub fn angle(p: Prepared, b: u64, c: i64) -> u64
-    requires { Ready p × (b < b_limit) × (nat_abs c < c_limit) }
-    ensures { (modulo (pos result) turn ≡ term_angle b c p.t) × (result < 2 ^ 63) }
-{
-    let d = biased(c, C_BIAS);
-    let g0 = d % BASE;
-    let g1 = d / BASE;
-    let h = combined(g0, g1, p.h0, p.h1, p.h2);
-    let l = combined(g0, g1, p.l0, p.l1, p.l2);
-    let r = combined(g0, g1, p.r0, p.r1, p.r2);
-    h % CUTS * CUT + l + r / TICK + ANGLE_PER_PART * b
 }
 
 // a (c - U) / U rounded, for a cosine c that is U too great; a is split at U, and raised until the end.
@@ -175,16 +151,57 @@ fn signed_amplitude(a: i64, k: u64) -> i64
     if k < 2 { a } else { sub(0, a) }
 }
 
-// A term with its angle reduced. Nothing here jumps on the quarter, which is as good as random from term to term.
-pub fn reduced_term(p: Prepared, a: i64, b: u64, c: i64) -> ReducedTerm
-    requires { Ready p × (nat_abs a < a_limit) × (b < b_limit) × (nat_abs c < c_limit) }
-    ensures { (value_by_parity result.odd result.a result.v ≡ term_value a b c p.t) × (nat_abs result.a ≡ nat_abs a) × (result.odd ≤ 1) × InRange result.v }
-{
-    let x = angle(p, b, c);
-    let q = quarters(x);
-    ReducedTerm {
-        a: signed_amplitude(a, q % 4),
-        v: biased_angle(x, q),
-        odd: q % 2,
+impl Prepared {
+    // Once for an instant.
+    pub fn at(at: Instant) -> Prepared
+        requires { nat_abs at.ms ≤ t_limit }
+        ensures { result.t ≡ at.ms }
+    {
+        let t = at.ms;
+        let n = biased(t, T_LIMIT);
+        let place_0 = ByTick {
+            q: (T_BIAS + n / TICK) % TURN,
+            r: n % TICK,
+        };
+        let place_1 = place_0.times_far(BASE_STEP);
+        let raised = place_1.times_far(BIAS_STEP);
+        let rest = ByTick {
+            q: REST_Q - raised.q,
+            r: REST_R - raised.r,
+        };
+        Prepared {
+            t,
+            place_0: place_0.by_cuts(),
+            place_1: place_1.by_cuts(),
+            rest: rest.by_cuts(),
+        }
+    }
+
+    // A term's angle, but for whole turns.
+    pub fn angle(self, b: u64, c: i64) -> u64
+        requires { (b < b_limit) × (nat_abs c < c_limit) }
+        ensures { (modulo (pos result) turn ≡ term_angle b c self.t) × (result < 2 ^ 63) }
+    {
+        let d = biased(c, C_BIAS);
+        let g0 = d % BASE;
+        let g1 = d / BASE;
+        let h = combined(g0, g1, self.place_0.h, self.place_1.h, self.rest.h);
+        let l = combined(g0, g1, self.place_0.l, self.place_1.l, self.rest.l);
+        let r = combined(g0, g1, self.place_0.r, self.place_1.r, self.rest.r);
+        h % CUTS * CUT + l + r / TICK + ANGLE_PER_PART * b
+    }
+
+    // A term with its angle reduced. Nothing here jumps on the quarter, which is as good as random from term to term.
+    pub fn reduced_term(self, a: i64, b: u64, c: i64) -> ReducedTerm
+        requires { (nat_abs a < a_limit) × (b < b_limit) × (nat_abs c < c_limit) }
+        ensures { (value_by_parity result.odd result.a result.v ≡ term_value a b c self.t) × (nat_abs result.a ≡ nat_abs a) × (result.odd ≤ 1) × InRange result.v }
+    {
+        let x = self.angle(b, c);
+        let q = quarters(x);
+        ReducedTerm {
+            a: signed_amplitude(a, q % 4),
+            v: biased_angle(x, q),
+            odd: q % 2,
+        }
     }
 }

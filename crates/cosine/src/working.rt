@@ -3,9 +3,10 @@
 ghost use Rattle.std.specs.Prelude.{◌≡◌, ◌*◌, ◌<◌, ◌≤◌, ◌^◌, pos, neg_ℤ, ◌+ℤ◌, ◌-ℤ◌, ◌*ℤ◌};
 ghost use Rattle.integers.specs.Division.{rounded};
 ghost use Rattle.units.specs.Units.{U, quarter, angle_step};
-ghost use Rattle.cosine.specs.Cosine.{q_of, w_of, y_of, evens, odds, horner, even_part, odd_part, cosine_by, cosine, sine};
+ghost use Rattle.cosine.specs.Cosine.{q_of, w_of, y_of, even_part, odd_part, cosine_by, cosine, sine};
 ghost use Rattle.cosine.specs.Machine.Parity.{InRange, y_limit, divisor_limit};
 
+use crate::parity::{Even, Odd, Parity, horner};
 use arith::signed::{sub, wide};
 use units::{ANGLE_STEP, QUARTER, U};
 
@@ -19,32 +20,6 @@ const ANGLE_BIAS: u64 = ANGLE_STEP * U + ANGLE_STEP / 2;
 
 // What makes y + 2v of v*v: the square of U, and the half by which the quotient is rounded.
 const SQUARE_BIAS: u64 = U * U + HALF_UNIT;
-
-// The divisors of the even series, 2m(2m-1) for m from 1 to 6.
-pub const EVEN_1: u64 = 2 * 1;
-
-pub const EVEN_2: u64 = 4 * 3;
-
-pub const EVEN_3: u64 = 6 * 5;
-
-pub const EVEN_4: u64 = 8 * 7;
-
-pub const EVEN_5: u64 = 10 * 9;
-
-pub const EVEN_6: u64 = 12 * 11;
-
-// The divisors of the odd series, 2m(2m+1) for m from 1 to 6.
-pub const ODD_1: u64 = 2 * 3;
-
-pub const ODD_2: u64 = 4 * 5;
-
-pub const ODD_3: u64 = 6 * 7;
-
-pub const ODD_4: u64 = 8 * 9;
-
-pub const ODD_5: u64 = 10 * 11;
-
-pub const ODD_6: u64 = 12 * 13;
 
 #[derive(Clone, Copy)]
 pub struct Trig {
@@ -92,30 +67,6 @@ pub fn first(y: u64, d: u64) -> u64
     U - ((y + d / 2) as u32 / d as u32) as u64
 }
 
-fn horner_evens(y: u64) -> u64
-    requires { y ≤ y_limit }
-    ensures { (pos result ≡ horner (pos y) evens) × (result ≤ U) }
-{
-    let h6 = first(y, EVEN_6);
-    let h5 = step(y, h6, EVEN_5);
-    let h4 = step(y, h5, EVEN_4);
-    let h3 = step(y, h4, EVEN_3);
-    let h2 = step(y, h3, EVEN_2);
-    step(y, h2, EVEN_1)
-}
-
-fn horner_odds(y: u64) -> u64
-    requires { y ≤ y_limit }
-    ensures { (pos result ≡ horner (pos y) odds) × (result ≤ U) }
-{
-    let h6 = first(y, ODD_6);
-    let h5 = step(y, h6, ODD_5);
-    let h4 = step(y, h5, ODD_4);
-    let h3 = step(y, h4, ODD_3);
-    let h2 = step(y, h3, ODD_2);
-    step(y, h2, ODD_1)
-}
-
 // a - b, as a signed number.
 pub fn difference(a: u64, b: u64) -> i64
     requires { (a < 2 ^ 63) × (b < 2 ^ 63) }
@@ -124,24 +75,25 @@ pub fn difference(a: u64, b: u64) -> i64
     sub(wide(a), wide(b))
 }
 
-// U more than the cosine in the quarter k, from v and y. The odd part is the rounded v*h / U, less h.
+// U more than the cosine at the quarter 0 or 1, by its parity.
+fn lifted<P: Parity>(v: u64, y: u64) -> u64
+    requires { InRange v × (pos y ≡ y_of (pos v -ℤ pos U)) × (y ≤ y_limit) }
+    ensures { (pos result ≡ pos U +ℤ P.part (pos v -ℤ pos U)) × (result ≤ 2 * U) }
+{
+    P::lift(v, horner::<P>(y))
+}
+
+// U more than the cosine in the quarter k, from v and y. Two quarters on, the cosine has the other sign.
 fn biased_cosine(k: u64, v: u64, y: u64) -> u64
     requires { (k < 4) × InRange v × (pos y ≡ y_of (pos v -ℤ pos U)) × (y ≤ y_limit) }
     ensures { (pos result ≡ pos U +ℤ cosine_by neg_ℤ k (even_part (pos v -ℤ pos U)) (odd_part (pos v -ℤ pos U))) × (result ≤ 2 * U) }
 {
-    if k % 2 == 0 {
-        let e = horner_evens(y);
-        if k == 0 {
-            return U + e;
-        }
-        return U - e;
-    }
-    let h = horner_odds(y);
-    let o = (v * h + HALF_UNIT) / U;
-    if k == 1 {
-        return U + h - o;
-    }
-    U + o - h
+    let c = if k % 2 == 0 {
+        lifted::<Even>(v, y)
+    } else {
+        lifted::<Odd>(v, y)
+    };
+    if k < 2 { c } else { 2 * U - c }
 }
 
 // With no remainder by the turn.

@@ -1,2 +1,2 @@
 -- Laws of two values worked in step.
-mod Values
+mod Lanes

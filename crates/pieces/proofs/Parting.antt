@@ -11,7 +11,6 @@ use Rattle.arith.proofs.Cells.{Cell}
 use Rattle.units.specs.Units.{U, a_limit}
 use Rattle.cosine.specs.Cosine.{even_part, odd_part}
 use Rattle.cosine.specs.Machine.Parity.{even_value, odd_value, value_by_parity}
-use Rattle.cosine.specs.declared.term.Prepared.{Prepared}
 use Rattle.cosine.specs.declared.term.ReducedTerm.{ReducedTerm}
 use Rattle.limits.specs.declared.Term.{Term}
 use Rattle.packed.specs.Machine.Table.{term_at, terms_at}
@@ -101,9 +100,9 @@ pub record Partly (t : ℤ) (rows : List (List ℕ)) (from to : ℕ) (ea : List 
   pub many : from + (n.evens + n.odds) ≡ i
   pub short : to ≤ from + piece_limit
 
-pub partly_none : {p : Prepared} {rows : List (List ℕ)} {from to : ℕ} {ea : List ℤ} {ev : List ℕ} {oa : List ℤ} {ov : List ℕ}
-    → Piece p rows from to → Rooms ea ev oa ov
-    → Partly p.t rows from to ea ev oa ov (record { evens = 0; odds = 0 }) from
+pub partly_none : {t : ℤ} {rows : List (List ℕ)} {from to : ℕ} {ea : List ℤ} {ev : List ℕ} {oa : List ℤ} {ov : List ℕ}
+    → Piece rows from to → Rooms ea ev oa ov
+    → Partly t rows from to ea ev oa ov (record { evens = 0; odds = 0 }) from
 partly_none {ea} {ev} {oa} {ov} q h = record {
   x = pos 0;
   holding = holding_none ea ev oa ov h.evens_a h.evens_v h.odds_a h.odds_v;

@@ -6,8 +6,6 @@
 #![tactic(auto)]
 
 ghost use Rattle.std.specs.Prelude.{◌≡◌, ◌+◌, ◌-◌, ◌≤◌, ◌<◌};
-ghost use Rattle.cosine.specs.Machine.Parity.{even_value, odd_value};
-ghost use Rattle.cosine.specs.Machine.Prepared.{Ready};
 ghost use Rattle.units.specs.Units.{series_limit};
 ghost use Rattle.packed.specs.Machine.Table.{Sized, term_at, terms_at};
 ghost use Rattle.limits.specs.Allowed.{TermFits, BlockFits};
@@ -15,10 +13,11 @@ ghost use Rattle.pieces.specs.Sums.{block_sum};
 ghost use Rattle.pieces.specs.Machine.Parted.{piece_limit, room, half_sum, WorkedFor, Piece, Rooms, PutInBoth, Half, Closed, Parted};
 
 use arith::signed::add;
-use cosine::term::{Prepared, ReducedTerm, reduced_term};
+use cosine::parity::{Even, Odd, Parity};
+use cosine::term::{Prepared, ReducedTerm};
 use packed::table::Table;
 use packed_numbers::unfold_number;
-use pairs::{Pair, even_values, odd_values};
+use pairs::{Pair, values};
 use units::U;
 
 // The terms of a piece are at most so many; a table has one place more.
@@ -62,11 +61,11 @@ fn put_term(
 
 // The term at place i of the table, with its angle worked out.
 fn worked_at(p: Prepared, table: &Table, i: usize) -> ReducedTerm
-    requires { Ready p × Sized table.now × (i < series_limit) × TermFits (term_at table.now i) }
+    requires { Sized table.now × (i < series_limit) × TermFits (term_at table.now i) }
     ensures { WorkedFor p.t (term_at table.now i) result }
 {
     let row = table[i];
-    reduced_term(p, unfold_number(row[0]), row[1], unfold_number(row[2]))
+    p.reduced_term(unfold_number(row[0]), row[1], unfold_number(row[2]))
 }
 
 // Parts the terms from place from up to place to.
@@ -80,68 +79,40 @@ fn part_terms(
     oa: &mut [i64; ROOM],
     ov: &mut [u64; ROOM],
 ) -> Counts
-    requires { Piece p table.now from to × Rooms ea.old ev.old oa.old ov.old }
+    requires { Piece table.now from to × Rooms ea.old ev.old oa.old ov.old }
     ensures { Parted p.t (terms_at table.now from (to - from)) ea.new ev.new oa.new ov.new result }
 {
     let mut n = Counts { evens: 0, odds: 0 };
-    let mut i = from;
-    while i < to {
+    for i in from..to {
         n = put_term(worked_at(p, table, i), n, ea, ev, oa, ov);
-        i = i + 1;
     }
     let none = ReducedTerm { a: 0, v: U, odd: 0 };
     put_term(none, n, ea, ev, oa, ov);
     n
 }
 
-// The sum of the even table with the two terms from place i.
-fn even_two(ea: &[i64; ROOM], ev: &[u64; ROOM], i: usize, sum: i64) -> i64
-    requires { Half even_value ea.now ev.now (i + 2) × (sum ≡ half_sum even_value ea.now ev.now i) }
-    ensures { result ≡ half_sum even_value ea.now ev.now (i + 2) }
+// The sum of a table with the two terms from place i.
+fn two_more<P: Parity>(a: &[i64; ROOM], v: &[u64; ROOM], i: usize, sum: i64) -> i64
+    requires { Half P.value a.now v.now (i + 2) × (sum ≡ half_sum P.value a.now v.now i) }
+    ensures { result ≡ half_sum P.value a.now v.now (i + 2) }
 {
     let v = Pair {
-        one: ev[i],
-        two: ev[i + 1],
+        one: v[i],
+        two: v[i + 1],
     };
-    add(sum, even_values(ea[i], ea[i + 1], v))
+    add(sum, values::<P>(a[i], a[i + 1], v))
 }
 
-// The sum of the even table.
-fn sum_evens(ea: &[i64; ROOM], ev: &[u64; ROOM], n: usize) -> i64
-    requires { Closed even_value ea.now ev.now n }
-    ensures { result ≡ half_sum even_value ea.now ev.now n }
+// The sum of a table.
+fn sum_half<P: Parity>(a: &[i64; ROOM], v: &[u64; ROOM], n: usize) -> i64
+    requires { Closed P.value a.now v.now n }
+    ensures { result ≡ half_sum P.value a.now v.now n }
 {
     let mut sum: i64 = 0;
     let mut i = 0;
     while i < n {
-        sum = even_two(ea, ev, i, sum);
-        i = i + 2;
-    }
-    sum
-}
-
-// The sum of the odd table with the two terms from place i.
-fn odd_two(oa: &[i64; ROOM], ov: &[u64; ROOM], i: usize, sum: i64) -> i64
-    requires { Half odd_value oa.now ov.now (i + 2) × (sum ≡ half_sum odd_value oa.now ov.now i) }
-    ensures { result ≡ half_sum odd_value oa.now ov.now (i + 2) }
-{
-    let v = Pair {
-        one: ov[i],
-        two: ov[i + 1],
-    };
-    add(sum, odd_values(oa[i], oa[i + 1], v))
-}
-
-// The sum of the odd table.
-fn sum_odds(oa: &[i64; ROOM], ov: &[u64; ROOM], n: usize) -> i64
-    requires { Closed odd_value oa.now ov.now n }
-    ensures { result ≡ half_sum odd_value oa.now ov.now n }
-{
-    let mut sum: i64 = 0;
-    let mut i = 0;
-    while i < n {
-        sum = odd_two(oa, ov, i, sum);
-        i = i + 2;
+        sum = two_more::<P>(a, v, i, sum);
+        i += 2;
     }
     sum
 }
@@ -157,13 +128,13 @@ fn sum_piece(
     oa: &mut [i64; ROOM],
     ov: &mut [u64; ROOM],
 ) -> i64
-    requires { Piece p table.now from to × Rooms ea.old ev.old oa.old ov.old }
+    requires { Piece table.now from to × Rooms ea.old ev.old oa.old ov.old }
     ensures { (result ≡ block_sum p.t (terms_at table.now from (to - from)))
         × Rooms ea.new ev.new oa.new ov.new }
 {
     let n = part_terms(p, table, from, to, ea, ev, oa, ov);
-    let even = sum_evens(ea, ev, n.evens);
-    let odd = sum_odds(oa, ov, n.odds);
+    let even = sum_half::<Even>(ea, ev, n.evens);
+    let odd = sum_half::<Odd>(oa, ov, n.odds);
     add(even, odd)
 }
 
@@ -180,7 +151,7 @@ fn piece_end(i: usize, to: usize) -> usize
 
 // The sum of the terms from place from up to place to.
 pub fn sum_terms(p: Prepared, table: &Table, from: usize, to: usize) -> i64
-    requires { Ready p × Sized table.now × (from ≤ to) × (to ≤ series_limit) × BlockFits (terms_at table.now from (to - from)) }
+    requires { Sized table.now × (from ≤ to) × (to ≤ series_limit) × BlockFits (terms_at table.now from (to - from)) }
     ensures { result ≡ block_sum p.t (terms_at table.now from (to - from)) }
 {
     let mut ea = [0i64; ROOM];

@@ -3,7 +3,6 @@ ghost use Rattle.std.specs.Prelude.{◌≡◌, true, [], ◌∷◌, ◌+◌, ◌
 ghost use Rattle.integers.specs.Division.{rounded};
 ghost use Rattle.units.specs.Units.{millennium, t_limit, wide_total, powers, block_count};
 ghost use Rattle.limits.specs.Wide.{reaches};
-ghost use Rattle.cosine.specs.Machine.Prepared.{Ready};
 ghost use Rattle.packed.specs.Machine.Table.{Sized, ends, table_blocks};
 ghost use Rattle.pieces.specs.Sums.{block_sum};
 ghost use Rattle.series.specs.Sums.{running_sum};
@@ -33,7 +32,7 @@ fn block_start(table: &Table, j: usize) -> u64
 // One power of the running sum: V becomes S + V t/T rounded, S the sum of block j. Before power 0, |V| is at most 1 + 4 + 16 + 64 + 256 totals of
 // a series that is good for the wide range; the 1 + 2 + 4 + 8 + 16 of any other series, within two millennia, are less.
 fn with_block(p: Prepared, table: &Table, j: usize, v: i64) -> i64
-    requires { Ready p × (nat_abs p.t ≤ t_limit) × Table table.now × (j < block_count) × (nat_abs v ≤ 341 * wide_total) }
+    requires { (nat_abs p.t ≤ t_limit) × Table table.now × (j < block_count) × (nat_abs v ≤ 341 * wide_total) }
     ensures { result ≡ block_sum p.t (get_or (table_blocks table.now) j []) +ℤ rounded (v *ℤ p.t) millennium }
 {
     let from = block_start(table, j);
@@ -45,14 +44,12 @@ fn with_block(p: Prepared, table: &Table, j: usize, v: i64) -> i64
 
 // V of the coordinate whose blocks begin with block first, at an instant at which the series may be asked.
 pub fn coordinate(p: Prepared, table: &Table, first: usize) -> i64
-    requires { Ready p × (nat_abs p.t ≤ t_limit) × Table table.now × (reaches (table_blocks table.now) p.t ≡ true) × (first ≤ 2 * powers) }
+    requires { (nat_abs p.t ≤ t_limit) × Table table.now × (reaches (table_blocks table.now) p.t ≡ true) × (first ≤ 2 * powers) }
     ensures { result ≡ running_sum p.t (take powers (drop first (table_blocks table.now))) }
 {
     let mut v: i64 = 0;
-    let mut k = COORDINATE_BLOCKS;
-    while 0 < k {
-        v = with_block(p, table, first + (k - 1), v);
-        k = k - 1;
+    for k in (0..COORDINATE_BLOCKS).rev() {
+        v = with_block(p, table, first + k, v);
     }
     v
 }

@@ -8,7 +8,7 @@ ghost use Rattle.series.specs.Sums.{coordinates as coordinates_of};
 ghost use Rattle.series.specs.Machine.Table.{Table, filled};
 
 use crate::sums::{COORDINATE_BLOCKS, coordinate};
-use cosine::term::prepare;
+use cosine::term::Prepared;
 use packed::Content;
 use packed::table::unpack;
 use units::{Coordinates, Instant, Refusal};
@@ -30,7 +30,7 @@ pub fn coordinates(table: &Table, t: Instant) -> Coordinates
     requires { (nat_abs t.ms ≤ t_limit) × Table table.now × (reaches (table_blocks table.now) t.ms ≡ true) }
     ensures { result ≡ coordinates_of t.ms (table_blocks table.now) }
 {
-    let p = prepare(t);
+    let p = Prepared::at(t);
     let longitude = coordinate(p, table, 0);
     let latitude = coordinate(p, table, COORDINATE_BLOCKS);
     let radius = coordinate(p, table, 2 * COORDINATE_BLOCKS);

@@ -1,7 +1,7 @@
 -- What is worked out once for an instant, so that a term's angle needs no wide product. Held by the code of `term` and `parts`; no rule speaks of it.
 use Rattle.std.specs.Prelude.{ℕ, ◌+◌, ◌*◌, ◌/◌, ◌<◌, ℤ, pos, ◌+ℤ◌, ◌-ℤ◌, ◌*ℤ◌, ◌≡◌}
 use Rattle.units.specs.Units.{millennium, turn, angle_per_part, c_limit}
-use Rattle.cosine.specs.declared.term.Prepared.{Prepared}
+use Rattle.cosine.specs.declared.term.ByCuts.{ByCuts}
 use Rattle.cosine.specs.declared.term.ByTick.{ByTick}
 
 -- A term with c = 1 turns by one unit of angle in so many milliseconds: c t / tick is angle_per_part c t / T.
@@ -62,16 +62,16 @@ pub record Times (g q r : ℕ) (z : ByTick) : Type 0 where
   pub r_in : z.r < tick
 
 -- t times each place of a number in that base, and half a tick less t times what c is raised by; each quotient is cut h + l.
-pub record Ready (p : Prepared) : Type 0 where
-  pub place_0 : Residue p.t (cut * p.h0 + p.l0) p.r0
-  pub place_1 : Residue (pos base *ℤ p.t) (cut * p.h1 + p.l1) p.r1
-  pub rest : Residue (pos half_tick -ℤ pos c_bias *ℤ p.t) (cut * p.h2 + p.l2) p.r2
-  pub h0_in : p.h0 < cuts
-  pub h1_in : p.h1 < cuts
-  pub h2_in : p.h2 < cuts
-  pub l0_in : p.l0 < cut
-  pub l1_in : p.l1 < cut
-  pub l2_in : p.l2 < cut
-  pub r0_in : p.r0 < tick
-  pub r1_in : p.r1 < tick
-  pub r2_in : p.r2 < 2 * tick
+pub record Ready (t : ℤ) (p₀ p₁ p₂ : ByCuts) : Type 0 where
+  pub place_0 : Residue t (cut * p₀.h + p₀.l) p₀.r
+  pub place_1 : Residue (pos base *ℤ t) (cut * p₁.h + p₁.l) p₁.r
+  pub rest : Residue (pos half_tick -ℤ pos c_bias *ℤ t) (cut * p₂.h + p₂.l) p₂.r
+  pub h0_in : p₀.h < cuts
+  pub h1_in : p₁.h < cuts
+  pub h2_in : p₂.h < cuts
+  pub l0_in : p₀.l < cut
+  pub l1_in : p₁.l < cut
+  pub l2_in : p₂.l < cut
+  pub r0_in : p₀.r < tick
+  pub r1_in : p₁.r < tick
+  pub r2_in : p₂.r < 2 * tick

@@ -10,16 +10,10 @@ loop-i-init c = partly_none c.requires.0 c.requires.1
 pub worked_at-requires : goal.worked_at-requires
 worked_at-requires c =
     let q = c.requires.0 in
-    (q.ready, q.sized, (let n = q.space in omega arith), term_fits c.loop-i.invariant.summed c.loop-i-test.true)
+    (q.sized, (let n = q.space in omega arith), term_fits c.loop-i.invariant.summed c.loop-i-test.true)
 
 pub put_term-n-requires : goal.put_term-n-requires
 put_term-n-requires c = (c.worked_at.ensures.parity, evens_free c.loop-i.invariant, odds_free c.loop-i.invariant)
-
-pub overflow_add-i : goal.overflow_add-i
-overflow_add-i c = omega arith
-
-pub loop-i-smaller : goal.loop-i-smaller
-loop-i-smaller c = omega arith
 
 pub loop-i-preserved : goal.loop-i-preserved
 loop-i-preserved c = partly_more c.loop-i.invariant c.loop-i-test.true c.worked_at.result c.worked_at.ensures c.put_term-n.ensures

@@ -8,7 +8,7 @@ use Rattle.pieces.proofs.Summing.{Summed, summed_none, piece_fits, sum_small, su
 use Rattle.pieces.proofs.sum_terms.Goals as goal
 
 pub loop-at-init : goal.loop-at-init
-loop-at-init c = (summed_none c.requires.2 c.requires.3 c.requires.4, record { evens_a = refl; evens_v = refl; odds_a = refl; odds_v = refl })
+loop-at-init c = (summed_none c.requires.1 c.requires.2 c.requires.3, record { evens_a = refl; evens_v = refl; odds_a = refl; odds_v = refl })
 
 pub piece_end-end-requires : goal.piece_end-end-requires
 piece_end-end-requires c = omega arith
@@ -17,10 +17,9 @@ pub sum_piece-requires : goal.sum_piece-requires
 sum_piece-requires c =
     let q = c.piece_end-end.ensures in (
       record {
-        ready = c.requires.0;
-        sized = c.requires.1;
+        sized = c.requires.0;
         order = omega arith;
-        space = (let r = c.requires.3 in omega arith);
+        space = (let r = c.requires.2 in omega arith);
         short = q.2;
         limits = piece_fits c.loop-at.invariant.0 c.piece_end-end.result (omega arith) q.1 q.2;
       },

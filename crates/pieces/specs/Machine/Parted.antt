@@ -3,8 +3,6 @@ use Rattle.std.specs.Prelude.{◌≡◌, List, ℕ, zero, suc, ◌+◌, ◌-◌,
 use Rattle.units.specs.Units.{a_limit, series_limit}
 use Rattle.cosine.specs.Terms.{term_value}
 use Rattle.cosine.specs.Machine.Parity.{even_value, odd_value, value_by_parity, InRange}
-use Rattle.cosine.specs.Machine.Prepared.{Ready}
-use Rattle.cosine.specs.declared.term.Prepared.{Prepared}
 use Rattle.cosine.specs.declared.term.ReducedTerm.{ReducedTerm}
 use Rattle.limits.specs.declared.Term.{Term}
 use Rattle.limits.specs.Allowed.{BlockFits}
@@ -19,9 +17,8 @@ piece_limit = 128
 abbrev pub room : ℕ
 room = piece_limit + 1
 
--- What is asked of the terms from place from up to place to of a term table, for them to be summed at a prepared instant.
-pub record Piece (p : Prepared) (rows : List (List ℕ)) (from to : ℕ) : Type 0 where
-  pub ready : Ready p
+-- What is asked of the terms from place from up to place to of a term table, for them to be summed.
+pub record Piece (rows : List (List ℕ)) (from to : ℕ) : Type 0 where
   pub sized : Sized rows
   pub order : from ≤ to
   pub space : to ≤ series_limit

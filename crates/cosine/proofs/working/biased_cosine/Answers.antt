@@ -1,34 +1,28 @@
 -- `cosine::working::biased_cosine` meets its contract. Assumes nothing.
 use native.Mathlib.Omega.{arith}
-use Rattle.cosine.proofs.NaturalSteps.{in_0, in_1, in_2, in_3, odd_small}
+use Rattle.cosine.proofs.NaturalSteps.{biased_as, biased_turned}
 use Rattle.cosine.proofs.working.biased_cosine.Goals as goal
+use Rattle.cosine.proofs.working.biased_cosine.Goals.{then-k-eq0, else-k-eq0}
 
-pub returns-then-k-eq0-2 : goal.returns-then-k-eq0-2
-returns-then-k-eq0-2 c = (in_0 c.args.k c.args.v c.args.y _ (omega arith) c.requires.2 c.horner_evens-e.ensures.0, omega arith)
+pub returns-then-k-lt2 : goal.returns-then-k-lt2
+returns-then-k-lt2 c = elim c.if-k-eq0.branch [
+  | then-k-eq0 w ↦ (biased_as c.args.k c.if-k-eq0.c _ _ c.if-k-lt2.true (λ _. rw w.c-is w.lifted-c.ensures.0) (λ n. absurd (n w.if-k-eq0.true)), omega arith)
+  | else-k-eq0 w ↦ (
+    biased_as c.args.k c.if-k-eq0.c _ _ c.if-k-lt2.true (λ e. absurd (w.if-k-eq0.false e)) (λ _. rw w.c-is w.lifted-c-else-k-eq0.ensures.0),
+    omega arith,
+  )
+]
 
-pub returns-then-k-eq0 : goal.returns-then-k-eq0
-returns-then-k-eq0 c = (
-  in_2 c.args.k c.args.v c.args.y _ (omega arith) c.requires.2 c.horner_evens-e.ensures.0 c.horner_evens-e.ensures.1,
-  omega arith,
-)
-
-pub overflow_mul-o : goal.overflow_mul-o
-overflow_mul-o c = omega (arith, odd_small _ c.horner_odds-h.result c.requires.1)
-
-pub overflow_add-o : goal.overflow_add-o
-overflow_add-o c = omega (arith, odd_small _ c.horner_odds-h.result c.requires.1)
-
-pub overflow_sub-result-then-k-eq1 : goal.overflow_sub-result-then-k-eq1
-overflow_sub-result-then-k-eq1 c = omega (arith, odd_small _ c.horner_odds-h.result c.requires.1)
-
-pub returns-then-k-eq1 : goal.returns-then-k-eq1
-returns-then-k-eq1 c = (in_1 c.args.k c.args.v c.args.y _ (omega arith) c.requires.2 c.horner_odds-h.ensures.0 (overflow_sub-result-then-k-eq1 c), omega arith)
-
-pub overflow_add-result-2 : goal.overflow_add-result-2
-overflow_add-result-2 c = omega (arith, odd_small _ c.horner_odds-h.result c.requires.1)
-
-pub returns : goal.returns
-returns c = (
-  in_3 c.args.k c.args.v c.args.y _ (omega arith) c.requires.2 c.horner_odds-h.ensures.0 c.horner_odds-h.ensures.1,
-  omega (arith, odd_small _ c.horner_odds-h.result c.requires.1),
-)
+pub returns-else-k-lt2 : goal.returns-else-k-lt2
+returns-else-k-lt2 c = elim c.if-k-eq0.branch [
+  | then-k-eq0 w ↦ (
+    biased_turned c.args.k c.if-k-eq0.c _ _ c.requires.0 c.if-k-lt2.false (omega arith) (λ _. rw w.c-is w.lifted-c.ensures.0)
+        (λ n. absurd (n w.if-k-eq0.true)),
+    omega arith,
+  )
+  | else-k-eq0 w ↦ (
+    biased_turned c.args.k c.if-k-eq0.c _ _ c.requires.0 c.if-k-lt2.false (omega arith) (λ e. absurd (w.if-k-eq0.false e))
+        (λ _. rw w.c-is w.lifted-c-else-k-eq0.ensures.0),
+    omega arith,
+  )
+]

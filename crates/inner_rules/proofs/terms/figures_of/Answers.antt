@@ -17,7 +17,7 @@ returns c =
     let a = c.args.a in
     let b = c.args.b in
     let k = c.args.c in
-    let t : c.prepare-p.result.t ≡ c.args.t = rw (back c.args.t c.ranges.t) at c.prepare-p.ensures.0 in (
+    let t : c.at-p.result.t ≡ c.args.t = rw (back c.args.t c.ranges.t) at c.at-p.ensures in (
       (rw (back k c.ranges.c) at c.angle-x.ensures.0) ∙ ap (term_angle b k) t,
       back c.value_of-value.result (ok c.value_of-value.type_inv) ∙ c.value_of-value.ensures
           ∙ (rw (back a c.ranges.a, back k c.ranges.c) at c.reduced_term-w.ensures.0) ∙ ap (term_value a b k) t,

@@ -10,11 +10,11 @@ use Rattle.inner_rules.proofs.terms.value_of.Goals as goal
 pub returns-then-w-eq0 : goal.returns-then-w-eq0
 returns-then-w-eq0 c =
     let a : Cell c.args.w.a ≡ c.args.w.a = search rules in
-    back c.even_values.result (ok c.even_values.type_inv)
-    ∙ even_alone c.args.w.odd c.args.w.a c.even_values.result c.args.w.v (omega arith) (rw a at c.even_values.ensures)
+    back c.values.result (ok c.values.type_inv)
+    ∙ even_alone c.args.w.odd c.args.w.a c.values.result c.args.w.v (omega arith) (rw a at c.values.ensures)
 
 pub returns : goal.returns
 returns c =
     let a : Cell c.args.w.a ≡ c.args.w.a = search rules in
-    back c.odd_values.result (ok c.odd_values.type_inv)
-    ∙ odd_alone c.args.w.odd c.args.w.a c.odd_values.result c.args.w.v (λ e. omega (arith, e)) (rw a at c.odd_values.ensures)
+    back c.values-2.result (ok c.values-2.type_inv)
+    ∙ odd_alone c.args.w.odd c.args.w.a c.values-2.result c.args.w.v (λ e. omega (arith, e)) (rw a at c.values-2.ensures)

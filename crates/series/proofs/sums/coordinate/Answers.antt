@@ -19,38 +19,28 @@ enough_blocks h l = let n = h.allowed.eighteen in omega arith
 
 pub loop-k-init : goal.loop-k-init
 loop-k-init c =
-    let enough = enough_blocks c.requires.2 c.requires.4 in
+    let enough = enough_blocks c.requires.1 c.requires.3 in
     running_start c.args.p.t (table_blocks c.args.table.now) c.args.first enough
 
-pub overflow_sub-k : goal.overflow_sub-k
-overflow_sub-k c = omega arith
-
 pub overflow_add-first : goal.overflow_add-first
-overflow_add-first c = let f = c.loop-k.invariant.few in let l = c.requires.4 in omega arith
+overflow_add-first c = let f = c.loop-k.invariant.few in let l = c.requires.3 in omega arith
 
 pub with_block-v-requires : goal.with_block-v-requires
 with_block-v-requires c =
-    let enough = enough_blocks c.requires.2 c.requires.4 in
+    let enough = enough_blocks c.requires.1 c.requires.3 in
     let f = c.loop-k.invariant.few in
-    let l = c.requires.4 in (
+    let l = c.requires.3 in (
       c.requires.0,
       c.requires.1,
-      c.requires.2,
       omega arith,
       running_within c.args.p.t (table_blocks c.args.table.now) c.args.first enough
-          (in_reach c.args.p.t (table_blocks c.args.table.now) c.requires.2.allowed c.requires.1 c.requires.3)
+          (in_reach c.args.p.t (table_blocks c.args.table.now) c.requires.1.allowed c.requires.0 c.requires.2)
           _ c.loop-k.k c.loop-k-test.true c.loop-k.invariant,
     )
 
-pub overflow_sub-k-in-loop-k : goal.overflow_sub-k-in-loop-k
-overflow_sub-k-in-loop-k c = omega arith
-
-pub loop-k-smaller : goal.loop-k-smaller
-loop-k-smaller c = omega arith
-
 pub loop-k-preserved : goal.loop-k-preserved
 loop-k-preserved c =
-    let enough = enough_blocks c.requires.2 c.requires.4 in
+    let enough = enough_blocks c.requires.1 c.requires.3 in
     let bs = table_blocks c.args.table.now in
     subst (λ (z : ℤ). Running c.args.p.t bs c.args.first z (c.loop-k.k - 1))
     (sym (back c.with_block-v.result (ok c.with_block-v.type_inv)))
@@ -59,6 +49,6 @@ loop-k-preserved c =
 
 pub returns : goal.returns
 returns c =
-    let enough = enough_blocks c.requires.2 c.requires.4 in
+    let enough = enough_blocks c.requires.1 c.requires.3 in
     running_whole c.args.p.t (table_blocks c.args.table.now) c.args.first enough
     _ c.loop-k.k c.loop-k.invariant c.loop-k-test.false

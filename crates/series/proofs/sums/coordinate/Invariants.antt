@@ -5,6 +5,3 @@ use Rattle.series.proofs.sums.coordinate.Given as goal
 
 abbrev pub invariant-loop-k : goal.invariant-loop-k
 invariant-loop-k l = Running l.p.t (table_blocks l.table) l.first l.v l.k
-
-abbrev pub decreases-loop-k : goal.decreases-loop-k
-decreases-loop-k l = l.k

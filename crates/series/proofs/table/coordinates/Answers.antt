@@ -32,23 +32,23 @@ asked bs e h = rw e h
 
 pub coordinate-longitude-requires : goal.coordinate-longitude-requires
 coordinate-longitude-requires c =
-    let e = c.prepare-p.ensures.0 in
-    (c.prepare-p.ensures.1, in_time e c.requires.0, c.requires.1, asked _ e c.requires.2, search rules)
+    let e = c.at-p.ensures in
+    (in_time e c.requires.0, c.requires.1, asked _ e c.requires.2, search rules)
 
 pub coordinate-latitude-requires : goal.coordinate-latitude-requires
 coordinate-latitude-requires c =
-    let e = c.prepare-p.ensures.0 in
-    (c.prepare-p.ensures.1, in_time e c.requires.0, c.requires.1, asked _ e c.requires.2, search rules)
+    let e = c.at-p.ensures in
+    (in_time e c.requires.0, c.requires.1, asked _ e c.requires.2, search rules)
 
 pub coordinate-radius-requires : goal.coordinate-radius-requires
 coordinate-radius-requires c =
-    let e = c.prepare-p.ensures.0 in
-    (c.prepare-p.ensures.1, in_time e c.requires.0, c.requires.1, asked _ e c.requires.2, search rules)
+    let e = c.at-p.ensures in
+    (in_time e c.requires.0, c.requires.1, asked _ e c.requires.2, search rules)
 
 pub returns : goal.returns
 unfolding coordinates longitude_blocks latitude_blocks radius_blocks
 returns c =
-    let e = c.prepare-p.ensures.0 in
+    let e = c.at-p.ensures in
     three
     (at_instant _ _ _ _ (ok c.coordinate-longitude.type_inv) e c.coordinate-longitude.ensures)
     (at_instant _ _ _ _ (ok c.coordinate-latitude.type_inv) e c.coordinate-latitude.ensures)

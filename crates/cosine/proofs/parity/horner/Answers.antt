@@ -1,0 +1,12 @@
+-- `cosine::parity::horner` meets its contract: h is the series of the divisors passed. Assumes nothing.
+use lib.IntN.{pos}
+use native.Mathlib.Omega.{arith}
+use Rattle.cosine.proofs.NaturalSteps.{series_last, series_more}
+use Rattle.cosine.proofs.parity.horner.Goals as goal
+
+pub loop-k-init : goal.loop-k-init
+loop-k-init g c = (series_last (pos c.args.y) c.DIVISORS-divisors.result 5 (omega arith) _ c.first-h.ensures.0, omega arith)
+
+pub loop-k-preserved : goal.loop-k-preserved
+loop-k-preserved g c =
+    (series_more (pos c.args.y) c.DIVISORS-divisors.result c.loop-k.k c.loop-k-test.true (omega arith) _ _ c.loop-k.invariant.0 c.step-h.ensures.0, omega arith)
