@@ -17,7 +17,6 @@ use Rattle.integers.proofs.Rounding.{rounded_scale}
 use Rattle.units.specs.Units.{U, quarter, angle_step}
 use Rattle.integers.specs.Division.{modulo}
 use Rattle.cosine.specs.Machine.Parity.{eighth, y_limit, InRange}
-use Rattle.cosine.proofs.Shifts.{sine_shift}
 use Rattle.cosine.specs.Cosine.{q_of, r_of, w_of, y_of, horner, even_part, odd_part, evens, odds, cosine_by, sine_by, working_cosine, working_sine}
 use Rattle.cosine.specs.Cosine.{cosine, sine}
 
@@ -208,18 +207,20 @@ odd_small v h r = mul-le-mul_right h r.high
 pub unbiased : (v : ℕ) (w : ℤ) → pos v ≡ pos U +ℤ w → pos v -ℤ pos U ≡ w
 unbiased v w e = ap (λ t. t -ℤ pos U) e ∙ ring! (w ∷ []) (search polys depth 60 fits 100000) tt
 
-quarter_back : (x q : ℕ) → pos q ≡ q_of quarter (pos x) → q % 4 ≡ modulo (q_of quarter (pos x)) 4
+pub quarter_back : (x q : ℕ) → pos q ≡ q_of quarter (pos x) → q % 4 ≡ modulo (q_of quarter (pos x)) 4
 unfolding modulo
 quarter_back x q e = ap (λ t. modulo t 4) e
 
+pub cosine_of : (x k v : ℕ) → k ≡ modulo (q_of quarter (pos x)) 4 → pos v ≡ pos U +ℤ w_of quarter angle_step (pos x)
+    → cosine_by neg_ℤ k (even_part (pos v -ℤ pos U)) (odd_part (pos v -ℤ pos U)) ≡ cosine (pos x)
+unfolding cosine working_cosine
+cosine_of x k v e f = ap₂ (λ k w. cosine_by neg_ℤ k (even_part w) (odd_part w)) e (unbiased v (w_of quarter angle_step (pos x)) f)
+
+pub sine_of : (x k v : ℕ) → k ≡ modulo (q_of quarter (pos x)) 4 → pos v ≡ pos U +ℤ w_of quarter angle_step (pos x)
+    → sine_by neg_ℤ k (even_part (pos v -ℤ pos U)) (odd_part (pos v -ℤ pos U)) ≡ sine (pos x)
+unfolding sine working_sine
+sine_of x k v e f = ap₂ (λ k w. sine_by neg_ℤ k (even_part w) (odd_part w)) e (unbiased v (w_of quarter angle_step (pos x)) f)
+
 pub cosine_from : (x q v : ℕ) → pos q ≡ q_of quarter (pos x) → pos v ≡ pos U +ℤ w_of quarter angle_step (pos x)
     → cosine_by neg_ℤ (q % 4) (even_part (pos v -ℤ pos U)) (odd_part (pos v -ℤ pos U)) ≡ cosine (pos x)
-unfolding cosine working_cosine
-cosine_from x q v e f = ap₂ (λ k w. cosine_by neg_ℤ k (even_part w) (odd_part w)) (quarter_back x q e) (unbiased v (w_of quarter angle_step (pos x)) f)
-
-pub sine_from : (x q v : ℕ) → pos q ≡ q_of quarter (pos x) → pos v ≡ pos U +ℤ w_of quarter angle_step (pos x)
-    → cosine_by neg_ℤ ((q % 4 + 3) % 4) (even_part (pos v -ℤ pos U)) (odd_part (pos v -ℤ pos U)) ≡ sine (pos x)
-unfolding sine working_sine
-sine_from x q v e f =
-    sine_shift neg_ℤ (q % 4) (omega arith) (even_part (pos v -ℤ pos U)) (odd_part (pos v -ℤ pos U))
-    ∙ ap₂ (λ k w. sine_by neg_ℤ k (even_part w) (odd_part w)) (quarter_back x q e) (unbiased v (w_of quarter angle_step (pos x)) f)
+cosine_from x q v e f = cosine_of x (q % 4) v (quarter_back x q e) f

@@ -1,9 +1,9 @@
 // The working cosine and sine of an angle that is not negative: RULES, "Working cosine and sums". What is public is for this crate and those above.
 // The working angle w is held as v = w + U, and a cosine as U more, so that everything up to the answer is a natural number.
 ghost use Rattle.std.specs.Prelude.{◌≡◌, ◌*◌, ◌<◌, ◌≤◌, ◌^◌, pos, neg_ℤ, ◌+ℤ◌, ◌-ℤ◌, ◌*ℤ◌};
-ghost use Rattle.integers.specs.Division.{rounded};
+ghost use Rattle.integers.specs.Division.{rounded, modulo};
 ghost use Rattle.units.specs.Units.{U, quarter, angle_step};
-ghost use Rattle.cosine.specs.Cosine.{q_of, w_of, y_of, even_part, odd_part, cosine_by, cosine, sine};
+ghost use Rattle.cosine.specs.Cosine.{q_of, w_of, y_of, even_part, odd_part, cosine_by, sine_by, cosine, sine};
 ghost use Rattle.cosine.specs.Machine.Parity.{InRange, y_limit, divisor_limit};
 
 use crate::parity::{Even, Odd, Parity, horner};
@@ -75,25 +75,65 @@ pub fn difference(a: u64, b: u64) -> i64
     sub(wide(a), wide(b))
 }
 
-// U more than the cosine at the quarter 0 or 1, by its parity.
-fn lifted<P: Parity>(v: u64, y: u64) -> u64
-    requires { InRange v × (pos y ≡ y_of (pos v -ℤ pos U)) × (y ≤ y_limit) }
-    ensures { (pos result ≡ pos U +ℤ P.part (pos v -ℤ pos U)) × (result ≤ 2 * U) }
-{
-    P::lift(v, horner::<P>(y))
+// An angle by its quarter k of the turn, and within the quarter by its working angle v and y.
+#[derive(Clone, Copy)]
+struct Reduced {
+    k: u64,
+    v: u64,
+    y: u64,
+    ghost k_in: { k < 4 },
+    ghost v_in: { InRange v },
+    ghost y_is: { pos y ≡ y_of (pos v -ℤ pos U) },
+    ghost y_in: { y ≤ y_limit },
 }
 
-// U more than the cosine in the quarter k, from v and y. Two quarters on, the cosine has the other sign.
-fn biased_cosine(k: u64, v: u64, y: u64) -> u64
-    requires { (k < 4) × InRange v × (pos y ≡ y_of (pos v -ℤ pos U)) × (y ≤ y_limit) }
-    ensures { (pos result ≡ pos U +ℤ cosine_by neg_ℤ k (even_part (pos v -ℤ pos U)) (odd_part (pos v -ℤ pos U))) × (result ≤ 2 * U) }
-{
-    let c = if k % 2 == 0 {
-        lifted::<Even>(v, y)
-    } else {
-        lifted::<Odd>(v, y)
-    };
-    if k < 2 { c } else { 2 * U - c }
+impl Reduced {
+    fn of(x: u64) -> Reduced
+        requires { x < 2 ^ 63 }
+        ensures { (result.k ≡ modulo (q_of quarter (pos x)) 4) × (pos result.v ≡ pos U +ℤ w_of quarter angle_step (pos x)) }
+    {
+        let q = quarters(x);
+        let v = biased_angle(x, q);
+        Reduced {
+            k: q % 4,
+            v,
+            y: square(v),
+        }
+    }
+
+    // U more than the cosine at the quarter 0 or 1, by its parity.
+    fn lifted<P: Parity>(self) -> u64
+        ensures { (pos result ≡ pos U +ℤ P.part (pos self.v -ℤ pos U)) × (result ≤ 2 * U) }
+    {
+        P::lift(self.v, horner::<P>(self.y))
+    }
+
+    // The cosine if the quarter were k. Two quarters on, it has the other sign.
+    fn cosine_in(self, k: u64) -> i64
+        requires { k < 4 }
+        ensures { result ≡ cosine_by neg_ℤ k (even_part (pos self.v -ℤ pos U)) (odd_part (pos self.v -ℤ pos U)) }
+    {
+        let c = if k % 2 == 0 {
+            self.lifted::<Even>()
+        } else {
+            self.lifted::<Odd>()
+        };
+        let turned = if k < 2 { c } else { 2 * U - c };
+        difference(turned, U)
+    }
+
+    fn cosine(self) -> i64
+        ensures { result ≡ cosine_by neg_ℤ self.k (even_part (pos self.v -ℤ pos U)) (odd_part (pos self.v -ℤ pos U)) }
+    {
+        self.cosine_in(self.k)
+    }
+
+    // The sine is the cosine three quarters on.
+    fn sine(self) -> i64
+        ensures { result ≡ sine_by neg_ℤ self.k (even_part (pos self.v -ℤ pos U)) (odd_part (pos self.v -ℤ pos U)) }
+    {
+        self.cosine_in((self.k + 3) % 4)
+    }
 }
 
 // With no remainder by the turn.
@@ -101,19 +141,14 @@ pub fn cosine_at(x: u64) -> i64
     requires { x < 2 ^ 63 }
     ensures { result ≡ cosine (pos x) }
 {
-    let q = quarters(x);
-    let v = biased_angle(x, q);
-    difference(biased_cosine(q % 4, v, square(v)), U)
+    Reduced::of(x).cosine()
 }
 
-// The sine is the cosine three quarters on.
 pub fn sine_at(x: u64) -> i64
     requires { x < 2 ^ 63 }
     ensures { result ≡ sine (pos x) }
 {
-    let q = quarters(x);
-    let v = biased_angle(x, q);
-    difference(biased_cosine((q % 4 + 3) % 4, v, square(v)), U)
+    Reduced::of(x).sine()
 }
 
 // Both, for the price of one reduction.
@@ -121,11 +156,9 @@ pub fn cosine_sine(x: u64) -> Trig
     requires { x < 2 ^ 63 }
     ensures { (result.cos ≡ cosine (pos x)) × (result.sin ≡ sine (pos x)) }
 {
-    let q = quarters(x);
-    let v = biased_angle(x, q);
-    let y = square(v);
+    let angle = Reduced::of(x);
     Trig {
-        cos: difference(biased_cosine(q % 4, v, y), U),
-        sin: difference(biased_cosine((q % 4 + 3) % 4, v, y), U),
+        cos: angle.cosine(),
+        sin: angle.sine(),
     }
 }

@@ -1,11 +1,9 @@
 -- `cosine::working::cosine_at` meets its contract. Assumes nothing.
 use mathlib.Core.Path.{◌∙◌}
 use Rattle.arith.proofs.Signs.{back, ok}
-use Rattle.cosine.proofs.NaturalSteps.{unbiased, cosine_from}
+use Rattle.cosine.proofs.NaturalSteps.{cosine_of}
 use Rattle.cosine.proofs.working.cosine_at.Goals as goal
 
 pub returns : goal.returns
 returns c =
-    back c.difference.result (ok c.difference.type_inv) ∙ c.difference.ensures ∙ unbiased c.biased_cosine.result _ c.biased_cosine.ensures.0
-    ∙ cosine_from c.args.x c.quarters-q.result c.biased_angle-v.result c.quarters-q.ensures
-    c.biased_angle-v.ensures.0
+    back c.cosine.result (ok c.cosine.type_inv) ∙ c.cosine.ensures ∙ cosine_of c.args.x c.of.result.k c.of.result.v c.of.ensures.0 c.of.ensures.1
