@@ -15,6 +15,7 @@ use Rattle.cosine.specs.declared.term.ReducedTerm.{ReducedTerm}
 use Rattle.limits.specs.declared.Term.{Term}
 use Rattle.packed.specs.Machine.Table.{term_at, terms_at}
 use Rattle.pieces.specs.declared.Counts.{Counts}
+use Rattle.pieces.specs.declared.Placed.{Placed}
 use Rattle.pieces.specs.Sums.{block_sum}
 use Rattle.pieces.specs.Machine.Parted.{piece_limit, room, half_sum, WorkedFor, Piece, Rooms, PutInBoth, Small, Half, Parted}
 use Rattle.pieces.proofs.Adding.{cells_fit, cells_are}
@@ -23,52 +24,52 @@ use Rattle.pieces.proofs.Sizes.{no_share}
 use Rattle.pieces.proofs.Summing.{Summed, summed_none, summed_all, summed_term, term_fits, value_below}
 
 -- The tables hold values whose sum is x.
-pub record Holding (ea : List ℤ) (ev : List ℕ) (oa : List ℤ) (ov : List ℕ) (evens odds : ℕ) (x : ℤ) : Type 0 where
-  pub evens_half : Half even_value ea ev evens
-  pub odds_half : Half odd_value oa ov odds
-  pub sum : half_sum even_value ea ev evens +ℤ half_sum odd_value oa ov odds ≡ x
+pub record Holding (es os : List Placed) (evens odds : ℕ) (x : ℤ) : Type 0 where
+  pub evens_half : Half even_value es evens
+  pub odds_half : Half odd_value os odds
+  pub sum : half_sum even_value es evens +ℤ half_sum odd_value os odds ≡ x
 
-holding_none : (ea : List ℤ) (ev : List ℕ) (oa : List ℤ) (ov : List ℕ) → length ea ≡ room → length ev ≡ room → length oa ≡ room → length ov ≡ room →
-    Holding ea ev oa ov 0 0 (pos 0)
+holding_none : (es os : List Placed) → length es ≡ room → length os ≡ room →
+    Holding es os 0 0 (pos 0)
 unfolding half_sum
-holding_none ea ev oa ov h k l m = record { evens_half = half_none even_value ea ev h k; odds_half = half_none odd_value oa ov l m; sum = refl }
+holding_none es os h k = record { evens_half = half_none even_value es h; odds_half = half_none odd_value os k; sum = refl }
 
-module _ {ea : List ℤ} {ev : List ℕ} {oa : List ℤ} {ov : List ℕ} {evens odds : ℕ} {x : ℤ} (p : Holding ea ev oa ov evens odds x) (he : evens < room)
-    (ho : odds < room) (a : ℤ) (v : ℕ) where
+module _ {es os : List Placed} {evens odds : ℕ} {x : ℤ} (p : Holding es os evens odds x) (he : evens < room)
+    (ho : odds < room) (w : Placed) where
   abbrev E : ℤ
-  E = half_sum even_value ea ev evens
+  E = half_sum even_value es evens
 
   abbrev O : ℤ
-  O = half_sum odd_value oa ov odds
+  O = half_sum odd_value os odds
 
-  same_evens : half_sum even_value (set ea evens a) (set ev evens v) evens ≡ E
-  same_evens = sum_same even_value ea ev evens a v evens (omega arith)
+  same_evens : half_sum even_value (set es evens w) evens ≡ E
+  same_evens = sum_same even_value es evens w evens (omega arith)
 
-  same_odds : half_sum odd_value (set oa odds a) (set ov odds v) odds ≡ O
-  same_odds = sum_same odd_value oa ov odds a v odds (omega arith)
+  same_odds : half_sum odd_value (set os odds w) odds ≡ O
+  same_odds = sum_same odd_value os odds w odds (omega arith)
 
-  even_put : Small even_value a v → Holding (set ea evens a) (set ev evens v) (set oa odds a) (set ov odds v) (evens + 1) odds (x +ℤ even_value a v)
+  even_put : Small even_value w.a w.v → Holding (set es evens w) (set os odds w) (evens + 1) odds (x +ℤ even_value w.a w.v)
   even_put s = record {
-    evens_half = half_more even_value ea ev evens p.evens_half a v he s;
-    odds_half = half_same odd_value oa ov odds p.odds_half a v ho;
-    sum = ap₂ ◌+ℤ◌ (sum_stored even_value ea ev evens p.evens_half a v he) same_odds ∙ swapped E (even_value a v) O ∙
-        ap (λ (z : ℤ). z +ℤ even_value a v) p.sum;
+    evens_half = half_more even_value es evens p.evens_half w he s;
+    odds_half = half_same odd_value os odds p.odds_half w ho;
+    sum = ap₂ ◌+ℤ◌ (sum_stored even_value es evens p.evens_half w he) same_odds ∙ swapped E (even_value w.a w.v) O ∙
+        ap (λ (z : ℤ). z +ℤ even_value w.a w.v) p.sum;
   }
     where
       swapped : (x y z : ℤ) → x +ℤ y +ℤ z ≡ x +ℤ z +ℤ y
       swapped x y z = +ℤ_assoc x y z ∙ ap (λ (w : ℤ). x +ℤ w) (+ℤ_comm y z) ∙ sym (+ℤ_assoc x z y)
 
-  odd_put : Small odd_value a v → Holding (set ea evens a) (set ev evens v) (set oa odds a) (set ov odds v) evens (odds + 1) (x +ℤ odd_value a v)
+  odd_put : Small odd_value w.a w.v → Holding (set es evens w) (set os odds w) evens (odds + 1) (x +ℤ odd_value w.a w.v)
   odd_put s = record {
-    evens_half = half_same even_value ea ev evens p.evens_half a v he;
-    odds_half = half_more odd_value oa ov odds p.odds_half a v ho s;
-    sum = ap₂ ◌+ℤ◌ same_evens (sum_stored odd_value oa ov odds p.odds_half a v ho) ∙ sym (+ℤ_assoc E O (odd_value a v)) ∙
-        ap (λ (z : ℤ). z +ℤ odd_value a v) p.sum;
+    evens_half = half_same even_value es evens p.evens_half w he;
+    odds_half = half_more odd_value os odds p.odds_half w ho s;
+    sum = ap₂ ◌+ℤ◌ same_evens (sum_stored odd_value os odds p.odds_half w ho) ∙ sym (+ℤ_assoc E O (odd_value w.a w.v)) ∙
+        ap (λ (z : ℤ). z +ℤ odd_value w.a w.v) p.sum;
   }
 
   -- a term goes to the table of its parity
-  put : (odd : ℕ) → odd ≤ 1 → Small (value_by_parity odd) a v → Holding (set ea evens a) (set ev evens v) (set oa odds a) (set ov odds v)
-      (evens + (1 - odd)) (odds + odd) (x +ℤ value_by_parity odd a v)
+  put : (odd : ℕ) → odd ≤ 1 → Small (value_by_parity odd) w.a w.v → Holding (set es evens w) (set os odds w)
+      (evens + (1 - odd)) (odds + odd) (x +ℤ value_by_parity odd w.a w.v)
   unfolding value_by_parity
   put zero h s = let e : odds + 0 ≡ odds = omega arith in rw e (even_put s)
   put (suc k) h s = let e : evens + (1 - suc k) ≡ evens = omega arith in let f : odds + suc k ≡ odds + 1 = omega arith in rw (e, f) (odd_put s)
@@ -93,26 +94,26 @@ small_none f e = record {
 -- ---- the loop over a piece's terms
 
 -- x, the sum of the terms before place i, is what the tables hold
-pub record Partly (t : ℤ) (rows : List (List ℕ)) (from to : ℕ) (ea : List ℤ) (ev : List ℕ) (oa : List ℤ) (ov : List ℕ) (n : Counts) (i : ℕ) : Type 0 where
+pub record Partly (t : ℤ) (rows : List (List ℕ)) (from to : ℕ) (es os : List Placed) (n : Counts) (i : ℕ) : Type 0 where
   pub x : ℤ
-  pub holding : Holding ea ev oa ov n.evens n.odds x
+  pub holding : Holding es os n.evens n.odds x
   pub summed : Summed t rows from to x i
   pub many : from + (n.evens + n.odds) ≡ i
   pub short : to ≤ from + piece_limit
 
-pub partly_none : {t : ℤ} {rows : List (List ℕ)} {from to : ℕ} {ea : List ℤ} {ev : List ℕ} {oa : List ℤ} {ov : List ℕ}
-    → Piece rows from to → Rooms ea ev oa ov
-    → Partly t rows from to ea ev oa ov (record { evens = 0; odds = 0 }) from
-partly_none {ea} {ev} {oa} {ov} q h = record {
+pub partly_none : {t : ℤ} {rows : List (List ℕ)} {from to : ℕ} {es os : List Placed}
+    → Piece rows from to → Rooms es os
+    → Partly t rows from to es os (record { evens = 0; odds = 0 }) from
+partly_none {es} {os} q h = record {
   x = pos 0;
-  holding = holding_none ea ev oa ov h.evens_a h.evens_v h.odds_a h.odds_v;
+  holding = holding_none es os h.evens h.odds;
   summed = summed_none q.order q.space q.limits;
   many = omega arith;
   short = q.short;
 }
 
-module _ {t : ℤ} {rows : List (List ℕ)} {from to : ℕ} {ea : List ℤ} {ev : List ℕ} {oa : List ℤ} {ov : List ℕ} where
-  module _ {n : Counts} {i : ℕ} (p : Partly t rows from to ea ev oa ov n i) where
+module _ {t : ℤ} {rows : List (List ℕ)} {from to : ℕ} {es os : List Placed} where
+  module _ {n : Counts} {i : ℕ} (p : Partly t rows from to es os n i) where
     pub evens_free : n.evens < room
     evens_free = let m = p.many in let s = p.short in let w = p.summed.within in omega arith
 
@@ -127,41 +128,43 @@ module _ {t : ℤ} {rows : List (List ℕ)} {from to : ℕ} {ea : List ℤ} {ev 
         value_below = subst (λ (z : ℤ). nat_abs z < a_limit) (sym k.value) (value_below p.summed h);
       }
 
-      moved : Partly t rows from to (set ea n.evens w.a) (set ev n.evens w.v) (set oa n.odds w.a) (set ov n.odds w.v)
+      moved : Partly t rows from to (set es n.evens (record { a = w.a; v = w.v })) (set os n.odds (record { a = w.a; v = w.v }))
           (record { evens = n.evens + (1 - w.odd); odds = n.odds + w.odd }) (i + 1)
       moved = record {
         x = p.x +ℤ value_by_parity w.odd w.a w.v;
-        holding = put p.holding evens_free odds_free w.a w.v w.odd k.parity small;
+        holding = put p.holding evens_free odds_free (record { a = w.a; v = w.v }) w.odd k.parity small;
         summed = subst (λ (z : ℤ). Summed t rows from to (p.x +ℤ z) (i + 1)) (sym k.value) (summed_term p.summed h);
         many = let m = p.many in omega arith;
         short = p.short;
       }
 
-      pub partly_more : {ea' : List ℤ} {ev' : List ℕ} {oa' : List ℤ} {ov' : List ℕ} {r : Counts} → PutInBoth w n ea ev oa ov ea' ev' oa' ov' r →
-          Partly t rows from to ea' ev' oa' ov' r (i + 1)
-      partly_more q = rw (q.evens_a, q.evens_v, q.odds_a, q.odds_v, q.count) moved
+      pub partly_more : {es' os' : List Placed} {r : Counts} → PutInBoth w n es os es' os' r →
+          Partly t rows from to es' os' r (i + 1)
+      partly_more q = rw (q.evens, q.odds, q.count) moved
 
-    ended : to ≤ i → Parted t (terms_at rows from (to - from)) (set ea n.evens (pos 0)) (set ev n.evens U) (set oa n.odds (pos 0))
-        (set ov n.odds U) n
+    abbrev last : Placed
+    last = record { a = pos 0; v = U }
+
+    ended : to ≤ i → Parted t (terms_at rows from (to - from)) (set es n.evens last) (set os n.odds last) n
     ended h = record {
-      evens_closed = half_closed even_value ea ev n.evens p.holding.evens_half (pos 0) U evens_free (small_none even_value (even_none U)) (even_none U);
-      odds_closed = half_closed odd_value oa ov n.odds p.holding.odds_half (pos 0) U odds_free (small_none odd_value (odd_none U)) (odd_none U);
-      sum = ap₂ ◌+ℤ◌ (same_evens p.holding evens_free odds_free (pos 0) U) (same_odds p.holding evens_free odds_free (pos 0) U) ∙
+      evens_closed = half_closed even_value es n.evens p.holding.evens_half last evens_free (small_none even_value (even_none U)) (even_none U);
+      odds_closed = half_closed odd_value os n.odds p.holding.odds_half last odds_free (small_none odd_value (odd_none U)) (odd_none U);
+      sum = ap₂ ◌+ℤ◌ (same_evens p.holding evens_free odds_free last) (same_odds p.holding evens_free odds_free last) ∙
           p.holding.sum ∙ summed_all p.summed h;
     }
 
-    pub partly_all : to ≤ i → {ea' : List ℤ} {ev' : List ℕ} {oa' : List ℤ} {ov' : List ℕ} {r : Counts} →
-        PutInBoth (record { a = pos 0; v = U; odd = 0 }) n ea ev oa ov ea' ev' oa' ov' r → Parted t (terms_at rows from (to - from)) ea' ev' oa' ov' n
-    partly_all h q = rw (q.evens_a, q.evens_v, q.odds_a, q.odds_v) (ended h)
+    pub partly_all : to ≤ i → {es' os' : List Placed} {r : Counts} →
+        PutInBoth (record { a = pos 0; v = U; odd = 0 }) n es os es' os' r → Parted t (terms_at rows from (to - from)) es' os' n
+    partly_all h q = rw (q.evens, q.odds) (ended h)
 
 -- ---- the sum of both tables
 
-module _ {t : ℤ} {terms : List Term} {ea : List ℤ} {ev : List ℕ} {oa : List ℤ} {ov : List ℕ} {n : Counts} (p : Parted t terms ea ev oa ov n)
-    (even odd : ℤ) (he : even ≡ half_sum even_value ea ev n.evens) (ho : odd ≡ half_sum odd_value oa ov n.odds) where
+module _ {t : ℤ} {terms : List Term} {es os : List Placed} {n : Counts} (p : Parted t terms es os n)
+    (even odd : ℤ) (he : even ≡ half_sum even_value es n.evens) (ho : odd ≡ half_sum odd_value os n.odds) where
   halves_small : nat_abs even + nat_abs odd < 2 ^ 63
   halves_small =
-      let e = half_below even_value ea ev n.evens (half_less even_value ea ev n.evens (n.evens + 1) (omega arith) p.evens_closed.filled) even he in
-      let o = half_below odd_value oa ov n.odds (half_less odd_value oa ov n.odds (n.odds + 1) (omega arith) p.odds_closed.filled) odd ho in
+      let e = half_below even_value es n.evens (half_less even_value es n.evens (n.evens + 1) (omega arith) p.evens_closed.filled) even he in
+      let o = half_below odd_value os n.odds (half_less odd_value os n.odds (n.odds + 1) (omega arith) p.odds_closed.filled) odd ho in
       omega arith
 
   pub halves_fit : SFits w64 (Cell even +ℤ Cell odd)
@@ -171,11 +174,9 @@ module _ {t : ℤ} {terms : List Term} {ea : List ℤ} {ev : List ℕ} {oa : Lis
   halves_are r e = cells_are even odd halves_small r e ∙ ap₂ ◌+ℤ◌ he ho ∙ p.sum
 
 -- the tables keep their sizes
-pub rooms_kept : {t : ℤ} {terms : List Term} {ea : List ℤ} {ev : List ℕ} {oa : List ℤ} {ov : List ℕ} {n : Counts} → Parted t terms ea ev oa ov n
-    → Rooms ea ev oa ov
+pub rooms_kept : {t : ℤ} {terms : List Term} {es os : List Placed} {n : Counts} → Parted t terms es os n
+    → Rooms es os
 rooms_kept p = record {
-  evens_a = p.evens_closed.filled.size_a;
-  evens_v = p.evens_closed.filled.size_v;
-  odds_a = p.odds_closed.filled.size_a;
-  odds_v = p.odds_closed.filled.size_v;
+  evens = p.evens_closed.filled.size;
+  odds = p.odds_closed.filled.size;
 }

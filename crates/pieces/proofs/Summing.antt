@@ -1,7 +1,7 @@
 -- A block's sum in pieces: what is summed and what is left are the block's sum. Assumes nothing.
 use mathlib.Core.Path.{◌≡◌, refl, sym, ap, ◌∙◌, subst}
 use mathlib.Core.List.{List, [], ◌∷◌, ◌++◌}
-use Prim.Native.Nat.{ℕ, zero, suc, ◌+◌, ◌-◌, ◌^◌, ◌≤◌, ◌<◌}
+use Prim.Native.Nat.{ℕ, zero, suc, ◌+◌, ◌-◌, ◌^◌, min, ◌≤◌, ◌<◌}
 use native.Mathlib.Omega.{arith}
 use lib.IntN.{ℤ, pos, nat_abs, ◌+ℤ◌, +ℤ_assoc, +ℤ_idl, +ℤ_idr}
 use lib.ListN.{length}
@@ -154,3 +154,16 @@ module _ {t : ℤ} {rows : List (List ℕ)} {from to : ℕ} where
 
       no_more : (x : ℤ) → x +ℤ block_sum t (terms_at rows i (to - i)) ≡ x
       no_more x = ap (λ (xs : List Term). x +ℤ block_sum t xs) none_left ∙ unfold block_sum in +ℤ_idr x
+
+  -- a step may go past the end
+  pub summed_at : {sum : ℤ} {i : ℕ} → i < to → Summed t rows from to sum (min i to) → Summed t rows from to sum i
+  summed_at {sum} {i} h s = subst (λ (k : ℕ). Summed t rows from to sum k) (least i to h) s
+    where
+      least : (i n : ℕ) → i < n → min i n ≡ i
+      least i n h = omega arith
+
+  pub summed_past : {sum : ℤ} {i : ℕ} → to ≤ i → Summed t rows from to sum (min i to) → sum ≡ block_sum t (terms_at rows from (to - from))
+  summed_past {sum} {i} h s = summed_all s (least i to h)
+    where
+      least : (i n : ℕ) → n ≤ i → n ≤ min i n
+      least i n h = omega arith

@@ -1,8 +1,7 @@
 // The sum of a block of a term table, in pieces of up to 128 terms. For the crates above. The angles of a piece are worked out first, and each term is put
 // into one of two tables by the parity of its quarter; then each table is summed. So no jump hangs on a quarter, which is as good as
 // random from term to term. A table has one place more than a piece has terms: a term of amplitude 0 stands past the last one, for a
-// last pair to end with. Of a term, ea and ev (at an even quarter) or oa and ov (at an odd one) hold the a and the v of
-// cosine/specs/Machine/Parity.antt. For the crates above.
+// last pair to end with.
 #![tactic(auto)]
 
 ghost use Rattle.std.specs.Prelude.{◌≡◌, ◌+◌, ◌-◌, ◌≤◌, ◌<◌};
@@ -25,7 +24,16 @@ const PIECE_LIMIT: usize = 128;
 
 const ROOM: usize = PIECE_LIMIT + 1;
 
-// How many terms each table has.
+// A term whose angle is reduced, in the table of its parity: cosine/specs/Machine/Parity.antt says what its value is of a and v.
+#[derive(Clone, Copy)]
+pub struct Placed {
+    pub a: i64,
+    pub v: u64,
+}
+
+type Side = [Placed; ROOM];
+
+// How many terms each table has. Apart from the tables, so that the counts stay in registers.
 #[derive(Clone, Copy)]
 pub struct Counts {
     pub evens: usize,
@@ -33,29 +41,17 @@ pub struct Counts {
 }
 
 // Puts a term at the next free place of both tables; only the count of the one that it belongs to moves on.
-fn put_term(
-    w: ReducedTerm,
-    n: Counts,
-    ea: &mut [i64; ROOM],
-    ev: &mut [u64; ROOM],
-    oa: &mut [i64; ROOM],
-    ov: &mut [u64; ROOM],
-) -> Counts
+fn put_term(w: ReducedTerm, n: Counts, evens: &mut Side, odds: &mut Side) -> Counts
     requires { (w.odd ≤ 1) × (n.evens < room) × (n.odds < room) }
-    ensures { PutInBoth w n ea.old ev.old oa.old ov.old
-        ea.new ev.new oa.new ov.new result }
+    ensures { PutInBoth w n evens.old odds.old evens.new odds.new result }
 {
-    let evens = n.evens;
-    let odds = n.odds;
     let odd = w.odd as usize;
-    let a = w.a;
-    ea[evens] = a;
-    ev[evens] = w.v;
-    oa[odds] = a;
-    ov[odds] = w.v;
+    let placed = Placed { a: w.a, v: w.v };
+    evens[n.evens] = placed;
+    odds[n.odds] = placed;
     Counts {
-        evens: evens + (1 - odd),
-        odds: odds + odd,
+        evens: n.evens + (1 - odd),
+        odds: n.odds + odd,
     }
 }
 
@@ -74,45 +70,43 @@ fn part_terms(
     table: &Table,
     from: usize,
     to: usize,
-    ea: &mut [i64; ROOM],
-    ev: &mut [u64; ROOM],
-    oa: &mut [i64; ROOM],
-    ov: &mut [u64; ROOM],
+    evens: &mut Side,
+    odds: &mut Side,
 ) -> Counts
-    requires { Piece table.now from to × Rooms ea.old ev.old oa.old ov.old }
-    ensures { Parted p.t (terms_at table.now from (to - from)) ea.new ev.new oa.new ov.new result }
+    requires { Piece table.now from to × Rooms evens.old odds.old }
+    ensures { Parted p.t (terms_at table.now from (to - from)) evens.new odds.new result }
 {
     let mut n = Counts { evens: 0, odds: 0 };
     for i in from..to {
-        n = put_term(worked_at(p, table, i), n, ea, ev, oa, ov);
+        n = put_term(worked_at(p, table, i), n, evens, odds);
     }
     let none = ReducedTerm { a: 0, v: U, odd: 0 };
-    put_term(none, n, ea, ev, oa, ov);
+    put_term(none, n, evens, odds);
     n
 }
 
 // The sum of a table with the two terms from place i.
-fn two_more<P: Parity>(a: &[i64; ROOM], v: &[u64; ROOM], i: usize, sum: i64) -> i64
-    requires { Half P.value a.now v.now (i + 2) × (sum ≡ half_sum P.value a.now v.now i) }
-    ensures { result ≡ half_sum P.value a.now v.now (i + 2) }
+fn two_more<P: Parity>(half: &Side, i: usize, sum: i64) -> i64
+    requires { Half P.value half.now (i + 2) × (sum ≡ half_sum P.value half.now i) }
+    ensures { result ≡ half_sum P.value half.now (i + 2) }
 {
+    let one = half[i];
+    let two = half[i + 1];
     let v = Pair {
-        one: v[i],
-        two: v[i + 1],
+        one: one.v,
+        two: two.v,
     };
-    add(sum, values::<P>(a[i], a[i + 1], v))
+    add(sum, values::<P>(one.a, two.a, v))
 }
 
-// The sum of a table.
-fn sum_half<P: Parity>(a: &[i64; ROOM], v: &[u64; ROOM], n: usize) -> i64
-    requires { Closed P.value a.now v.now n }
-    ensures { result ≡ half_sum P.value a.now v.now n }
+// The sum of a table of n terms.
+fn sum_half<P: Parity>(half: &Side, n: usize) -> i64
+    requires { Closed P.value half.now n }
+    ensures { result ≡ half_sum P.value half.now n }
 {
     let mut sum: i64 = 0;
-    let mut i = 0;
-    while i < n {
-        sum = two_more::<P>(a, v, i, sum);
-        i += 2;
+    for i in (0..n).step_by(2) {
+        sum = two_more::<P>(half, i, sum);
     }
     sum
 }
@@ -123,30 +117,17 @@ fn sum_piece(
     table: &Table,
     from: usize,
     to: usize,
-    ea: &mut [i64; ROOM],
-    ev: &mut [u64; ROOM],
-    oa: &mut [i64; ROOM],
-    ov: &mut [u64; ROOM],
+    evens: &mut Side,
+    odds: &mut Side,
 ) -> i64
-    requires { Piece table.now from to × Rooms ea.old ev.old oa.old ov.old }
+    requires { Piece table.now from to × Rooms evens.old odds.old }
     ensures { (result ≡ block_sum p.t (terms_at table.now from (to - from)))
-        × Rooms ea.new ev.new oa.new ov.new }
+        × Rooms evens.new odds.new }
 {
-    let n = part_terms(p, table, from, to, ea, ev, oa, ov);
-    let even = sum_half::<Even>(ea, ev, n.evens);
-    let odd = sum_half::<Odd>(oa, ov, n.odds);
+    let n = part_terms(p, table, from, to, evens, odds);
+    let even = sum_half::<Even>(evens, n.evens);
+    let odd = sum_half::<Odd>(odds, n.odds);
     add(even, odd)
-}
-
-// Where the piece that starts at place i ends.
-fn piece_end(i: usize, to: usize) -> usize
-    requires { i < to }
-    ensures { (i < result) × (result ≤ to) × (result ≤ i + piece_limit) }
-{
-    if to - i <= PIECE_LIMIT {
-        return to;
-    }
-    i + PIECE_LIMIT
 }
 
 // The sum of the terms from place from up to place to.
@@ -154,19 +135,12 @@ pub fn sum_terms(p: Prepared, table: &Table, from: usize, to: usize) -> i64
     requires { Sized table.now × (from ≤ to) × (to ≤ series_limit) × BlockFits (terms_at table.now from (to - from)) }
     ensures { result ≡ block_sum p.t (terms_at table.now from (to - from)) }
 {
-    let mut ea = [0i64; ROOM];
-    let mut ev = [0u64; ROOM];
-    let mut oa = [0i64; ROOM];
-    let mut ov = [0u64; ROOM];
+    let mut evens = [Placed { a: 0, v: 0 }; ROOM];
+    let mut odds = [Placed { a: 0, v: 0 }; ROOM];
     let mut sum: i64 = 0;
-    let mut at = from;
-    while at < to {
-        let end = piece_end(at, to);
-        sum = add(
-            sum,
-            sum_piece(p, table, at, end, &mut ea, &mut ev, &mut oa, &mut ov),
-        );
-        at = end;
+    for at in (from..to).step_by(PIECE_LIMIT) {
+        let end = (at + PIECE_LIMIT).min(to);
+        sum = add(sum, sum_piece(p, table, at, end, &mut evens, &mut odds));
     }
     sum
 }

@@ -3,4 +3,4 @@ use Rattle.pieces.proofs.Parting.{Partly}
 use Rattle.pieces.proofs.part_terms.Given as goal
 
 abbrev pub invariant-loop-i : goal.invariant-loop-i
-invariant-loop-i l = Partly l.p.t l.table l.from l.to l.ea l.ev l.oa l.ov l.n l.i
+invariant-loop-i l = Partly l.p.t l.table l.from l.to l.evens l.odds l.n l.i

@@ -11,9 +11,7 @@ returns c =
     let s = c.args in
     let e : Cell s.w.a ≡ s.w.a = search rules in
     record {
-      evens_a = ap (λ (x : ℤ). set s.ea.now s.n.evens x) e;
-      evens_v = refl;
-      odds_a = ap (λ (x : ℤ). set s.oa.now s.n.odds x) e;
-      odds_v = refl;
+      evens = ap (λ (x : ℤ). set s.evens.now s.n.evens (record { a = x; v = s.w.v })) e;
+      odds = ap (λ (x : ℤ). set s.odds.now s.n.odds (record { a = x; v = s.w.v })) e;
       count = refl;
     }

@@ -13,10 +13,10 @@ loop-i-init g c = (omega arith, refl)
 
 pub two_more-sum-requires : goal.two_more-sum-requires
 two_more-sum-requires g c =
-    (half_less g.P.Parity.value c.args.a.now c.args.v.now (c.loop-i.i + 2) (c.args.n + 1) (omega arith) c.requires.filled, c.loop-i.invariant.1)
+    (half_less g.P.Parity.value c.args.half.now (c.loop-i.i + 2) (c.args.n + 1) (omega arith) c.requires.filled, c.loop-i.invariant.1)
 
-pub overflow_add-i : goal.overflow_add-i
-overflow_add-i g c = let f = c.requires.filled.few in omega arith
+pub overflow_step-i : goal.overflow_step-i
+overflow_step-i g c = let f = c.requires.filled.few in omega arith
 
 pub loop-i-smaller : goal.loop-i-smaller
 loop-i-smaller g c = omega arith
@@ -26,5 +26,5 @@ loop-i-preserved g c = (omega arith, back c.two_more-sum.result (ok c.two_more-s
 
 pub returns : goal.returns
 returns g c =
-    half_all g.P.Parity.value c.args.a.now c.args.v.now c.args.n c.requires _ c.loop-i.i c.loop-i.invariant.0
+    half_all g.P.Parity.value c.args.half.now c.args.n c.requires _ c.loop-i.i c.loop-i.invariant.0
     c.loop-i.invariant.1 c.loop-i-test.false

@@ -3,14 +3,14 @@ use Rattle.pieces.proofs.Filling.{two_asks, two_fit, two_are}
 use Rattle.pieces.proofs.two_more.Goals as goal
 
 pub values-requires : goal.values-requires
-values-requires g c = two_asks g.P.Parity.value c.args.a.now c.args.v.now c.args.i c.requires.0
+values-requires g c = two_asks g.P.Parity.value c.args.half.now c.args.i c.requires.0
 
 pub add-requires : goal.add-requires
 add-requires g c =
-    two_fit g.P.Parity.value c.args.a.now c.args.v.now c.args.i
+    two_fit g.P.Parity.value c.args.half.now c.args.i
     c.requires.0 c.args.sum c.values.result c.requires.1 c.values.ensures
 
 pub returns : goal.returns
 returns g c =
-    two_are g.P.Parity.value c.args.a.now c.args.v.now c.args.i c.requires.0 c.args.sum c.values.result c.requires.1
+    two_are g.P.Parity.value c.args.half.now c.args.i c.requires.0 c.args.sum c.values.result c.requires.1
     c.values.ensures c.add.result c.add.ensures

@@ -8,6 +8,7 @@ use Rattle.limits.specs.declared.Term.{Term}
 use Rattle.limits.specs.Allowed.{BlockFits}
 use Rattle.packed.specs.Machine.Table.{Sized, terms_at}
 use Rattle.pieces.specs.declared.Counts.{Counts}
+use Rattle.pieces.specs.declared.Placed.{Placed}
 use Rattle.pieces.specs.Sums.{block_sum}
 
 -- The terms of a piece are at most so many; a table has one place more.
@@ -26,11 +27,9 @@ pub record Piece (rows : List (List ℕ)) (from to : ℕ) : Type 0 where
   pub limits : BlockFits (terms_at rows from (to - from))
 
 -- The tables have room for a piece.
-pub record Rooms (ea : List ℤ) (ev : List ℕ) (oa : List ℤ) (ov : List ℕ) : Type 0 where
-  pub evens_a : length ea ≡ room
-  pub evens_v : length ev ≡ room
-  pub odds_a : length oa ≡ room
-  pub odds_v : length ov ≡ room
+pub record Rooms (es os : List Placed) : Type 0 where
+  pub evens : length es ≡ room
+  pub odds : length os ≡ room
 
 -- A term at the instant t with its angle worked out.
 pub record WorkedFor (t : ℤ) (x : Term) (w : ReducedTerm) : Type 0 where
@@ -39,19 +38,19 @@ pub record WorkedFor (t : ℤ) (x : Term) (w : ReducedTerm) : Type 0 where
   pub parity : w.odd ≤ 1
   pub offset : InRange w.v
 
+-- What is at place k of a table.
+abbrev pub placed_at : List Placed → ℕ → Placed
+placed_at xs k = get_or xs k (record { a = pos 0; v = 0 })
+
 -- The sum of the values f a v at the first n places.
-unfoldable pub half_sum : (ℤ → ℕ → ℤ) → List ℤ → List ℕ → ℕ → ℤ
-half_sum f la lv zero = pos 0
-half_sum f la lv (suc n) = half_sum f la lv n +ℤ f (get_or la n (pos 0)) (get_or lv n 0)
+unfoldable pub half_sum : (ℤ → ℕ → ℤ) → List Placed → ℕ → ℤ
+half_sum f xs zero = pos 0
+half_sum f xs (suc n) = half_sum f xs n +ℤ f (placed_at xs n).a (placed_at xs n).v
 
 -- A term is put at the next free place of both tables; only the count of the one that it belongs to moves on.
-pub record PutInBoth (w : ReducedTerm) (n : Counts)
-    (ea₀ : List ℤ) (ev₀ : List ℕ) (oa₀ : List ℤ) (ov₀ : List ℕ)
-    (ea : List ℤ) (ev : List ℕ) (oa : List ℤ) (ov : List ℕ) (r : Counts) : Type 0 where
-  pub evens_a : ea ≡ set ea₀ n.evens w.a
-  pub evens_v : ev ≡ set ev₀ n.evens w.v
-  pub odds_a : oa ≡ set oa₀ n.odds w.a
-  pub odds_v : ov ≡ set ov₀ n.odds w.v
+pub record PutInBoth (w : ReducedTerm) (n : Counts) (es₀ os₀ es os : List Placed) (r : Counts) : Type 0 where
+  pub evens : es ≡ set es₀ n.evens (record { a = w.a; v = w.v })
+  pub odds : os ≡ set os₀ n.odds (record { a = w.a; v = w.v })
   pub count : r ≡ record { evens = n.evens + (1 - w.odd); odds = n.odds + w.odd }
 
 -- a and v are within their limits, and so is the value.
@@ -61,19 +60,18 @@ pub record Small (f : ℤ → ℕ → ℤ) (a : ℤ) (v : ℕ) : Type 0 where
   pub value_below : nat_abs (f a v) < a_limit
 
 -- A table whose first n places are filled.
-pub record Half (f : ℤ → ℕ → ℤ) (la : List ℤ) (lv : List ℕ) (n : ℕ) : Type 0 where
-  pub size_a : length la ≡ room
-  pub size_v : length lv ≡ room
+pub record Half (f : ℤ → ℕ → ℤ) (xs : List Placed) (n : ℕ) : Type 0 where
+  pub size : length xs ≡ room
   pub few : n ≤ room
-  pub each : (k : ℕ) → k < n → Small f (get_or la k (pos 0)) (get_or lv k 0)
+  pub each : (k : ℕ) → k < n → Small f (placed_at xs k).a (placed_at xs k).v
 
 -- A table of n terms, with a term of value 0 past them.
-pub record Closed (f : ℤ → ℕ → ℤ) (la : List ℤ) (lv : List ℕ) (n : ℕ) : Type 0 where
-  pub filled : Half f la lv (n + 1)
-  pub past : half_sum f la lv (n + 1) ≡ half_sum f la lv n
+pub record Closed (f : ℤ → ℕ → ℤ) (xs : List Placed) (n : ℕ) : Type 0 where
+  pub filled : Half f xs (n + 1)
+  pub past : half_sum f xs (n + 1) ≡ half_sum f xs n
 
 -- The tables hold the terms' values.
-pub record Parted (t : ℤ) (terms : List Term) (ea : List ℤ) (ev : List ℕ) (oa : List ℤ) (ov : List ℕ) (n : Counts) : Type 0 where
-  pub evens_closed : Closed even_value ea ev n.evens
-  pub odds_closed : Closed odd_value oa ov n.odds
-  pub sum : half_sum even_value ea ev n.evens +ℤ half_sum odd_value oa ov n.odds ≡ block_sum t terms
+pub record Parted (t : ℤ) (terms : List Term) (es os : List Placed) (n : Counts) : Type 0 where
+  pub evens_closed : Closed even_value es n.evens
+  pub odds_closed : Closed odd_value os n.odds
+  pub sum : half_sum even_value es n.evens +ℤ half_sum odd_value os n.odds ≡ block_sum t terms
