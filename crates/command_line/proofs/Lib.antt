@@ -1,3 +1,2 @@
 -- Laws and theorems on what the programs share.
 pub mod Clocks
-pub mod Written

@@ -13,6 +13,7 @@ ghost use Rattle.command_line.specs.Machine.Arguments.{first_limit};
 use crate::answer::{LIST_MOST, put_list};
 use command_line::arguments::{Triple, number_argument, three_arguments};
 use command_line::files::{Both, first_bytes, read_both};
+use decimals::buffer::Buffer;
 use std::env::Env;
 use std::fs::Files;
 use std::io;
@@ -53,9 +54,9 @@ fn print_list(
     window: Triple,
     keep_out: i64,
 ) -> io::Result<()> {
-    let mut text = [0u8; LIST_MOST];
-    let n = put_list(planet, earth, date, window, keep_out, &mut text);
-    rt.write_all(&text[..n])
+    let mut text = Buffer::<LIST_MOST>::new();
+    put_list(planet, earth, date, window, keep_out, &mut text);
+    rt.write_all(text.text())
 }
 
 // Reads both files into the rooms lent for them.

@@ -1,7 +1,7 @@
 -- What the functions that write a place leave in the output are its lines. Assumes nothing.
 use mathlib.Core.Path.{◌≡◌, ap, ◌∙◌}
 use mathlib.Core.Bool.{Bool, true, false}
-use mathlib.Core.List.{List, [], ◌∷◌, ◌++◌}
+use mathlib.Core.List.{append_assoc, List, [], ◌∷◌, ◌++◌}
 use Prim.Native.Nat.{ℕ, ◌+◌, ◌/◌, ◌^◌, ◌≤◌}
 use native.Mathlib.Omega.{arith}
 use lib.Dec.{lit≤}
@@ -11,8 +11,7 @@ use Rattle.integers.specs.Signs.{negative}
 use Rattle.arith.proofs.Cells.{Cell, cell}
 use Rattle.decimals.specs.Texts.{text, line_feed}
 use Rattle.decimals.specs.Decimals.{most_digits, point, decimal, written, last_digits, fraction, signed_decimal}
-use Rattle.decimals.specs.Writing.{Put}
-use Rattle.decimals.proofs.Puts.{decimal_length, signed_length, last_length, put_both}
+use Rattle.decimals.proofs.Digits.{decimal_length, signed_length, last_length}
 use Rattle.place.specs.declared.Equatorial.{Equatorial}
 use Rattle.position_lines.specs.Lines.{degree_places, distance_places, line_text, degree_size, angle_text, distance_text, place_text}
 use Rattle.position_lines.specs.Lines.{name_most, numbers_most, line_most, place_most}
@@ -56,41 +55,31 @@ place_length p =
     let d = distance_length p.distance in
     simp length-append (omega arith)
 
-pub after_angle : (name : List ℕ) (k : ℤ) (at r : ℕ) → r ≡ at + length (angle_text name k) → length name ≤ name_most → r ≤ at + line_most
-after_angle name k at r e h = omega (arith, angle_length name k h)
+pub after_angle : (name : List ℕ) (k : ℤ) (old new : List ℕ) → new ≡ old ++ angle_text name k → length name ≤ name_most
+    → length new ≤ length old + line_most
+after_angle name k old new e h = rw (e, length-append old (angle_text name k)) (omega (arith, angle_length name k h))
 
 -- ---- what is written
-pub line_put : (name measure : List ℕ) (k : ℤ) (below : Bool) (places n at a b c d z : ℕ) (out o1 o2 o3 o4 o5 : List ℕ) → below ≡ negative k
-    → Put out at name a o1 → Put o1 a (fraction below places n) b o2 → Put o2 b measure c o3 → Put o3 c (signed_decimal k) d o4
-    → Put o4 d (line_feed ∷ []) z o5 → Put out at (line_text name k places n measure) z o5
+pub line_put : (name measure : List ℕ) (k : ℤ) (below : Bool) (places n : ℕ) (old o1 o2 o3 o4 o5 : List ℕ) → below ≡ negative k → o1 ≡ old ++ name
+    → o2 ≡ o1 ++ fraction below places n → o3 ≡ o2 ++ measure → o4 ≡ o3 ++ signed_decimal k → o5 ≡ o4 ++ line_feed ∷ []
+    → o5 ≡ old ++ line_text name k places n measure
 unfolding line_text
-line_put name measure k below places n at a b c d z out o1 o2 o3 o4 o5 e p1 p2 p3 p4 p5 =
-    let end : List ℕ = line_feed ∷ [] in
-    let s4 : List ℕ = signed_decimal k ++ end in
-    let s3 : List ℕ = measure ++ s4 in
-    let s2 : List ℕ = fraction (negative k) places n ++ s3 in
-    put_both name s2 at a z out o1 o5 p1
-    (put_both (fraction (negative k) places n) s3 a b z o1 o2 o5 (rw e at p2)
-    (put_both measure s4 b c z o2 o3 o5 p3
-    (put_both (signed_decimal k) end c d z o3 o4 o5 p4 p5)))
+line_put name measure k below places n old o1 o2 o3 o4 o5 e p1 p2 p3 p4 p5 = rw (p5, p4, p3, p2, p1, e) (simp append_assoc)
 
-pub angle_put : (name : List ℕ) (k : ℤ) (n at z : ℕ) (out result : List ℕ)
-    → Put out at (line_text name k degree_places n (text " degrees, ")) z result → n ≡ degree_size k → Put out at (angle_text name k) z result
+pub angle_put : (name : List ℕ) (k : ℤ) (n : ℕ) (old new : List ℕ) → new ≡ old ++ line_text name k degree_places n (text " degrees, ")
+    → n ≡ degree_size k → new ≡ old ++ angle_text name k
 unfolding angle_text
-angle_put name k n at z out result h e = rw e at h
+angle_put name k n old new h e = rw e at h
 
-pub distance_put : (d : ℤ) (m at z : ℕ) (out result : List ℕ) → m ≡ nat_abs d
-    → Put out at (line_text (text "distance ") d distance_places m (text " AU, ")) z result → Put out at (distance_text d) z result
+pub distance_put : (d : ℤ) (m : ℕ) (old new : List ℕ) → m ≡ nat_abs d
+    → new ≡ old ++ line_text (text "distance ") d distance_places m (text " AU, ") → new ≡ old ++ distance_text d
 unfolding distance_text
-distance_put d m at z out result e h = rw e at h
+distance_put d m old new e h = rw e at h
 
-pub place_put : (p : Equatorial) (a b z : ℕ) (out o1 o2 o3 : List ℕ) → Put out 0 (angle_text (text "right ascension ") p.right_ascension) a o1
-    → Put o1 a (angle_text (text "declination ") p.declination) b o2 → Put o2 b (distance_text p.distance) z o3 → Put out 0 (place_text p) z o3
+pub place_put : (p : Equatorial) (old o1 o2 o3 : List ℕ) → o1 ≡ old ++ angle_text (text "right ascension ") p.right_ascension
+    → o2 ≡ o1 ++ angle_text (text "declination ") p.declination → o3 ≡ o2 ++ distance_text p.distance → o3 ≡ old ++ place_text p
 unfolding place_text
-place_put p a b z out o1 o2 o3 p1 p2 p3 =
-    let l2 : List ℕ = angle_text (text "declination ") p.declination in
-    let l3 : List ℕ = distance_text p.distance in
-    put_both (angle_text (text "right ascension ") p.right_ascension) (l2 ++ l3) 0 a z out o1 o3 p1 (put_both l2 l3 a b z o1 o2 o3 p2 p3)
+place_put p old o1 o2 o3 p1 p2 p3 = rw (p3, p2, p1) (simp append_assoc)
 
 -- A size that is read back from a signed number's bits.
 pub small : (k : ℤ) (m : ℕ) → nat_abs k ≤ 2 ^ 52 → m ≡ nat_abs (Cell k) → m ≤ 2 ^ 52

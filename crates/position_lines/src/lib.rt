@@ -14,6 +14,7 @@ use crate::answer::put_position;
 use crate::lines::PLACE_MOST;
 use command_line::arguments::{Triple, three_arguments};
 use command_line::files::{Both, PACKED_ROOM, first_bytes, read_both};
+use decimals::buffer::Buffer;
 use std::env::Env;
 use std::fs::Files;
 use std::io;
@@ -45,9 +46,9 @@ fn print_position(
     date: Triple,
     clock: Triple,
 ) -> io::Result<()> {
-    let mut text = [0u8; PLACE_MOST];
-    let n = put_position(planet, earth, date, clock, &mut text);
-    rt.write_all(&text[..n])
+    let mut text = Buffer::<PLACE_MOST>::new();
+    put_position(planet, earth, date, clock, &mut text);
+    rt.write_all(text.text())
 }
 
 // Reads both files into the rooms lent for them.

@@ -6,9 +6,9 @@ use borrow.Author.Rules.{rules}
 use Rattle.list_lines.proofs.answer.put_list.Goals as goal
 
 pub returns : goal.returns
-returns c =
+returns g c =
     let a = c.args in
     let h : Cell a.window.first ≡ a.window.first = search rules in
     let m : Cell a.window.second ≡ a.window.second = search rules in
-    same_window _ _ _ _ _ _ _ _ _ _ _ _ _ c.put_at.ensures c.instant_of-from.ensures (rw (h, m) at c.minute_of_day-start.ensures) (search rules)
+    same_window _ _ _ _ _ _ _ _ _ _ _ _ c.put_at.ensures c.instant_of-from.ensures (rw (h, m) at c.minute_of_day-start.ensures) (search rules)
     (search rules)

@@ -1,33 +1,31 @@
 -- `put_clocks` meets its contract. Assumes nothing.
-use native.Mathlib.Omega.{arith}
+use Rattle.std.proofs.Common.{◌+◌, ◌%◌, arith, rules}
+use Rattle.std.proofs.lemmas.Grind.{common_steps}
 use Rattle.decimals.specs.Texts.{text}
-use Rattle.list_lines.proofs.WrittenRuns.{after_clock, same_minute, clocks_put}
+use Rattle.list_lines.proofs.WrittenRuns.{clock_length, same_minute, clocks_put}
 use Rattle.list_lines.proofs.lines.put_clocks.Goals as goal
 
-pub put_bytes-next-requires : goal.put_bytes-next-requires
-put_bytes-next-requires c = omega (arith, after_clock _ _ _ c.put_clock-to.ensures.0, c.put_clock-to.auto.out, c.requires)
+pub put-requires : goal.put-requires
+put-requires g c = (search rules, grind (arith, common_steps, clock_length ((c.args.start % 1440 + c.args.first % 1440) % 1440)))
 
-pub put_clock-feed-requires : goal.put_clock-feed-requires
-put_clock-feed-requires c =
-    let h = after_clock _ _ _ c.put_clock-to.ensures.0 in
-    (omega arith, omega (arith, c.put_bytes-next.ensures.0, h, c.put_bytes-next.auto.out, c.put_clock-to.auto.out, c.requires))
+pub put_clock-requires-2 : goal.put_clock-requires-2
+put_clock-requires-2 g c =
+    (search rules, (omega arith, grind (arith, common_steps, clock_length ((c.args.start % 1440 + c.args.first % 1440) % 1440))))
 
-pub put_bytes-requires : goal.put_bytes-requires
-put_bytes-requires c =
-    omega (
-      arith,
-      after_clock _ _ _ c.put_clock-feed.ensures.0,
-      c.put_bytes-next.ensures.0,
-      after_clock _ _ _ c.put_clock-to.ensures.0,
-      c.put_clock-feed.auto.out,
-      c.put_bytes-next.auto.out,
-      c.put_clock-to.auto.out,
-      c.requires,
-    )
+pub put-requires-2 : goal.put-requires-2
+put-requires-2 g c = (
+  search rules,
+  grind (
+    arith,
+    common_steps,
+    clock_length ((c.args.start % 1440 + c.args.first % 1440) % 1440),
+    clock_length ((c.args.start % 1440 + c.args.last % 1440) % 1440),
+  ),
+)
 
 pub returns : goal.returns
 unfolding text
-returns c =
+returns g c =
     let a = c.args in
-    clocks_put a.start a.first a.last _ _ _ _ _ _ _ _ _ _ _ _ (same_minute a.start a.first) (same_minute a.start a.last)
-    c.put_clock-to.ensures c.put_bytes-next.ensures c.put_clock-feed.ensures c.put_bytes.ensures
+    clocks_put a.start a.first a.last _ _ _ _ _ _ _ (same_minute a.start a.first) (same_minute a.start a.last) c.put_clock.ensures c.put.ensures
+    c.put_clock-2.ensures c.put-2.ensures

@@ -6,6 +6,6 @@ use Rattle.position_lines.proofs.lines.put_distance.Goals as goal
 
 pub returns : goal.returns
 unfolding text
-returns c =
+returns g c =
     let b = back _ c.ranges.d in
-    distance_put _ _ _ _ _ _ (rw b at c.abs-n.ensures) (rw b at c.put_line.ensures)
+    distance_put _ _ _ _ (rw b at c.abs.ensures) (rw b at c.put_line.ensures)

@@ -1,51 +1,25 @@
 -- `put_line` meets its contract. Assumes nothing.
-use native.Mathlib.Omega.{arith}
+use Rattle.std.proofs.Common.{arith, rules}
+use Rattle.std.proofs.lemmas.Grind.{common_steps}
 use Rattle.arith.proofs.Signs.{back}
-use Rattle.decimals.proofs.Puts.{signed_length}
+use Rattle.decimals.proofs.Digits.{signed_length}
 use Rattle.position_lines.proofs.WrittenLines.{fraction_length, line_put}
 use Rattle.position_lines.proofs.lines.put_line.Goals as goal
 
-pub put_bytes-whole-requires : goal.put_bytes-whole-requires
-put_bytes-whole-requires c =
-    let l = fraction_length c.is_neg-below.result c.args.places c.args.n in
-    omega (arith, l, c.put_fraction-after.ensures.0, c.put_bytes-number.ensures.0, c.requires.1, c.put_fraction-after.auto.out, c.put_bytes-number.auto.out)
+-- how much room is left after the fraction, the unit of measure and the whole number
+pub put-requires-2 : goal.put-requires-2
+put-requires-2 g c = (search rules, grind (arith, common_steps, fraction_length c.is_neg-below.result c.args.places c.args.n))
 
-pub put_signed-feed-requires : goal.put_signed-feed-requires
-put_signed-feed-requires c =
-    let l = fraction_length c.is_neg-below.result c.args.places c.args.n in
-    omega (
-      arith,
-      l,
-      c.put_fraction-after.ensures.0,
-      c.put_bytes-number.ensures.0,
-      c.requires.1,
-      c.put_bytes-whole.ensures.0,
-      c.put_bytes-whole.auto.out,
-      c.put_fraction-after.auto.out,
-      c.put_bytes-number.auto.out,
-    )
+pub put_signed-requires : goal.put_signed-requires
+put_signed-requires g c = (search rules, grind (arith, common_steps, fraction_length c.is_neg-below.result c.args.places c.args.n))
 
-pub put_bytes-requires : goal.put_bytes-requires
-put_bytes-requires c =
-    let l = fraction_length c.is_neg-below.result c.args.places c.args.n in
-    let e = rw (back _ c.ranges.k) at c.put_signed-feed.ensures.0 in
-    omega (
-      arith,
-      l,
-      c.put_fraction-after.ensures.0,
-      c.put_bytes-number.ensures.0,
-      c.requires.1,
-      c.put_bytes-whole.ensures.0,
-      e,
-      signed_length c.args.k,
-      c.put_signed-feed.auto.out,
-      c.put_bytes-whole.auto.out,
-      c.put_fraction-after.auto.out,
-      c.put_bytes-number.auto.out,
-    )
+pub put_byte-requires : goal.put_byte-requires
+put_byte-requires g c =
+    let w = rw (back _ c.ranges.k) at c.put_signed.ensures in
+    (search rules, grind (arith, common_steps, fraction_length c.is_neg-below.result c.args.places c.args.n, signed_length c.args.k, w))
 
 pub returns : goal.returns
-returns c =
+returns g c =
     let b = back _ c.ranges.k in
-    line_put _ _ _ _ _ _ _ _ _ _ _ _ _ _ _ _ _ _ (rw b at c.is_neg-below.ensures) c.put_bytes-number.ensures c.put_fraction-after.ensures
-    c.put_bytes-whole.ensures (rw b at c.put_signed-feed.ensures) c.put_bytes.ensures
+    line_put _ _ _ _ _ _ _ _ _ _ _ _ (rw b at c.is_neg-below.ensures) c.put.ensures c.put_fraction.ensures c.put-2.ensures
+    (rw b at c.put_signed.ensures) c.put_byte.ensures
