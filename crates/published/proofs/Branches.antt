@@ -2,13 +2,13 @@
 use mathlib.Core.Path.{◌≡◌, sym, ap, ◌∙◌}
 use mathlib.Core.Bool.{true, false}
 use mathlib.Core.List.{List, ◌++◌}
-use Prim.Native.Nat.{ℕ, ◌+◌, ◌-◌, ◌≤◌, ◌<◌}
+use Prim.Native.Nat.{ℕ, ◌+◌, ◌-◌, ◌≤◌}
 use native.Mathlib.Omega.{arith}
-use borrow.Author.Tests.{eq-eqb, ne_eqb, lt-ltb, le-ltb, leb-true}
+use borrow.Author.Tests.{eq-eqb, ne_eqb, le-ltb, leb-true}
 use lib.Dec.{eqb}
 use lib.ListN.{length}
 use Rattle.units.specs.Units.{block_count}
-use Rattle.units.specs.Refusals.{bad_byte, no_room, ended_early, byte_after_end, bad_number}
+use Rattle.units.specs.Refusals.{bad_byte, no_room, bad_number}
 use Rattle.std.proofs.Common.{Result, Ok, Err}
 use Rattle.packed_numbers.specs.declared.NoRoom.{NoRoom}
 use Rattle.packed_numbers.specs.Numbers.{encode}
@@ -20,13 +20,13 @@ use Rattle.series_lines.specs.Lexer.{spot_bad}
 use Rattle.series_lines.specs.Judge.{tally, term_on_line, term_line_refusal}
 use Rattle.series_lines.specs.Reader.{reading, last_offset, stopped, advanced, fits, put_bytes, wrote, wrote_out, uncounted}
 use Rattle.series_lines.specs.Machine.Writer.{put_bytes_answer}
-use Rattle.series_lines.proofs.Branches.{no_fit, fit, wrote_full, wrote_next}
+use Rattle.series_lines.proofs.Branches.{fit, wrote_full, wrote_next}
 use Rattle.published_records.specs.declared.Row.{Row}
 use Rattle.published_records.specs.Rows.{lex_row, whole_row}
 use Rattle.published_headings.specs.Judge.{block_of, record_refusal, skipped, zeros}
 use Rattle.published_headings.proofs.Zeros.{length_zeros}
 use Rattle.published.specs.declared.Published.{Published}
-use Rattle.published.specs.Reader.{at_heading, halted, further, other, heading_end, record_end, verdict, judged, complete, step, step_out}
+use Rattle.published.specs.Reader.{at_heading, further, other, heading_end, record_end, verdict, complete, step, step_out}
 use Rattle.published.specs.Reader.{inside, missing, finished, ended, ended_out}
 
 -- ---- A term record whose running number does not come next, or does: then it is judged as a line of a text.
@@ -74,61 +74,21 @@ pub verdict_early : (p : Published) → whole_row (at_heading p) p.row ≡ false
 unfolding verdict
 verdict_early p e = rw e
 
-pub verdict_heading : (p : Published) → whole_row (at_heading p) p.row ≡ true → at_heading p ≡ true → verdict p ≡ heading_end p
-unfolding verdict
-verdict_heading p e h = rw (e, h)
-
-pub verdict_record : (p : Published) → whole_row (at_heading p) p.row ≡ true → at_heading p ≡ false → verdict p ≡ record_end p
-unfolding verdict
-verdict_record p e h = rw (e, h)
-
 -- A byte that is no line feed.
-pub other_bad : (p q : Published) (row : Row) (byte : ℕ) → row ≡ lex_row (at_heading p) p.row byte → row.line.spot ≡ spot_bad
-    → q ≡ halted p bad_byte → q ≡ other p byte
-unfolding other
-other_bad p q row byte e h f = rw (← e, eq-eqb row.line.spot spot_bad h, f)
-
 pub other_good : (p : Published) (row : Row) (byte : ℕ) → row ≡ lex_row (at_heading p) p.row byte → (row.line.spot ≡ spot_bad → ⊥)
     → further p row ≡ other p byte
 unfolding other
 other_good p row byte e h = rw (← e, ne_eqb row.line.spot spot_bad h)
 
--- ---- One byte.
+-- ---- One byte with which the record goes on.
 
-module _ (p q : Published) (out after : List ℕ) (byte : ℕ) where
-  pub step_stopped : (p.reader.status ≡ reading → ⊥) → (p ≡ step p out byte) × (out ≡ step_out p out byte)
-  unfolding step step_out
-  step_stopped h = let t = ne_eqb p.reader.status reading h in (rw t, rw t)
-
-  module _ (going : p.reader.status ≡ reading) where
-    pub step_uncounted : p.reader.at ≡ last_offset → q ≡ halted p bad_byte → (q ≡ step p out byte) × (out ≡ step_out p out byte)
-    unfolding step step_out uncounted
-    step_uncounted h e =
-        let g = eq-eqb p.reader.status reading going in
-        let t = eq-eqb p.reader.at last_offset h in (rw (g, t, e), rw (g, t))
-
-    module _ (counts : p.reader.at ≡ last_offset → ⊥) where
-      pub step_after : complete p ≡ true → q ≡ halted p byte_after_end → (q ≡ step p out byte) × (out ≡ step_out p out byte)
-      unfolding step step_out uncounted
-      step_after h e =
-          let g = eq-eqb p.reader.status reading going in
-          let t = ne_eqb p.reader.at last_offset counts in (rw (g, t, h, e), rw (g, t, h))
-
-      module _ (more : complete p ≡ false) where
-        pub step_feed : byte ≡ feed → (q ≡ judged p out) × (after ≡ wrote_out p.reader out (verdict p))
-            → (q ≡ step p out byte) × (after ≡ step_out p out byte)
-        unfolding step step_out uncounted
-        step_feed h e =
-            let g = eq-eqb p.reader.status reading going in
-            let t = ne_eqb p.reader.at last_offset counts in
-            let v = eq-eqb byte feed h in (rw (g, t, more, v) e.0, rw (g, t, more, v) e.1)
-
-        pub step_other : (byte ≡ feed → ⊥) → q ≡ other p byte → (q ≡ step p out byte) × (out ≡ step_out p out byte)
-        unfolding step step_out uncounted
-        step_other h e =
-            let g = eq-eqb p.reader.status reading going in
-            let t = ne_eqb p.reader.at last_offset counts in
-            let v = ne_eqb byte feed h in (rw (g, t, more, v) e, rw (g, t, more, v))
+pub step_other : (p q : Published) (out : List ℕ) (byte : ℕ) → p.reader.status ≡ reading → (p.reader.at ≡ last_offset → ⊥) → complete p ≡ false
+    → (byte ≡ feed → ⊥) → q ≡ other p byte → (q ≡ step p out byte) × (out ≡ step_out p out byte)
+unfolding step step_out uncounted
+step_other p q out byte going counts more h e =
+    let g = eq-eqb p.reader.status reading going in
+    let t = ne_eqb p.reader.at last_offset counts in
+    let v = ne_eqb byte feed h in (rw (g, t, more, v) e, rw (g, t, more, v))
 
 -- ---- The end.
 
@@ -140,50 +100,21 @@ zeros_fit m at n out e =
     let h = leb-true (at + length (zeros m)) (length out) t.0 in
     omega (arith, h, length_zeros m)
 
-module _ (p q : Published) (out after : List ℕ) where
-  pub ended_stopped : (p.reader.status ≡ reading → ⊥) → (p ≡ ended p out) × (out ≡ ended_out p out)
-  unfolding ended ended_out
-  ended_stopped h = let t = ne_eqb p.reader.status reading h in (rw t, rw t)
+module _ (p q : Published) (out after : List ℕ) (going : p.reader.status ≡ reading) (between : p.row.column ≤ 1) (none_left : p.reader.left ≤ 0)
+    (m : ℕ) (is_missing : m ≡ block_count - p.reader.blocks) (stores : after ≡ put_bytes (zeros m) p.reader.written out) where
+  answer_for : (put : Result ℕ NoRoom) → put ≡ put_bytes_answer (zeros m) p.reader.written out
+      → put ≡ put_bytes_answer (missing p) p.reader.written out
+  answer_for put answers = answers ∙ ap (λ (j : ℕ). put_bytes_answer (zeros j) p.reader.written out) is_missing
 
-  module _ (going : p.reader.status ≡ reading) where
-    pub ended_in_row : 1 < p.row.column → q ≡ halted p ended_early → (q ≡ ended p out) × (out ≡ ended_out p out)
-    unfolding ended ended_out inside
-    ended_in_row h e =
-        let g = eq-eqb p.reader.status reading going in
-        let t = lt-ltb 1 p.row.column h in (rw (g, t, e), rw (g, t))
+  store_for : after ≡ put_bytes (missing p) p.reader.written out
+  store_for = stores ∙ ap (λ (j : ℕ). put_bytes (zeros j) p.reader.written out) is_missing
 
-    module _ (between : p.row.column ≤ 1) where
-      pub ended_in_block : 0 < p.reader.left → q ≡ halted p ended_early → (q ≡ ended p out) × (out ≡ ended_out p out)
-      unfolding ended ended_out inside
-      ended_in_block h e =
-          let g = eq-eqb p.reader.status reading going in
-          let t = le-ltb 1 p.row.column between in
-          let u = lt-ltb 0 p.reader.left h in (rw (g, t, u, e), rw (g, t, u))
-
-      module _ (none_left : p.reader.left ≤ 0) (m : ℕ) (is_missing : m ≡ block_count - p.reader.blocks)
-          (stores : after ≡ put_bytes (zeros m) p.reader.written out) where
-        answer_for : (put : Result ℕ NoRoom) → put ≡ put_bytes_answer (zeros m) p.reader.written out
-            → put ≡ put_bytes_answer (missing p) p.reader.written out
-        answer_for put answers = answers ∙ ap (λ (j : ℕ). put_bytes_answer (zeros j) p.reader.written out) is_missing
-
-        store_for : after ≡ put_bytes (missing p) p.reader.written out
-        store_for = stores ∙ ap (λ (j : ℕ). put_bytes (zeros j) p.reader.written out) is_missing
-
-        pub ended_full : (r : NoRoom) → Err r ≡ put_bytes_answer (zeros m) p.reader.written out → q ≡ halted p no_room → (q ≡ ended p out) × (after ≡ ended_out p out)
-        unfolding ended ended_out inside
-        ended_full r f e =
-            let g = eq-eqb p.reader.status reading going in
-            let t = le-ltb 1 p.row.column between in
-            let u = le-ltb 0 p.reader.left none_left in
-            let v = no_fit (fits (missing p) p.reader.written out) _ _ r (answer_for (Err r) f) in
-            (rw (g, t, u, v, e), rw (g, t, u) store_for)
-
-        pub ended_whole : (n : ℕ) → Ok n ≡ put_bytes_answer (zeros m) p.reader.written out → q ≡ finished p m → (q ≡ ended p out) × (after ≡ ended_out p out)
-        unfolding ended ended_out inside
-        ended_whole n f e =
-            let g = eq-eqb p.reader.status reading going in
-            let t = le-ltb 1 p.row.column between in
-            let u = le-ltb 0 p.reader.left none_left in
-            let v = (fit (fits (missing p) p.reader.written out) _ _ n (answer_for (Ok n) f)).0 in
-            let l : m ≡ length (missing p) = is_missing ∙ sym (length_zeros (block_count - p.reader.blocks)) in
-            (rw (g, t, u, v) (e ∙ ap (λ (j : ℕ). finished p j) l), rw (g, t, u) store_for)
+  pub ended_whole : (n : ℕ) → Ok n ≡ put_bytes_answer (zeros m) p.reader.written out → q ≡ finished p m → (q ≡ ended p out) × (after ≡ ended_out p out)
+  unfolding ended ended_out inside
+  ended_whole n f e =
+      let g = eq-eqb p.reader.status reading going in
+      let t = le-ltb 1 p.row.column between in
+      let u = le-ltb 0 p.reader.left none_left in
+      let v = (fit (fits (missing p) p.reader.written out) _ _ n (answer_for (Ok n) f)).0 in
+      let l : m ≡ length (missing p) = is_missing ∙ sym (length_zeros (block_count - p.reader.blocks)) in
+      (rw (g, t, u, v) (e ∙ ap (λ (j : ℕ). finished p j) l), rw (g, t, u) store_for)

@@ -56,7 +56,7 @@ one_step : (heading : Bool) (p : Published) (out : List ℕ) (byte : ℕ) → at
     → (further p (lex_row heading p.row byte) ≡ step p out byte) × (out ≡ step_out p out byte)
 one_step heading p out byte e k h b =
     let row = lex_row heading p.row byte in
-    step_other p _ out out byte k.reads (λ q. omega (arith, q, k.counts)) k.goes_on h
+    step_other p _ out byte k.reads (λ q. omega (arith, q, k.counts)) k.goes_on h
     (other_good p row byte (ap (λ (t : Bool). lex_row t p.row byte) (sym e)) b)
 
 one_run : (p q : Published) (out : List ℕ) (byte : ℕ) (bytes : List ℕ) → (q ≡ step p out byte) × (out ≡ step_out p out byte)
@@ -115,7 +115,3 @@ row_taken p text from heading row next e h k t =
           ∙ rows_run xs (drop next text) heading p out e c t.goes_on
           ∙ ap (λ (ys : List ℕ). run p out ys) (between_rest text from next t.onward);
     }
-
--- Where no byte is taken all goes on as it stands.
-pub as_it_stands : (p : Published) (text : List ℕ) (from : ℕ) → GoesOn p text from p from
-as_it_stands p text from = record { onward = omega arith; same = λ out. refl }

@@ -1,2 +1,3 @@
 -- What only the code needs: nothing here has to be believed.
 pub mod Rows
+pub mod Judged

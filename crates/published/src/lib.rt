@@ -8,10 +8,8 @@ mod steps;
 ghost use Rattle.std.specs.Prelude.{◌≡◌};
 ghost use Rattle.published.specs.Reader.{begun_file, run, ended, ended_out, told, whole};
 
-use crate::rows::take_row;
-use crate::steps::{close, take_byte};
 use published_records::Row;
-use published_records::rows::fresh_row;
+use series_lines::passed::Passed;
 use series_lines::{Outcome, Reader};
 
 // What a reader has of the file so far: the counts and terms that have come, as the reader of a series text holds them; the record as far as it is
@@ -28,11 +26,9 @@ pub struct Published {
 pub fn start() -> Published
     ensures { result ≡ begun_file }
 {
-    let reader = series_lines::start();
-    let row = fresh_row();
     Published {
-        reader,
-        row,
+        reader: series_lines::start(),
+        row: Row::fresh(),
         last: 0,
     }
 }
@@ -41,22 +37,20 @@ pub fn start() -> Published
 pub fn piece(p: Published, text: &[u8], out: &mut [u8]) -> Published
     ensures { (result ≡ (run p out.old text.now).reader) × (out.new ≡ (run p out.old text.now).out) }
 {
-    let mut reader = p;
-    let mut i = 0;
-    while i < text.len() {
-        let next = take_byte(reader, text[i], out);
-        let taken = take_row(next, text, i + 1);
-        reader = taken.published;
-        i = taken.next;
+    let mut at = Passed { state: p, next: 0 };
+    // An index and not a `for`: a turn takes a byte and the run after it.
+    while at.next < text.len() {
+        let next = at.state.take_byte(text[at.next], out);
+        at = next.take_row(text, at.next + 1);
     }
-    reader
+    at.state
 }
 
 // The last call: the file has ended. It writes the counts of the blocks that never came.
 pub fn end(p: Published, out: &mut [u8]) -> Published
     ensures { (result ≡ ended p out.old) × (out.new ≡ ended_out p out.old) }
 {
-    close(p, out)
+    p.close(out)
 }
 
 // What stands after the calls so far.

@@ -1,235 +1,216 @@
 // The reader's steps: one byte, the end of a record, the end of the file. Ends of records are judged only where one more byte can be counted.
 ghost use Rattle.std.specs.Prelude.{◌≡◌, ◌+◌, ◌≤◌, ◌<◌};
 ghost use Rattle.series_lines.specs.Reader.{last_offset, wrote, wrote_out};
+ghost use Rattle.units.specs.Refusals.{fault_number};
+ghost use Rattle.published_records.specs.Rows.{is_heading};
 ghost use Rattle.published.specs.Reader.{at_heading, halted, heading_end, record_end, verdict, next_last, judged};
-ghost use Rattle.published.specs.Reader.{other, step, step_out, finished, ended, ended_out};
+ghost use Rattle.published.specs.Machine.Judged.{ruled};
+ghost use Rattle.published.specs.Reader.{complete, other, step, step_out, finished, ended, ended_out};
 
 use crate::Published;
-use limits::{Tally, block_factor};
-use published_headings::judge::{block_of, follows, heading_refusal, missing_blocks, skip_blocks};
+use limits::block_factor;
+use published_headings::judge::{Heading, follows, missing_blocks, skip_blocks};
 use published_headings::writer::{put_heading, put_missing};
-use published_records::rows::{fresh_row, lex_row, whole_row};
+use published_records::{Kind, Row};
 use series_lines::judge::term_line_refusal;
-use series_lines::lexer::{SPOT_AFTER, SPOT_BAD};
+use series_lines::lexer::SPOT_AFTER;
 use series_lines::steps::next_spot;
 use series_lines::writer::{Sink, Written};
 use series_lines::{ACCEPTED, LAST_OFFSET, READING, Reader};
-use units::{BAD_BYTE, BAD_NUMBER, BYTE_AFTER_END, ENDED_EARLY, NO_ROOM};
+use units::Fault;
 
-// A heading comes where no term is left of the block.
-pub fn at_heading(p: Published) -> bool
-    ensures { result ≡ at_heading p }
-{
-    let r = p.reader;
-    r.left == 0
-}
-
-// The reader with its answer.
-fn halt(p: Published, status: u64) -> Published
-    ensures { result ≡ halted p status }
-{
-    let reader = p.reader.stopped(status);
-    let row = p.row;
-    Published {
-        reader,
-        row,
-        last: p.last,
-    }
-}
-
-// The line feed of a heading.
-fn end_heading(p: Published, out: &mut [u8]) -> Reader
-    requires { p.reader.at < last_offset }
-    ensures { (result ≡ wrote p.reader out.old (heading_end p))
-        × (out.new ≡ wrote_out p.reader out.old (heading_end p)) }
-{
-    let r = p.reader;
-    let row = p.row;
-    let line = row.line;
-    let n = line.value;
-    let done = r.blocks;
-    let s = Tally {
-        terms: r.terms,
-        total: r.total,
-        coarse: r.coarse,
-    };
-    let refusal = heading_refusal(done, s, row.version, row.coordinate, row.power, n);
-    if refusal != 0 {
-        return r.stopped(refusal);
-    }
-    let k = block_of(row.coordinate, row.power);
-    match put_heading((k - done) as usize, n, out, r.written) {
-        Err(_) => r.stopped(NO_ROOM),
-        Ok(next) => {
-            let opened = skip_blocks(done, k, s).open_block(k, n);
-            r.advanced(next, k + 1, n, opened)
+impl Published {
+    // The record that is read: a heading comes where no term is left of the block.
+    #[tactic(auto, unfolding(crate::specs::Reader::at_heading))]
+    pub fn kind(self) -> Kind
+        ensures { is_heading result ≡ at_heading self }
+    {
+        match self.reader.left {
+            0 => Kind::Heading,
+            _ => Kind::Term,
         }
     }
-}
 
-// The line feed of a term record: its figures are judged and written as those of a line of a text. It is put together from the parts of `end_term`
-// and does not call it: with a second caller the compiler would no longer put `end_term` into the loop of the reader of texts.
-fn end_record(p: Published, out: &mut [u8]) -> Reader
-    requires { p.reader.at < last_offset }
-    ensures { (result ≡ wrote p.reader out.old (record_end p))
-        × (out.new ≡ wrote_out p.reader out.old (record_end p)) }
-{
-    let r = p.reader;
-    let row = p.row;
-    if !follows(p.last, row.number) {
-        return r.stopped(BAD_NUMBER);
+    // After block 18 nothing may come.
+    #[tactic(auto, unfolding(crate::specs::Reader::complete))]
+    pub fn is_complete(self) -> bool
+        ensures { result ≡ complete self }
+    {
+        next_spot(self.reader.blocks, self.reader.left) == SPOT_AFTER
     }
-    let line = row.line;
-    let s = Tally {
-        terms: r.terms,
-        total: r.total,
-        coarse: r.coarse,
-    };
-    let f = block_factor(r.blocks.saturating_sub(1));
-    if let Err(fault) = term_line_refusal(f, s, line) {
-        return r.refused(fault);
-    }
-    match Written::put_term(line, out, r.written) {
-        Err(_) => r.stopped(NO_ROOM),
-        Ok(next) => {
-            let more = s.add_term(f, line.sizes());
-            r.advanced(next, r.blocks, r.left.saturating_sub(1), more)
+
+    // The reader with its refusal.
+    fn halted(self, fault: Fault) -> Published
+        ensures { result ≡ halted self (fault_number fault) }
+    {
+        Published {
+            reader: self.reader.refused(fault),
+            ..self
         }
     }
-}
 
-// The line feed of a record.
-fn end_row(p: Published, out: &mut [u8]) -> Reader
-    requires { p.reader.at < last_offset }
-    ensures { (result ≡ wrote p.reader out.old (verdict p))
-        × (out.new ≡ wrote_out p.reader out.old (verdict p)) }
-{
-    let heading = at_heading(p);
-    if !whole_row(heading, p.row) {
-        return p.reader.stopped(BAD_BYTE);
+    // The line feed of a heading.
+    fn end_heading(self, out: &mut [u8]) -> Result<Reader, Fault>
+        requires { self.reader.at < last_offset }
+        ensures { (ruled self.reader result ≡ wrote self.reader out.old (heading_end self))
+            × (out.new ≡ wrote_out self.reader out.old (heading_end self)) }
+    {
+        let r = self.reader;
+        let n = self.row.line.value;
+        let heading = Heading {
+            version: self.row.version,
+            coordinate: self.row.coordinate,
+            power: self.row.power,
+            count: n,
+        };
+        let s = r.tally();
+        let k = heading.judge(r.blocks, s)?;
+        let Ok(next) = put_heading((k - r.blocks) as usize, n, out, r.written) else {
+            return Err(Fault::NoRoom);
+        };
+        let opened = skip_blocks(r.blocks, k, s).open_block(k, n);
+        Ok(r.advanced(next, k + 1, n, opened))
     }
-    if heading {
-        return end_heading(p, out);
-    }
-    end_record(p, out)
-}
 
-// The running number that the next one comes after.
-fn next_last(p: Published) -> u64
-    ensures { result ≡ next_last p }
-{
-    if at_heading(p) {
-        return 0;
+    // The line feed of a term record: its figures are judged and written as those of a line of a text. It is put together from the parts of
+    // `end_term` and does not call it: with a second caller the compiler would no longer put `end_term` into the loop of the reader of texts.
+    fn end_record(self, out: &mut [u8]) -> Result<Reader, Fault>
+        requires { self.reader.at < last_offset }
+        ensures { (ruled self.reader result ≡ wrote self.reader out.old (record_end self))
+            × (out.new ≡ wrote_out self.reader out.old (record_end self)) }
+    {
+        let r = self.reader;
+        if !follows(self.last, self.row.number) {
+            return Err(Fault::BadNumber);
+        }
+        let line = self.row.line;
+        let s = r.tally();
+        let f = block_factor(r.blocks.saturating_sub(1));
+        term_line_refusal(f, s, line)?;
+        let Ok(next) = Written::put_term(line, out, r.written) else {
+            return Err(Fault::NoRoom);
+        };
+        let more = s.add_term(f, line.sizes());
+        Ok(r.advanced(next, r.blocks, r.left.saturating_sub(1), more))
     }
-    let row = p.row;
-    row.number
-}
 
-// The reader after a line feed.
-fn judge(p: Published, out: &mut [u8]) -> Published
-    requires { p.reader.at < last_offset }
-    ensures { (result ≡ judged p out.old) × (out.new ≡ wrote_out p.reader out.old (verdict p)) }
-{
-    let reader = end_row(p, out);
-    let row = fresh_row();
-    Published {
-        reader,
-        row,
-        last: next_last(p),
+    // The line feed of a record.
+    #[tactic(auto, unfolding(crate::specs::Reader::verdict))]
+    fn end_row(self, out: &mut [u8]) -> Result<Reader, Fault>
+        requires { self.reader.at < last_offset }
+        ensures { (ruled self.reader result ≡ wrote self.reader out.old (verdict self))
+            × (out.new ≡ wrote_out self.reader out.old (verdict self)) }
+    {
+        let kind = self.kind();
+        if !self.row.is_whole(kind) {
+            return Err(Fault::BadByte);
+        }
+        match kind {
+            Kind::Heading => self.end_heading(out),
+            Kind::Term => self.end_record(out),
+        }
     }
-}
 
-// A byte that is no line feed.
-fn take_other(p: Published, byte: u8) -> Published
-    requires { p.reader.at < last_offset }
-    ensures { result ≡ other p byte }
-{
-    let row = lex_row(at_heading(p), p.row, byte);
-    let line = row.line;
-    if line.spot == SPOT_BAD {
-        return halt(p, BAD_BYTE);
+    // The running number that the next one comes after.
+    #[tactic(auto, unfolding(crate::specs::Reader::next_last))]
+    fn next_last(self) -> u64
+        ensures { result ≡ next_last self }
+    {
+        match self.kind() {
+            Kind::Heading => 0,
+            Kind::Term => self.row.number,
+        }
     }
-    let r = p.reader;
-    let reader = r.in_line(r.line, r.at + 1);
-    Published {
-        reader,
-        row,
-        last: p.last,
-    }
-}
 
-// After block 18 nothing may come.
-pub fn complete(p: Published) -> bool
-    ensures { result ≡ Rattle.published.specs.Reader.complete p }
-{
-    let r = p.reader;
-    next_spot(r.blocks, r.left) == SPOT_AFTER
-}
+    // The reader after a line feed.
+    fn judge(self, out: &mut [u8]) -> Published
+        requires { self.reader.at < last_offset }
+        ensures { (result ≡ judged self out.old)
+            × (out.new ≡ wrote_out self.reader out.old (verdict self)) }
+    {
+        let reader = match self.end_row(out) {
+            Ok(reader) => reader,
+            Err(fault) => self.reader.refused(fault),
+        };
+        Published {
+            reader,
+            row: Row::fresh(),
+            last: self.next_last(),
+        }
+    }
 
-// One byte.
-pub fn take_byte(p: Published, byte: u8, out: &mut [u8]) -> Published
-    ensures { (result ≡ step p out.old byte) × (out.new ≡ step_out p out.old byte) }
-{
-    let r = p.reader;
-    if r.status != READING {
-        return p;
+    // A byte that is no line feed.
+    #[tactic(auto, unfolding(crate::specs::Reader::other, published_records::specs::Machine::Runs::is_bad))]
+    fn take_other(self, byte: u8) -> Published
+        requires { self.reader.at < last_offset }
+        ensures { result ≡ other self byte }
+    {
+        let row = self.row.lex(self.kind(), byte);
+        if row.is_bad() {
+            return self.halted(Fault::BadByte);
+        }
+        let r = self.reader;
+        Published {
+            reader: r.in_line(r.line, r.at + 1),
+            row,
+            ..self
+        }
     }
-    if r.at == LAST_OFFSET {
-        return halt(p, BAD_BYTE);
-    }
-    if complete(p) {
-        return halt(p, BYTE_AFTER_END);
-    }
-    if byte == b'\n' {
-        return judge(p, out);
-    }
-    take_other(p, byte)
-}
 
-// Accepted, with n bytes more, which were written.
-fn finish(p: Published, n: usize) -> Published
-    requires { p.reader.written + n ≤ last_offset }
-    ensures { result ≡ finished p n }
-{
-    let r = p.reader;
-    let line = r.line;
-    let row = p.row;
-    Published {
-        reader: Reader {
-            line,
-            at: r.at,
-            written: r.written + n,
-            blocks: r.blocks,
-            left: r.left,
-            terms: r.terms,
-            total: r.total,
-            coarse: r.coarse,
-            status: ACCEPTED,
-            place: r.at,
-        },
-        row,
-        last: p.last,
+    // One byte.
+    #[tactic(auto, unfolding(crate::specs::Reader::step, crate::specs::Reader::step_out, series_lines::specs::Reader::uncounted))]
+    pub fn take_byte(self, byte: u8, out: &mut [u8]) -> Published
+        ensures { (result ≡ step self out.old byte) × (out.new ≡ step_out self out.old byte) }
+    {
+        let r = self.reader;
+        if r.status != READING {
+            return self;
+        }
+        if r.at == LAST_OFFSET {
+            return self.halted(Fault::BadByte);
+        }
+        if self.is_complete() {
+            return self.halted(Fault::ByteAfterEnd);
+        }
+        if byte == b'\n' {
+            return self.judge(out);
+        }
+        self.take_other(byte)
     }
-}
 
-// The end of the file.
-pub fn close(p: Published, out: &mut [u8]) -> Published
-    ensures { (result ≡ ended p out.old) × (out.new ≡ ended_out p out.old) }
-{
-    let r = p.reader;
-    if r.status != READING {
-        return p;
+    // Accepted, with n bytes more, which were written.
+    fn finish(self, n: usize) -> Published
+        requires { self.reader.written + n ≤ last_offset }
+        ensures { result ≡ finished self n }
+    {
+        let r = self.reader;
+        Published {
+            reader: Reader {
+                written: r.written + n,
+                status: ACCEPTED,
+                place: r.at,
+                ..r
+            },
+            ..self
+        }
     }
-    let row = p.row;
-    if 1 < row.column {
-        return halt(p, ENDED_EARLY);
-    }
-    if 0 < r.left {
-        return halt(p, ENDED_EARLY);
-    }
-    let n = missing_blocks(r.blocks) as usize;
-    match put_missing(n, out, r.written) {
-        Err(_) => halt(p, NO_ROOM),
-        Ok(_) => finish(p, n),
+
+    // The end of the file.
+    #[tactic(auto, unfolding(crate::specs::Reader::ended, crate::specs::Reader::ended_out, crate::specs::Reader::inside))]
+    pub fn close(self, out: &mut [u8]) -> Published
+        ensures { (result ≡ ended self out.old) × (out.new ≡ ended_out self out.old) }
+    {
+        let r = self.reader;
+        if r.status != READING {
+            return self;
+        }
+        if 1 < self.row.column || 0 < r.left {
+            return self.halted(Fault::EndedEarly);
+        }
+        let n = missing_blocks(r.blocks) as usize;
+        match put_missing(n, out, r.written) {
+            Err(_) => self.halted(Fault::NoRoom),
+            Ok(_) => self.finish(n),
+        }
     }
 }

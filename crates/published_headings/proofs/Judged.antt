@@ -1,34 +1,16 @@
 -- A heading that is not refused, and the tally with the blocks before it that have none. Assumes nothing.
-use mathlib.Core.Path.{◌≡◌, refl, sym, ap, ◌∙◌}
-use mathlib.Core.Bool.{true, false}
+use mathlib.Core.Path.{◌≡◌, refl, ap, ◌∙◌}
+use mathlib.Core.Bool.{true}
 use Prim.Native.Nat.{ℕ, zero, suc, ◌+◌, ◌-◌, ◌≤◌, ◌<◌}
 use native.Mathlib.Omega.{arith}
-use borrow.Author.Tests.{eq-eqb, ne_eqb, eqb-true, eqb-false, leb-true, ltb-true}
+use borrow.Author.Tests.{leb-true, ltb-true}
 use lib.Dec.{leb, ltb, eqb}
-use Rattle.integers.proofs.Tests.{by_cases, both}
+use Rattle.integers.proofs.Tests.{both}
 use Rattle.units.specs.Units.{powers, block_count}
-use Rattle.units.specs.Refusals.{over_limit, bad_heading}
 use Rattle.limits.specs.declared.Tally.{Tally}
 use Rattle.limits.specs.Limits.{opened, count_fits}
 use Rattle.limits.proofs.Passing.{count_passed, count_passes}
-use Rattle.published_headings.specs.Judge.{theory_version, coordinate_count, block_of, in_order, heading_refusal, skipped}
-
--- The running number after the last one.
-pub number_none : (last number : ℕ) → number ≡ 0 → false ≡ eqb number (last + 1)
-number_none last number e = sym (ne_eqb number (last + 1) (λ q. omega (arith, q)))
-
-pub number_some : (last number : ℕ) → (number ≡ 0 → ⊥) → eqb (number - 1) last ≡ eqb number (last + 1)
-number_some last number h =
-    by_cases (eqb (number - 1) last)
-    (λ p. p ∙ sym (eq-eqb number (last + 1) (next (above number h) (eqb-true (number - 1) last p))))
-    (λ p. p ∙ sym (ne_eqb number (last + 1) (λ q. eqb-false (number - 1) last p (omega (arith, q)))))
-  where
-    above : (n : ℕ) → (n ≡ 0 → ⊥) → 1 ≤ n
-    above zero k = absurd (k refl)
-    above (suc n) k = omega arith
-
-    next : 1 ≤ number → number - 1 ≡ last → number ≡ last + 1
-    next k e = omega arith
+use Rattle.published_headings.specs.Judge.{theory_version, coordinate_count, block_of, in_order, skipped}
 
 -- ---- Headings.
 
@@ -51,20 +33,6 @@ orderly done version coordinate power e =
     let few = leb-true coordinate coordinate_count c.0 in
     let low = ltb-true power powers d.0 in
     record { some = some; few = few; low = low; onward = leb-true _ _ d.1; inside = omega (arith, some, few, low) }
-
--- One that is not refused.
-pub unrefused : (done : ℕ) (s : Tally) (version coordinate power n : ℕ) → heading_refusal done s version coordinate power n ≡ 0
-    → InOrder done coordinate power × (count_fits s n ≡ true)
-unfolding heading_refusal
-unrefused done s version coordinate power n e =
-    by_cases (in_order done version coordinate power)
-    (λ p. by_cases (count_fits s n)
-    (λ q. (orderly done version coordinate power p, q))
-    (λ q. absurd (apart over_limit (λ x. omega (arith, x)) (rw (p, q) at e))))
-    (λ p. absurd (apart bad_heading (λ x. omega (arith, x)) (rw p at e)))
-  where
-    apart : (x : ℕ) → (x ≡ 0 → ⊥) → x ≡ 0 → ⊥
-    apart x h = h
 
 -- ---- Blocks without a heading.
 

@@ -1,11 +1,8 @@
 -- The counts of blocks without a heading in the output, and the count of a heading after them. Assumes nothing.
-use mathlib.Core.Path.{◌≡◌, refl, sym, ap, ◌∙◌}
-use mathlib.Core.List.{List, ◌++◌}
-use Prim.Native.Nat.{ℕ, zero, suc, ◌+◌, ◌-◌, ◌≤◌, ◌<◌}
-use native.Mathlib.Numerals.{add-one}
-use native.Mathlib.Omega.{arith}
-use lib.ListN.{length, set, length-set, length-append}
-use lib.Seq.{sets}
+use Rattle.std.proofs.Common.{◌≡◌, ℕ, ◌+◌, ◌≤◌, List, ◌∷◌, ◌++◌, length, take, drop, replicate, refl, sym, ap, ◌∙◌, append_assoc, length-append, arith, zero, suc}
+use borrow.Rule.Slice.PartMut.{put_mid}
+use Rattle.std.proofs.lemmas.Slice.{put_mid-paste}
+use Rattle.std.proofs.lemmas.List.Edits.{sets, sets-eq, paste_all}
 use Rattle.packed_numbers.specs.Numbers.{encode}
 use Rattle.series_lines.proofs.WrittenTerm.{sets_append}
 use Rattle.published_headings.specs.Judge.{zeros}
@@ -15,39 +12,22 @@ unfolding zeros
 length_zeros zero = refl
 length_zeros (suc n) = ap suc (length_zeros n)
 
--- Some zeros are written, up to i: what is left of them gives what all of them give.
-pub record Zeroed (start : List ℕ) (at n : ℕ) (out : List ℕ) (i : ℕ) : Type 0 where
-  pub inside : i ≤ at + n
-  pub written : sets out i (zeros (at + n - i)) ≡ sets start at (zeros n)
-  pub same : length out ≡ length start
+zeros_repeat : (n : ℕ) → replicate n 0 ≡ zeros n
+unfolding zeros
+zeros_repeat zero = refl
+zeros_repeat (suc n) = ap (λ (xs : List ℕ). 0 ∷ xs) (zeros_repeat n)
 
-pub zeroed_none : (start : List ℕ) (at n : ℕ) → Zeroed start at n start at
-zeroed_none start at n =
-    let e : at + n - at ≡ n = omega arith in
-    record { inside = omega arith; written = ap (λ (m : ℕ). sets start at (zeros m)) e; same = refl }
-
-module _ (start : List ℕ) (at n : ℕ) (out : List ℕ) (i : ℕ) (z : Zeroed start at n out i) where
-  one_more : (m : ℕ) → sets out i (zeros (suc m)) ≡ sets (set out i 0) (i + 1) (zeros m)
-  unfolding zeros
-  one_more m = rw add-one
-
-  pub zeroed_more : i < at + n → Zeroed start at n (set out i 0) (i + 1)
-  zeroed_more h =
-      let e : at + n - i ≡ suc (at + n - (i + 1)) = omega arith in
-      record {
-        inside = omega arith;
-        written = sym (ap (λ (m : ℕ). sets out i (zeros m)) e ∙ one_more (at + n - (i + 1))) ∙ z.written;
-        same = length-set out i 0 ∙ z.same;
-      }
-
-  none_left : sets out i (zeros 0) ≡ out
-  unfolding zeros
-  none_left = refl
-
-  pub zeroed_done : at + n ≤ i → (i ≡ at + n) × (out ≡ sets start at (zeros n))
-  zeroed_done h =
-      let e : at + n - i ≡ 0 = omega arith in
-      (omega (arith, z.inside), sym none_left ∙ sym (ap (λ (m : ℕ). sets out i (zeros m)) e) ∙ z.written)
+-- A part of the output that is filled with zeros.
+pub zeros_filled : (at n k : ℕ) (out part : List ℕ) → at + n ≤ length out → k ≡ n → part ≡ replicate n 0
+    → put_mid at k out part ≡ sets out at (zeros n)
+zeros_filled at n k out part h e f =
+    let l = length_zeros n in
+    let fits : at + length (zeros n) ≤ length out = omega (arith, h, l) in
+    put_mid-paste at k out part (zeros n) n (f ∙ zeros_repeat n) (sym e) (sym l)
+    ∙ paste_all out at (zeros n) n (sym l)
+    ∙ ap (λ (m : ℕ). take at out ++ (zeros n ++ drop (at + m) out)) (sym l)
+    ∙ sym (append_assoc (take at out) (zeros n) (drop (at + length (zeros n)) out))
+    ∙ sym (sets-eq (zeros n) out at fits)
 
 -- Zeros and a count after them.
 pub heading_length : (m n : ℕ) → length (zeros m ++ encode n) ≡ m + length (encode n)

@@ -16,12 +16,8 @@ fn put_zeros(n: usize, out: &mut [u8], at: usize) -> usize
     ensures { (result ≡ at + n) × (out.new ≡ sets out.old at (zeros n)) }
 {
     let end = at + n;
-    let mut i = at;
-    while i < end {
-        out[i] = 0;
-        i = i + 1;
-    }
-    i
+    out[at..end].fill(0);
+    end
 }
 
 // Writes n zeros from at, or nothing where there is no room.

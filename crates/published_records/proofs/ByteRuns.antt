@@ -10,6 +10,7 @@ use lib.Seq.{drop-cons, drop-drop, take-add}
 use Rattle.series_lines.specs.Grammar.{feed}
 use Rattle.series_lines.specs.Lexer.{spot_bad}
 use Rattle.published_records.specs.declared.Row.{Row}
+use Rattle.published_records.specs.Layout.{NoFeed}
 use Rattle.published_records.specs.Rows.{lex_row, lex_rows}
 use Rattle.published_records.specs.Machine.Runs.{between, is_bad, RunsOn, Takes}
 use Rattle.published_records.specs.Machine.Fillers.{Skips}
@@ -75,6 +76,22 @@ pub takes_good : (heading : Bool) (r s : Row) (text : List ℕ) (from next : ℕ
     → Takes heading r text from s next
 takes_good heading r s text from next a g =
     record { onward = a.onward; inside = a.inside; goes_on = a.goes_on g; same = a.same }
+
+-- Where the record goes on there is no line feed.
+no_feed : (heading : Bool) (r : Row) (bytes : List ℕ) → RunsOn heading r bytes → NoFeed bytes
+unfolding RunsOn NoFeed
+no_feed heading r [] g = tt
+no_feed heading r (byte ∷ bytes) g = (g.0, no_feed heading (lex_row heading r byte) bytes g.1.1)
+
+pub skips_taken : (heading : Bool) (r s : Row) (text : List ℕ) (from next : ℕ) → Takes heading r text from s next → Skips heading r text from s next
+skips_taken heading r s text from next t =
+    record {
+      onward = t.onward;
+      inside = t.inside;
+      no_feed = no_feed heading r (between text from next) t.goes_on;
+      same = t.same;
+      goes_on = λ g. t.goes_on;
+    }
 
 pub not_bad : (r : Row) (t : Bool) → t ≡ is_bad r → t ≡ false → r.line.spot ≡ spot_bad → ⊥
 unfolding is_bad

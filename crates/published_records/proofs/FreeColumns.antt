@@ -4,21 +4,24 @@ use mathlib.Core.Bool.{Bool, true, false}
 use mathlib.Core.List.{List, [], ◌∷◌}
 use Prim.Native.Nat.{ℕ, zero, suc, ◌+◌, ◌-◌, ◌≤◌, ◌<◌}
 use native.Mathlib.Omega.{arith}
-use borrow.Author.Tests.{ne_eqb, lt-ltb, le-ltb, lt-leb, ltb-true, ltb-false, leb-true, leb-false}
-use lib.Dec.{leb, ltb}
-use lib.ListN.{length, take, drop, get_or, length-drop}
-use lib.Seq.{drop-cons, length-take-le}
+use borrow.Author.Tests.{ne_eqb, lt-ltb, le-ltb, lt-leb, leb-true, leb-false, eqb-false}
+use lib.Dec.{leb, eqb}
+use lib.ListN.{length, take, drop, length-drop}
+use Rattle.std.specs.List.{position_or_len}
+use Rattle.std.proofs.lemmas.List.{length-take, length-take-le, take-take}
 use Rattle.integers.proofs.Tests.{by_cases}
 use Rattle.series_lines.specs.Grammar.{feed}
 use Rattle.series_lines.specs.Lexer.{spot_bad}
 use Rattle.published_records.specs.declared.Row.{Row}
 use Rattle.published_records.specs.declared.Column.TheVariants.{Filler}
 use Rattle.published_records.specs.Layout.{version_column, coordinate_column, power_column, count_first, count_last, number_first, number_last}
-use Rattle.published_records.specs.Layout.{a_first, b_first, c_first, NoFeed}
-use Rattle.published_records.specs.Rows.{column_limit, heading_column, term_column, next_column, moved, entered, in_column, lex_heading, lex_term}
+use Rattle.published_records.specs.Layout.{a_first, NoFeed}
+use Rattle.published_records.specs.Rows.{column_limit, heading_column, term_column, next_column, moved, in_column, lex_heading, lex_term}
 use Rattle.published_records.specs.Rows.{lex_row, lex_rows}
-use Rattle.published_records.specs.Machine.Fillers.{heading_end, term_end, filler_end, held, put_column, Run, Skips}
+use Rattle.published_records.specs.Machine.Fillers.{heading_end, term_end, filler_end, held, put_column, Skips}
 use Rattle.published_records.specs.Machine.Runs.{between, RunsOn}
+use Rattle.published_records.proofs.Places.{next_one, not_entered}
+use Rattle.published_records.proofs.ByteRuns.{takes_none, skips_taken}
 
 -- ---- Free columns.
 
@@ -79,22 +82,13 @@ term_before_a : (c : ℕ) → number_last < c → c < a_first → term_column c 
 unfolding term_column
 term_before_a c p h = rw (le-ltb c number_first (omega arith), lt-leb _ _ p, lt-ltb _ _ h)
 
-not_entered : (r : Row) → r.column < a_first → entered r ≡ r
-unfolding entered
-not_entered r h =
-    rw (
-      ne_eqb r.column a_first (λ e. omega (arith, e)),
-      ne_eqb r.column b_first (λ e. omega (arith, e)),
-      ne_eqb r.column c_first (λ e. omega (arith, e)),
-    )
-
 heading_step : (r : Row) (byte : ℕ) → heading_column r.column ≡ Filler → lex_row true r byte ≡ moved r r.line
 unfolding lex_row lex_heading in_column
 heading_step r byte e = rw e
 
 term_step : (r : Row) (byte : ℕ) → r.column < a_first → term_column r.column ≡ Filler → lex_row false r byte ≡ moved r r.line
 unfolding lex_row lex_term in_column
-term_step r byte h e = rw (e, not_entered r h)
+term_step r byte h e = rw (e, not_entered r (λ q. omega (arith, q)) (λ q. omega (arith, q)) (λ q. omega (arith, q)))
 
 step_free : (heading : Bool) (r : Row) (byte n : ℕ) → Clear heading r.column (suc n) → lex_row heading r byte ≡ moved r r.line
 step_free true r byte n (before_version h) =
@@ -108,10 +102,6 @@ step_free false r byte n (before_number h) = term_step r byte (omega arith) (ter
 step_free false r byte n (before_a p h) = term_step r byte (omega arith) (term_before_a r.column p (omega arith))
 
 -- ---- The column.
-
-next_one : (c : ℕ) → c < column_limit → next_column c ≡ c + 1
-unfolding next_column
-next_one c h = rw (lt-ltb _ _ h)
 
 next_limit : (c : ℕ) → column_limit ≤ c → next_column c ≡ column_limit
 unfolding next_column
@@ -142,6 +132,15 @@ held_small c n h = rw (lt-ltb _ _ h)
 held_large : (c n : ℕ) → column_limit ≤ c + n → held c n ≡ column_limit
 unfolding held
 held_large c n h = rw (le-ltb _ _ h)
+
+pub held_one : (c : ℕ) → held c 1 ≡ next_column c
+held_one c =
+    by_cases (leb column_limit c)
+    (λ p. let h : column_limit ≤ c = leb-true _ _ p in held_large c 1 (omega arith) ∙ sym (next_limit c h))
+    (λ p. let h : c < column_limit = leb-false _ _ p in
+    by_cases (leb column_limit (c + 1))
+    (λ q. let g : column_limit ≤ c + 1 = leb-true _ _ q in let e : column_limit ≡ c + 1 = omega arith in held_large c 1 g ∙ e ∙ sym (next_one c h))
+    (λ q. let g : c + 1 < column_limit = leb-false _ _ q in held_small c 1 g ∙ sym (next_one c h)))
 
 held_next : (c n : ℕ) → held (next_column c) n ≡ held c (suc n)
 held_next c n =
@@ -196,75 +195,54 @@ good_free heading r (byte ∷ bytes) h f g =
     rw (step_free heading r byte (length bytes) h)
     (f.0, (g, good_free heading (moved r r.line) bytes (clear_next heading r.column (length bytes) h) f.1 g))
 
--- No byte between is a line feed.
-no_feed_run : (text : List ℕ) (from n : ℕ) → (1 ≤ n → from + n ≤ length text)
-    → ((j : ℕ) → from ≤ j → j < from + n → get_or text j 0 ≡ feed → ⊥) → NoFeed (take n (drop from text))
+-- The bytes before the first line feed.
+abbrev pub feed_place : List ℕ → ℕ
+feed_place xs = position_or_len (λ x. eqb x feed) xs
+
+no_feed_before : (xs : List ℕ) → NoFeed (take (feed_place xs) xs)
 unfolding NoFeed
-no_feed_run text from zero h f = tt
-no_feed_run text from (suc n) h f =
-    let g : from + suc n ≤ length text = h (omega arith) in
-    rw (drop-cons text from 0 (omega arith))
-    (f from (omega arith) (omega arith), no_feed_run text (suc from) n (λ p. omega (arith, g)) (λ j p q. f j (omega (arith, p)) (omega (arith, q))))
+no_feed_before [] = tt
+no_feed_before (x ∷ xs) =
+    by_cases (eqb x feed) (λ p. rw p tt) (λ p. let e : 1 + feed_place xs ≡ suc (feed_place xs) = omega arith in
+    rw (p, e) (eqb-false x feed p, no_feed_before xs))
 
--- None of the bytes from an index to i is a line feed, and they stand before an end.
-pub record Gone (text : List ℕ) (from end i : ℕ) : Type 0 where
-  pub onward : from ≤ i
-  pub inside : from ≤ end → i ≤ end
-  pub some : from < i → i ≤ end
-  pub none : (j : ℕ) → from ≤ j → j < i → get_or text j 0 ≡ feed → ⊥
+-- The bytes of a run are the first of those that stand ahead.
+pub run_bytes : (text : List ℕ) (from most n : ℕ) → n ≤ length (take most (drop from text))
+    → between text from (from + n) ≡ take n (take most (drop from text))
+run_bytes text from most n h =
+    let e : from + n - from ≡ n = omega arith in
+    let few : n ≤ most = omega (arith, h, length-take most (drop from text)) in
+    ap (λ (m : ℕ). take m (drop from text)) e ∙ sym (take-take n most (drop from text) few)
 
-pub gone_none : (text : List ℕ) (from end : ℕ) → Gone text from end from
-gone_none text from end = record { onward = omega arith; inside = λ h. h; some = λ h. absurd (omega arith); none = λ j p q e. absurd (omega arith) }
+pub run_inside : (text : List ℕ) (from most n : ℕ) → from ≤ length text → n ≤ length (take most (drop from text))
+    → (n ≤ most) × (from + n ≤ length text)
+run_inside text from most n f h =
+    let t = length-take most (drop from text) in
+    (omega (arith, h), omega (arith, h, f, length-drop from text))
 
-module _ (text : List ℕ) (from end i : ℕ) (g : Gone text from end i) where
-  pub gone_more : i < end → (get_or text i 0 ≡ feed → ⊥) → Gone text from end (i + 1)
-  gone_more h f =
+-- A run in free columns.
+module _ (heading : Bool) (r : Row) (text : List ℕ) (from n columns : ℕ) where
+  pub skips : columns ≡ filler_end heading r.column - r.column → n ≤ length (take columns (drop from text))
+      → n ≡ feed_place (take columns (drop from text)) → (n ≡ 0 → ⊥) → from ≤ length text
+      → Skips heading r text from (put_column r (held r.column n)) (from + n)
+  skips is few place some inside =
+      let xs = take columns (drop from text) in
+      let fits = run_inside text from columns n inside few in
+      let bytes = take n xs in
+      let same = run_bytes text from columns n few in
+      let long : length bytes ≡ n = length-take-le n xs few in
+      let onward : 1 ≤ n = omega (arith, some) in
+      let room : r.column + n ≤ filler_end heading r.column = omega (arith, is, fits.0, onward) in
+      let free : Clear heading r.column (length bytes) = rw long (clear heading r.column n onward room) in
+      let none : NoFeed bytes = rw place (no_feed_before xs) in
       record {
-        onward = omega (arith, g.onward);
-        inside = λ p. omega arith;
-        some = λ p. omega arith;
-        none = λ j p q e.
-            by_cases (ltb j i) (λ t. g.none j p (ltb-true _ _ t) e)
-            (λ t. let l : i ≤ j = ltb-false _ _ t in let same : j ≡ i = omega arith in f (rw same at e));
-      }
-
-  pub gone_done : end ≤ length text → Run text from end i
-  gone_done h =
-      record {
-        onward = g.onward;
-        inside = g.inside;
-        no_feed = no_feed_run text from (i - from) (λ p. omega (arith, g.some (omega (arith, p)), g.onward))
-            (λ j p q. g.none j p (omega (arith, q, g.onward)));
-      }
-
-length_between : (text : List ℕ) (from next : ℕ) → from ≤ next → next ≤ length text → length (between text from next) ≡ next - from
-length_between text from next p q = length-take-le (next - from) (drop from text) (omega (arith, length-drop from text))
-
--- A run in free columns, of which top is the end.
-module _ (heading : Bool) (r : Row) (text : List ℕ) (from end next top : ℕ) where
-  pub skips : Run text from end next → (from ≤ end) × ((end ≤ length text) × (end - from ≤ top - r.column))
-      → top ≡ filler_end heading r.column → r.column < top → from < next
-      → Skips heading r text from (put_column r (held r.column (next - from))) next
-  skips run (forth, (fits, room)) is some more =
-      let most : next ≤ end = run.inside forth in
-      let n = length_between text from next run.onward (omega (arith, most, fits)) in
-      let few : r.column + (next - from) ≤ top = omega (arith, most, room, some, more) in
-      let c = clear heading r.column (next - from) (omega (arith, more)) (rw (← is) few) in
-      let l = run_free heading r (between text from next) (rw n c) in
-      record {
-        onward = run.onward;
-        inside = λ h. omega (arith, most, fits);
-        no_feed = run.no_feed;
-        same = sym (l ∙ ap (put_column r) (ap (on r.column) n ∙ on_run r.column (next - from) (omega (arith, more))));
-        goes_on = good_free heading r (between text from next) (rw n c) run.no_feed;
+        onward = omega arith;
+        inside = λ h. fits.1;
+        no_feed = rw same none;
+        same = rw (same, run_free heading r bytes free, long, on_run r.column n onward) refl;
+        goes_on = λ g. rw same (good_free heading r bytes free none g);
       }
 
 -- Where nothing is gone over all goes on as it stands.
-nothing : (text : List ℕ) (from : ℕ) → between text from from ≡ []
-nothing text from = let e : from - from ≡ 0 = omega arith in ap (λ (n : ℕ). take n (drop from text)) e
-
 pub as_it_stands : (heading : Bool) (r : Row) (text : List ℕ) (from : ℕ) → Skips heading r text from r from
-unfolding NoFeed RunsOn lex_rows
-as_it_stands heading r text from =
-    let e = nothing text from in
-    record { onward = omega arith; inside = λ h. h; no_feed = rw e tt; same = ap (lex_rows heading r) (sym e); goes_on = λ g. rw e tt }
+as_it_stands heading r text from = skips_taken heading r r text from from (takes_none heading r text from)

@@ -2,24 +2,30 @@
 use mathlib.Core.Path.{◌≡◌, sym, ap, ◌∙◌}
 use mathlib.Core.Bool.{true, false}
 use mathlib.Core.List.{List}
-use Prim.Native.Nat.{ℕ, ◌+◌, ◌-◌, ◌≤◌, ◌<◌}
+use Prim.Native.Nat.{ℕ, zero, suc, ◌+◌, ◌-◌, ◌≤◌, ◌<◌}
+use Rattle.std.proofs.Common.{add-zero}
 use native.Mathlib.Omega.{arith}
-use borrow.Author.Tests.{ne_eqb, eqb-true, lt-ltb, le-ltb, le-leb, lt-leb, leb-false}
+use borrow.Author.Tests.{eqb-true, lt-ltb, le-ltb, le-leb, leb-false}
 use lib.Dec.{leb, eqb}
-use lib.ListN.{length, get_or}
+use lib.ListN.{length, take, drop, get_or}
+use Rattle.std.specs.List.{prefix_len}
+use Rattle.std.proofs.lemmas.List.{get_or-take, get_or-drop}
+use Rattle.std.proofs.lemmas.List.Sums.{prefix_len_passes}
 use Rattle.integers.proofs.Tests.{by_cases}
 use Rattle.series_lines.specs.declared.Line.{Line}
 use Rattle.series_lines.specs.Grammar.{space, part_digits, count_digits, whole_digits}
 use Rattle.series_lines.specs.Lexer.{spot_decimal, spot_count, spot_bad}
 use Rattle.published_records.specs.declared.Row.{Row}
 use Rattle.published_records.specs.declared.Column.TheVariants.{Count, Whole}
-use Rattle.published_records.specs.Layout.{number_first, number_last, a_first, a_last, b_first, b_last, c_first, c_last}
-use Rattle.published_records.specs.Rows.{column_limit, decimal_column, term_column, unbegun, in_whole, next_column, moved, entered, in_column}
+use Rattle.published_records.specs.Layout.{number_first, number_last, a_first, a_last, c_first, c_last}
+use Rattle.published_records.specs.Rows.{column_limit, decimal_column, term_column, unbegun, in_whole, moved, entered, in_column}
 use Rattle.published_records.specs.Rows.{lex_term, lex_row}
 use Rattle.published_records.specs.Machine.Runs.{Takes}
-use Rattle.published_records.specs.Machine.Fillers.{put_column}
+use Rattle.published_records.specs.Machine.Fillers.{put_column, Skips}
 use Rattle.published_records.specs.Machine.Indents.{a_whole, c_whole, last_whole, IndentAhead}
-use Rattle.published_records.proofs.ByteRuns.{takes_none, takes_one, takes_then}
+use Rattle.published_records.proofs.ByteRuns.{takes_none, takes_one, takes_then, skips_taken}
+use Rattle.published_records.proofs.Places.{next_one, not_entered, column_a, column_c}
+use Rattle.published_records.proofs.FreeColumns.{run_inside}
 
 -- ---- Columns of spaces.
 
@@ -48,33 +54,12 @@ unfolding decimal_column
 decimal_whole m h = rw (lt-ltb part_digits m h)
 
 kind_a : (k : ℕ) → a_first < k → k < a_whole → term_column k ≡ Whole (a_last - k - part_digits - 1)
-unfolding term_column
-kind_a k p h =
-    rw (le-ltb k number_first (omega arith), lt-leb k number_last (omega arith), le-ltb k a_first (omega arith), le-leb k a_last (omega arith))
-    (decimal_whole (a_last - k) (omega arith))
+kind_a k p h = column_a k (omega arith) (omega arith) ∙ decimal_whole (a_last - k) (omega arith)
 
 kind_c : (k : ℕ) → c_first < k → k < c_whole → term_column k ≡ Whole (c_last - k - part_digits - 1)
-unfolding term_column
-kind_c k p h =
-    rw (
-      le-ltb k number_first (omega arith),
-      lt-leb k number_last (omega arith),
-      le-ltb k a_first (omega arith),
-      lt-leb k a_last (omega arith),
-      lt-leb k b_last (omega arith),
-      le-leb k c_last (omega arith),
-    )
-    (decimal_whole (c_last - k) (omega arith))
+kind_c k p h = column_c k (omega arith) (omega arith) ∙ decimal_whole (c_last - k) (omega arith)
 
 -- ---- A space.
-
-not_entered : (r : Row) → (r.column ≡ a_first → ⊥) → (r.column ≡ b_first → ⊥) → (r.column ≡ c_first → ⊥) → entered r ≡ r
-unfolding entered
-not_entered r a b c = rw (ne_eqb r.column a_first a, ne_eqb r.column b_first b, ne_eqb r.column c_first c)
-
-next_one : (c : ℕ) → c < column_limit → next_column c ≡ c + 1
-unfolding next_column
-next_one c h = rw (lt-ltb _ _ h)
 
 stays : (w most : ℕ) (l : Line) → 1 ≤ w → unbegun l ≡ true → in_whole w most l space ≡ l
 unfolding in_whole
@@ -134,3 +119,27 @@ module _ (r : Row) (text : List ℕ) (from column i : ℕ) (a : IndentAhead r) (
         on = omega (arith, p.on);
         takes = takes_then false r s (put_column r (column + 1)) text from i (i + 1) p.takes one;
       }
+
+indented_all : (r : Row) (text : List ℕ) (from : ℕ) → IndentAhead r → (n : ℕ) → r.column + n ≤ last_whole r.column
+    → ((k : ℕ) → k < n → (from + k < length text) × (get_or text (from + k) 0 ≡ space)) → Indented r text from (r.column + n) (from + n)
+indented_all r text from a zero h f = simp add-zero (indented_none r text from)
+indented_all r text from a (suc n) h f =
+    let e : r.column + suc n ≡ r.column + n + 1 = omega arith in
+    let g : from + suc n ≡ from + n + 1 = omega arith in
+    let before = indented_all r text from a n (omega arith) (λ k p. f k (omega arith)) in
+    let last = f n (omega arith) in
+    rw (e, g) (indented_more r text from (r.column + n) (from + n) a before (omega arith) last.0 last.1)
+
+-- So many spaces ahead, before the last whole column.
+module _ (r : Row) (text : List ℕ) (from n columns : ℕ) where
+  pub indents : IndentAhead r → columns ≡ last_whole r.column - r.column → n ≤ length (take columns (drop from text))
+      → n ≡ prefix_len (λ (x : ℕ). eqb x space) (take columns (drop from text)) → from ≤ length text
+      → Skips false r text from (put_column r (r.column + n)) (from + n)
+  indents a is few count inside =
+      let xs = take columns (drop from text) in
+      let fits = run_inside text from columns n inside few in
+      let spaces : (k : ℕ) → k < n → get_or text (from + k) 0 ≡ space = λ (k : ℕ) (h : k < n).
+      sym (get_or-drop from text k 0) ∙ sym (get_or-take columns (drop from text) k 0 (omega (arith, fits.0)))
+      ∙ eqb-true _ _ (prefix_len_passes (λ (x : ℕ). eqb x space) xs k 0 (omega (arith, count))) in
+      skips_taken false r (put_column r (r.column + n)) text from (from + n)
+      (indented_all r text from a n (omega (arith, is, fits.0, a.early)) (λ (k : ℕ) (h : k < n). (omega (arith, fits.1), spaces k h))).takes

@@ -1,10 +1,10 @@
 -- Digits after a decimal's point, taken in a run, leave what a step for each leaves. Assumes nothing.
 use mathlib.Core.Path.{◌≡◌, refl, sym, ap, subst, ◌∙◌}
-use mathlib.Core.Bool.{Bool, false}
-use mathlib.Core.List.{List, [], ◌∷◌}
+use mathlib.Core.Bool.{false}
+use mathlib.Core.List.{List}
 use Prim.Native.Nat.{ℕ, ◌+◌, ◌*◌, ◌-◌, ◌≤◌, ◌<◌}
 use native.Mathlib.Omega.{arith}
-use borrow.Author.Tests.{ne_eqb, lt-ltb, le-ltb, le-leb, lt-leb, ltb-true, ltb-false, leb-true, leb-false}
+use borrow.Author.Tests.{ne_eqb, le-ltb, ltb-true, ltb-false, leb-true, leb-false}
 use lib.Dec.{leb, ltb}
 use lib.ListN.{length, get_or}
 use Rattle.integers.proofs.Tests.{by_cases}
@@ -15,11 +15,11 @@ use Rattle.series_lines.specs.Machine.Parts.{run_end, RunStop, PartAt, Digits, n
 use Rattle.series_lines.proofs.DigitRuns.{short, lex_part}
 use Rattle.published_records.specs.declared.Row.{Row}
 use Rattle.published_records.specs.declared.Column.TheVariants.{Part}
-use Rattle.published_records.specs.Layout.{number_first, number_last, a_first, a_last, b_first, b_last, c_first, c_last, NoFeed}
-use Rattle.published_records.specs.Rows.{column_limit, decimal_column, term_column, next_column, moved, entered, in_column, lex_term, lex_row}
-use Rattle.published_records.specs.Machine.Runs.{between, RunsOn, Takes}
-use Rattle.published_records.specs.Machine.Fillers.{Skips}
+use Rattle.published_records.specs.Layout.{a_first, a_last, b_first, b_last, c_first, c_last}
+use Rattle.published_records.specs.Rows.{column_limit, decimal_column, term_column, next_column, moved, in_column, lex_term, lex_row}
+use Rattle.published_records.specs.Machine.Runs.{Takes}
 use Rattle.published_records.specs.Machine.Parts.{parts_left, part_columns, PartsAhead, row_at}
+use Rattle.published_records.proofs.Places.{next_one, not_entered, column_a, column_b, column_c}
 use Rattle.published_records.proofs.ByteRuns.{takes_none, takes_one, takes_then}
 
 -- ---- Columns of parts.
@@ -36,35 +36,13 @@ unfolding decimal_column
 decimal_part m h = rw (le-ltb part_digits m (omega arith), ne_eqb m part_digits (λ e. omega (arith, e)))
 
 kind_a : (k : ℕ) → a_last < k + part_digits → k ≤ a_last → term_column k ≡ Part
-unfolding term_column
-kind_a k p h =
-    rw (le-ltb k number_first (omega arith), lt-leb k number_last (omega arith), le-ltb k a_first (omega arith), le-leb k a_last h)
-    (decimal_part (a_last - k) (omega arith))
+kind_a k p h = column_a k (omega arith) h ∙ decimal_part (a_last - k) (omega arith)
 
 kind_b : (k : ℕ) → b_last < k + part_digits → k ≤ b_last → term_column k ≡ Part
-unfolding term_column
-kind_b k p h =
-    rw (
-      le-ltb k number_first (omega arith),
-      lt-leb k number_last (omega arith),
-      le-ltb k a_first (omega arith),
-      lt-leb k a_last (omega arith),
-      le-leb k b_last h,
-    )
-    (decimal_part (b_last - k) (omega arith))
+kind_b k p h = column_b k (omega arith) h ∙ decimal_part (b_last - k) (omega arith)
 
 kind_c : (k : ℕ) → c_last < k + part_digits → k ≤ c_last → term_column k ≡ Part
-unfolding term_column
-kind_c k p h =
-    rw (
-      le-ltb k number_first (omega arith),
-      lt-leb k number_last (omega arith),
-      le-ltb k a_first (omega arith),
-      lt-leb k a_last (omega arith),
-      lt-leb k b_last (omega arith),
-      le-leb k c_last h,
-    )
-    (decimal_part (c_last - k) (omega arith))
+kind_c k p h = column_c k (omega arith) h ∙ decimal_part (c_last - k) (omega arith)
 
 -- Fewer columns on than a field has of them.
 left_small : (m n : ℕ) → n < parts_left m → (m < part_digits) × (n ≤ m)
@@ -117,17 +95,9 @@ part_column c n h =
 
 -- ---- A digit.
 
-not_entered : (r : Row) → PartColumn r.column → entered r ≡ r
-unfolding entered
-not_entered r p = rw (ne_eqb r.column a_first p.not_a, ne_eqb r.column b_first p.not_b, ne_eqb r.column c_first p.not_c)
-
-next_one : (c : ℕ) → c < column_limit → next_column c ≡ c + 1
-unfolding next_column
-next_one c h = rw (lt-ltb _ _ h)
-
 step_part : (r : Row) (byte : ℕ) → PartColumn r.column → lex_row false r byte ≡ moved r (lex r.line byte)
 unfolding lex_row lex_term in_column
-step_part r byte p = rw (p.kind, not_entered r p)
+step_part r byte p = rw (p.kind, not_entered r p.not_a p.not_b p.not_c)
 
 -- ---- Runs.
 
@@ -205,22 +175,6 @@ parted_all r text from a k (more d p) = parted_more r text from _ _ _ a k (parte
 pub parted : (r : Row) (text : List ℕ) (from : ℕ) → PartsAhead r → {next after : ℕ}
     → DigitRun text from r.line.spot r.line.minus r.line.value next after → RunParted r text from after next
 parted r text from a d = parted_all r text from a d.ends d.digits
-
--- Where the record goes on there is no line feed.
-no_feed : (heading : Bool) (r : Row) (bytes : List ℕ) → RunsOn heading r bytes → NoFeed bytes
-unfolding RunsOn NoFeed
-no_feed heading r [] g = tt
-no_feed heading r (byte ∷ bytes) g = (g.0, no_feed heading (lex_row heading r byte) bytes g.1.1)
-
-pub skips_parts : (r s : Row) (text : List ℕ) (from next : ℕ) → Takes false r text from s next → Skips false r text from s next
-skips_parts r s text from next t =
-    record {
-      onward = t.onward;
-      inside = t.inside;
-      no_feed = no_feed false r (between text from next) t.goes_on;
-      same = t.same;
-      goes_on = λ g. t.goes_on;
-    }
 
 -- The column stays small.
 pub come_small : (r : Row) (spot : ℕ) → PartsAhead r → r.line.spot ≤ spot → spot ≤ spot_done → r.column + (spot - r.line.spot) ≤ column_limit

@@ -1,11 +1,13 @@
 -- One record of a published file (Layout.antt), read a byte at a time: what has come of it, and which bytes may go on. The figures go through
 -- the lexer of a series text, so that after each of a, b and c the line is what the hand-cut line would have left. The running number is no part
 -- of the hand-cut line: it is kept beside it.
-use Rattle.std.specs.Prelude.{Bool, true, cond, ◌&&◌, List, [], ◌∷◌, ℕ, ◌+◌, ◌-◌, leb, ltb, eqb}
+use Rattle.std.specs.Prelude.{Bool, true, false, cond, ◌&&◌, List, [], ◌∷◌, ℕ, ◌+◌, ◌-◌, leb, ltb, eqb}
 use Rattle.series_lines.specs.declared.Line.{Line}
 use Rattle.series_lines.specs.Grammar.{space, minus_sign, point, digit_0, count_digits, whole_digits, part_digits}
 use Rattle.series_lines.specs.Lexer.{spot_decimal, spot_count, fresh, bad, with_space, lex, whole_count}
 use Rattle.published_records.specs.declared.Row.{Row}
+use Rattle.published_records.specs.declared.Kind.{Kind}
+use Rattle.published_records.specs.declared.Kind.TheVariants.{Heading, Term}
 use Rattle.published_records.specs.declared.Column.{Column}
 use Rattle.published_records.specs.declared.Column.TheVariants.{Filler, Digit, Count, Whole, Point, Part, Blank}
 use Rattle.published_records.specs.Layout.{version_column, coordinate_column, power_column, count_first, count_last, number_first, number_last}
@@ -144,7 +146,11 @@ lex_heading r byte = in_column (heading_column r.column) r byte
 unfoldable pub lex_term : Row → ℕ → Row
 lex_term r byte = in_column (term_column r.column) (entered r) byte
 
--- Of either.
+-- Of either: what follows speaks of a heading, or not.
+abbrev pub is_heading : Kind → Bool
+is_heading Heading = true
+is_heading Term = false
+
 unfoldable pub lex_row : Bool → Row → ℕ → Row
 lex_row heading r byte = cond heading (lex_heading r byte) (lex_term r byte)
 

@@ -1,6 +1,7 @@
 // What stands in each column of a record.
 ghost use Rattle.std.specs.Prelude.{◌≡◌};
 ghost use Rattle.published_records.specs.Rows.{heading_column, decimal_column, term_column};
+ghost use Rattle.published_records.specs.Machine.Parts.{decimal_left};
 
 use crate::Column;
 use series_lines::lexer::PART_DIGITS;
@@ -34,61 +35,54 @@ pub const C_FIRST: u64 = 112;
 pub const C_LAST: u64 = 131;
 
 // In a heading.
+#[tactic(auto, unfolding(crate::specs::Rows::heading_column))]
 pub fn heading_column(c: u64) -> Column
     ensures { result ≡ heading_column c }
 {
-    if c == VERSION_COLUMN {
-        return Column::Digit;
+    match c {
+        VERSION_COLUMN | COORDINATE_COLUMN | POWER_COLUMN => Column::Digit,
+        COUNT_FIRST..=COUNT_LAST => Column::Count(COUNT_LAST - c),
+        _ => Column::Filler,
     }
-    if c == COORDINATE_COLUMN {
-        return Column::Digit;
-    }
-    if c == POWER_COLUMN {
-        return Column::Digit;
-    }
-    if c < COUNT_FIRST {
-        return Column::Filler;
-    }
-    if c <= COUNT_LAST {
-        return Column::Count(COUNT_LAST - c);
-    }
-    Column::Filler
 }
 
 // In the field of a decimal, with m columns after this one.
+#[tactic(auto, unfolding(crate::specs::Rows::decimal_column))]
 fn decimal_column(m: u64) -> Column
     ensures { result ≡ decimal_column m }
 {
-    if PART_DIGITS < m {
-        return Column::Whole(m - PART_DIGITS - 1);
+    match m {
+        ..PART_DIGITS => Column::Part,
+        PART_DIGITS => Column::Point,
+        _ => Column::Whole(m - PART_DIGITS - 1),
     }
-    if m == PART_DIGITS {
-        return Column::Point;
+}
+
+// So many columns of a decimal's field stand after column c of a term record, where c is in one.
+#[tactic(auto, unfolding(crate::specs::Machine::Parts::decimal_left))]
+pub fn decimal_left(c: u64) -> Option<u64>
+    ensures { result ≡ decimal_left c }
+{
+    match c {
+        A_FIRST..=A_LAST => Some(A_LAST - c),
+        B_FIRST..=B_LAST => Some(B_LAST - c),
+        C_FIRST..=C_LAST => Some(C_LAST - c),
+        _ => None,
     }
-    Column::Part
 }
 
 // In a term record.
+#[tactic(auto, unfolding(crate::specs::Rows::term_column, crate::specs::Machine::Parts::decimal_left))]
 pub fn term_column(c: u64) -> Column
     ensures { result ≡ term_column c }
 {
-    if c < NUMBER_FIRST {
-        return Column::Filler;
+    match c {
+        ..NUMBER_FIRST => Column::Filler,
+        NUMBER_FIRST..=NUMBER_LAST => Column::Count(NUMBER_LAST - c),
+        ..A_FIRST => Column::Filler,
+        _ => match decimal_left(c) {
+            Some(m) => decimal_column(m),
+            None => Column::Blank,
+        },
     }
-    if c <= NUMBER_LAST {
-        return Column::Count(NUMBER_LAST - c);
-    }
-    if c < A_FIRST {
-        return Column::Filler;
-    }
-    if c <= A_LAST {
-        return decimal_column(A_LAST - c);
-    }
-    if c <= B_LAST {
-        return decimal_column(B_LAST - c);
-    }
-    if c <= C_LAST {
-        return decimal_column(C_LAST - c);
-    }
-    Column::Blank
 }

@@ -11,117 +11,101 @@ use series_lines::lexer::{
 };
 
 // A minus or a digit, as the lexer of a text takes it; any other byte is bad.
+#[tactic(auto, unfolding(crate::specs::Machine::Figures::figure_byte))]
 fn lex_figure(l: Line, byte: u8) -> Line
     ensures { result ≡ figure_byte l byte }
 {
-    if byte == b'-' {
-        return with_minus(l);
+    match byte {
+        b'-' => with_minus(l),
+        b'0'..=b'9' => with_digit(l, (byte - b'0') as u64),
+        _ => fresh_line(SPOT_BAD),
     }
-    if byte < b'0' {
-        return fresh_line(SPOT_BAD);
-    }
-    if b'9' < byte {
-        return fresh_line(SPOT_BAD);
-    }
-    with_digit(l, (byte - b'0') as u64)
 }
 
 // No digit of the figure has come.
+#[tactic(auto, unfolding(crate::specs::Rows::no_digit))]
 fn no_digit(l: Line) -> bool
     ensures { result ≡ no_digit l }
 {
-    if l.spot == SPOT_DECIMAL {
-        return true;
-    }
-    l.spot == SPOT_COUNT
+    l.spot == SPOT_DECIMAL || l.spot == SPOT_COUNT
 }
 
 // Nothing of it has come but spaces.
+#[tactic(auto, unfolding(crate::specs::Rows::unbegun))]
 pub fn unbegun(l: Line) -> bool
     ensures { result ≡ Rattle.published_records.specs.Rows.unbegun l }
 {
-    if l.spot == SPOT_DECIMAL {
-        return l.minus == 0;
+    match l.spot {
+        SPOT_DECIMAL => l.minus == 0,
+        spot => spot == SPOT_COUNT,
     }
-    l.spot == SPOT_COUNT
 }
 
 // A minus or a first digit may come, with w whole columns after this one, in a figure of at most so many whole digits.
+#[tactic(auto, unfolding(crate::specs::Rows::may_begin))]
 fn may_begin(w: u64, most: u64, byte: u8) -> bool
     ensures { result ≡ may_begin w most byte }
 {
-    if byte == b'-' {
-        if 1 <= w {
-            return w <= most;
-        }
-        return false;
+    match byte {
+        b'-' => 1 <= w && w <= most,
+        b'0' => w == 0,
+        _ => w < most,
     }
-    if byte == b'0' {
-        return w == 0;
-    }
-    w < most
 }
 
 // A space in a whole column of a figure.
+#[tactic(auto, unfolding(crate::specs::Rows::in_whole))]
 fn in_indent(w: u64, l: Line) -> Line
     ensures { result ≡ in_whole w 0 l space }
 {
-    if unbegun(l) {
-        if 1 <= w {
-            return l;
-        }
-        return fresh_line(SPOT_BAD);
+    if unbegun(l) && 1 <= w {
+        return l;
     }
     fresh_line(SPOT_BAD)
 }
 
 // A byte in a whole column of a figure.
+#[tactic(auto, using(crate::proofs::FigureBytes::lexed), unfolding(crate::specs::Rows::in_whole))]
 pub fn in_whole(w: u64, most: u64, l: Line, byte: u8) -> Line
     ensures { result ≡ in_whole w most l byte }
 {
-    if byte == b' ' {
-        return in_indent(w, l);
+    match byte {
+        b' ' => in_indent(w, l),
+        b'.' => fresh_line(SPOT_BAD),
+        _ if no_digit(l) && !may_begin(w, most, byte) => fresh_line(SPOT_BAD),
+        _ => lex_figure(l, byte),
     }
-    if byte == b'.' {
-        return fresh_line(SPOT_BAD);
-    }
-    if no_digit(l) {
-        if !may_begin(w, most, byte) {
-            return fresh_line(SPOT_BAD);
-        }
-    }
-    lex_figure(l, byte)
 }
 
 // A byte in the column of a point.
+#[tactic(auto, unfolding(series_lines::specs::Lexer::lex))]
 pub fn in_point(l: Line, byte: u8) -> Line
     ensures { result ≡ cond (eqb byte point) (Rattle.series_lines.specs.Lexer.lex l byte) bad }
 {
-    if byte == b'.' {
-        return with_point(l);
+    match byte {
+        b'.' => with_point(l),
+        _ => fresh_line(SPOT_BAD),
     }
-    fresh_line(SPOT_BAD)
 }
 
 // A byte in a column after the point: as in a text.
+#[tactic(auto, using(crate::proofs::FigureBytes::lexed), unfolding(series_lines::specs::Lexer::lex))]
 pub fn in_part(l: Line, byte: u8) -> Line
     ensures { result ≡ Rattle.series_lines.specs.Lexer.lex l byte }
 {
-    if byte == b' ' {
-        return with_space(l);
+    match byte {
+        b' ' => with_space(l),
+        b'.' => with_point(l),
+        _ => lex_figure(l, byte),
     }
-    if byte == b'.' {
-        return with_point(l);
-    }
-    lex_figure(l, byte)
 }
 
 // A byte after the last figure.
 pub fn in_blank(l: Line, byte: u8) -> Line
     ensures { result ≡ cond (eqb byte space) l bad }
 {
-    if byte == b' ' {
-        return l;
+    match byte {
+        b' ' => l,
+        _ => fresh_line(SPOT_BAD),
     }
-    fresh_line(SPOT_BAD)
 }

@@ -1,141 +1,97 @@
-// Free columns, which most bytes of a file are, gone over in a run: the loop only looks for a line feed.
-ghost use Rattle.std.specs.Prelude.{◌≡◌, length, ◌-◌, ◌≤◌};
-ghost use Rattle.published_records.specs.Machine.Fillers.{heading_end, term_end, filler_end, put_column, Run, Skips};
+// Free columns, which most bytes of a file are, gone over in a run that ends before a line feed.
+ghost use Rattle.std.specs.Prelude.{◌≡◌, ◌≤◌, length, take, drop, eqb};
+ghost use Rattle.std.specs.List.{position_or_len};
+ghost use Rattle.series_lines.specs.Grammar.{feed};
+ghost use Rattle.published_records.specs.Rows.{is_heading};
+ghost use Rattle.published_records.specs.Machine.Fillers.{heading_end, term_end, filler_end, Skips};
 
-use crate::Row;
 use crate::columns::{
     A_FIRST, COORDINATE_COLUMN, COUNT_LAST, NUMBER_FIRST, NUMBER_LAST, POWER_COLUMN, VERSION_COLUMN,
 };
-use crate::rows::COLUMN_LIMIT;
+use crate::rows::held;
+use crate::{Kind, Row};
 use series_lines::LAST_OFFSET;
+use series_lines::passed::Passed;
 
 // After the count of a heading all columns are free: no column is so large.
 const NO_END: u64 = LAST_OFFSET as u64;
 
-// The row after some bytes, and the index of the next one.
-#[derive(Clone, Copy)]
-pub struct Skipped {
-    pub row: Row,
-    pub next: usize,
-}
-
 // The first column from c on that is not free, in a heading.
+#[tactic(auto, unfolding(crate::specs::Machine::Fillers::heading_end))]
 fn heading_end(c: u64) -> u64
     ensures { result ≡ heading_end c }
 {
-    if c <= VERSION_COLUMN {
-        return VERSION_COLUMN;
+    match c {
+        ..=VERSION_COLUMN => VERSION_COLUMN,
+        ..=COORDINATE_COLUMN => COORDINATE_COLUMN,
+        ..=POWER_COLUMN => POWER_COLUMN,
+        ..=COUNT_LAST => c,
+        _ => NO_END,
     }
-    if c <= COORDINATE_COLUMN {
-        return COORDINATE_COLUMN;
-    }
-    if c <= POWER_COLUMN {
-        return POWER_COLUMN;
-    }
-    if c <= COUNT_LAST {
-        return c;
-    }
-    NO_END
 }
 
 // And in a term record.
+#[tactic(auto, unfolding(crate::specs::Machine::Fillers::term_end))]
 fn term_end(c: u64) -> u64
     ensures { result ≡ term_end c }
 {
-    if c <= NUMBER_FIRST {
-        return NUMBER_FIRST;
-    }
-    if c <= NUMBER_LAST {
-        return c;
-    }
-    if c <= A_FIRST {
-        return A_FIRST;
-    }
-    c
-}
-
-// In either.
-fn filler_end(heading: bool, column: u64) -> u64
-    ensures { result ≡ filler_end heading column }
-{
-    if heading {
-        return heading_end(column);
-    }
-    term_end(column)
-}
-
-// The column after n bytes, from column c on.
-fn held(c: u64, n: u64) -> u64
-    ensures { result ≡ Rattle.published_records.specs.Machine.Fillers.held c n }
-{
-    if COLUMN_LIMIT <= c {
-        return COLUMN_LIMIT;
-    }
-    if n < COLUMN_LIMIT - c {
-        return c + n;
-    }
-    COLUMN_LIMIT
-}
-
-// The row at another column.
-fn put_column(row: Row, column: u64) -> Row
-    ensures { result ≡ put_column row column }
-{
-    let l = row.line;
-    Row {
-        column,
-        line: l,
-        version: row.version,
-        coordinate: row.coordinate,
-        power: row.power,
-        number: row.number,
+    match c {
+        ..=NUMBER_FIRST => NUMBER_FIRST,
+        ..=NUMBER_LAST => c,
+        ..=A_FIRST => A_FIRST,
+        _ => c,
     }
 }
 
-// The index where the text or a run of so many columns ends.
-fn run_limit(length: usize, from: usize, columns: u64) -> usize
-    requires { from ≤ length }
-    ensures { (from ≤ result) × ((result ≤ length) × (result - from ≤ columns)) }
-{
-    if (length - from) as u64 <= columns {
-        return length;
-    }
-    from + columns as usize
-}
-
-// The index of the first line feed from an index on, or the end.
-fn feed_before(text: &[u8], from: usize, end: usize) -> usize
-    requires { end ≤ length text.now }
-    ensures { Run text.now from end result }
-{
-    let mut i = from;
-    while i < end {
-        if text[i] == b'\n' {
-            return i;
+impl Kind {
+    // In either.
+    #[tactic(auto, unfolding(crate::specs::Machine::Fillers::filler_end))]
+    fn filler_end(self, column: u64) -> u64
+        ensures { result ≡ filler_end (is_heading self) column }
+    {
+        match self {
+            Kind::Heading => heading_end(column),
+            Kind::Term => term_end(column),
         }
-        i = i + 1;
     }
-    i
+}
+
+// The bytes that stand from an index on, at most so many.
+pub fn bytes_ahead(text: &[u8], from: usize, most: u64) -> &[u8]
+    requires { from ≤ length text.now }
+    ensures { result.now ≡ take most (drop from text.now) }
+{
+    let rest = &text[from..];
+    let n = rest.len().min(most as usize);
+    &rest[..n]
+}
+
+// How many bytes stand before the first line feed.
+fn feed_before(ahead: &[u8]) -> usize
+    ensures within { result ≤ length ahead.now }
+    ensures place { result ≡ position_or_len (λ x. eqb x feed) ahead.now }
+{
+    ahead.iter().take_while(|byte| **byte != b'\n').count()
 }
 
 // The bytes of free columns that stand from an index on, before a line feed.
-pub fn skip_fillers(heading: bool, row: Row, text: &[u8], from: usize) -> Skipped
-    ensures { Skips heading row text.now from result.row result.next }
+pub fn skip_fillers(kind: Kind, row: Row, text: &[u8], from: usize) -> Passed<Row>
+    requires { from ≤ length text.now }
+    ensures { Skips (is_heading kind) row text.now from result.state result.next }
 {
-    let column = row.column;
-    let end = filler_end(heading, column);
-    if end <= column {
-        return Skipped { row, next: from };
+    let columns = kind.filler_end(row.column).saturating_sub(row.column);
+    let n = feed_before(bytes_ahead(text, from, columns));
+    if n == 0 {
+        return Passed {
+            state: row,
+            next: from,
+        };
     }
-    if text.len() <= from {
-        return Skipped { row, next: from };
-    }
-    let next = feed_before(text, from, run_limit(text.len(), from, end - column));
-    if next <= from {
-        return Skipped { row, next: from };
-    }
-    Skipped {
-        row: put_column(row, held(column, (next - from) as u64)),
-        next,
+    Passed {
+        state: Row {
+            column: held(row.column, n as u64),
+            ..row
+        },
+        next: from + n,
     }
 }

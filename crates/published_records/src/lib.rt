@@ -11,6 +11,13 @@ pub mod runs;
 
 use series_lines::Line;
 
+// The two records of a file.
+#[derive(Clone, Copy, PartialEq, Eq)]
+pub enum Kind {
+    Heading,
+    Term,
+}
+
 // What stands in a column: any byte, a single digit, a digit of a count or of a decimal's whole part (with so many such columns after it), a
 // decimal's point, a digit after it, or a space.
 #[derive(Clone, Copy)]

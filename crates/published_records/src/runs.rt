@@ -1,57 +1,46 @@
-// The bytes of a record in a run, up to a line feed or a byte that cannot stand in it: the loop holds only the row.
-ghost use Rattle.std.specs.Prelude.{◌≡◌};
+// The bytes of a record in a run, up to a line feed or a byte that cannot stand in it.
+ghost use Rattle.std.specs.Prelude.{◌≡◌, ◌≤◌, length};
+ghost use Rattle.published_records.specs.Rows.{is_heading};
 ghost use Rattle.published_records.specs.Machine.Fillers.{Skips};
 ghost use Rattle.published_records.specs.Machine.Runs.{Takes};
 
-use crate::Row;
-use crate::fillers::{Skipped, skip_fillers};
+use crate::fillers::skip_fillers;
 use crate::indents::{indent_ahead, skip_indent};
 use crate::parts::{parts_ahead, take_parts};
-use crate::rows::lex_row;
-use series_lines::lexer::SPOT_BAD;
-
-// The row is bad: a byte came that cannot stand in it.
-fn is_bad(row: Row) -> bool
-    ensures { result ≡ Rattle.published_records.specs.Machine.Runs.is_bad row }
-{
-    let l = row.line;
-    l.spot == SPOT_BAD
-}
+use crate::{Kind, Row};
+use series_lines::passed::Passed;
 
 // The free columns, the digits after a point or the spaces before a figure that stand from an index on.
-fn take_run(heading: bool, row: Row, text: &[u8], from: usize) -> Skipped
-    ensures { Skips heading row text.now from result.row result.next }
+fn take_run(kind: Kind, row: Row, text: &[u8], from: usize) -> Passed<Row>
+    requires { from ≤ length text.now }
+    ensures { Skips (is_heading kind) row text.now from result.state result.next }
 {
-    if heading {
-        return skip_fillers(heading, row, text, from);
+    match kind {
+        Kind::Term if parts_ahead(row) => take_parts(row, text, from),
+        Kind::Term if indent_ahead(row) => skip_indent(row, text, from),
+        _ => skip_fillers(kind, row, text, from),
     }
-    if parts_ahead(row) {
-        return take_parts(row, text, from);
-    }
-    if indent_ahead(row) {
-        return skip_indent(row, text, from);
-    }
-    skip_fillers(heading, row, text, from)
 }
 
 // The bytes that stand from an index on, as far as the record goes on with them.
-pub fn take_bytes(heading: bool, row: Row, text: &[u8], from: usize) -> Skipped
-    ensures { Takes heading row text.now from result.row result.next }
+pub fn take_bytes(kind: Kind, row: Row, text: &[u8], from: usize) -> Passed<Row>
+    ensures { Takes (is_heading kind) row text.now from result.state result.next }
 {
-    let mut at = row;
-    let mut i = from;
-    while i < text.len() {
-        let byte = text[i];
+    let mut at = Passed {
+        state: row,
+        next: from,
+    };
+    // An index and not a `for`: a turn takes a byte and the run after it.
+    while at.next < text.len() {
+        let byte = text[at.next];
         if byte == b'\n' {
-            return Skipped { row: at, next: i };
+            return at;
         }
-        let next = lex_row(heading, at, byte);
-        if is_bad(next) {
-            return Skipped { row: at, next: i };
+        let next = at.state.lex(kind, byte);
+        if next.is_bad() {
+            return at;
         }
-        let run = take_run(heading, next, text, i + 1);
-        at = run.row;
-        i = run.next;
+        at = take_run(kind, next, text, at.next + 1);
     }
-    Skipped { row: at, next: i }
+    at
 }

@@ -40,12 +40,6 @@ abbrev pub put_column : Row → ℕ → Row
 put_column r c =
     record { column = c; line = r.line; version = r.version; coordinate = r.coordinate; power = r.power; number = r.number }
 
--- No line feed from an index on, to one that lies before an end.
-pub record Run (text : List ℕ) (from end next : ℕ) : Type 0 where
-  pub onward : from ≤ next
-  pub inside : from ≤ end → next ≤ end
-  pub no_feed : NoFeed (between text from next)
-
 -- A row after the bytes from one index to another, with no line feed among them; a record that was good goes on with each.
 pub record Skips (heading : Bool) (r : Row) (text : List ℕ) (from : ℕ) (after : Row) (next : ℕ) : Type 0 where
   pub onward : from ≤ next

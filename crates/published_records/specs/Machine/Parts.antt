@@ -1,9 +1,18 @@
 -- What the code asks of a row that takes digits after a decimal's point in a run. Held by the code, no part of the rules.
-use Rattle.std.specs.Prelude.{cond, ℕ, ◌+◌, ◌-◌, ◌≤◌, ◌<◌, leb, ltb}
+use Rattle.std.specs.Prelude.{cond, Option, Some, None, ℕ, ◌+◌, ◌-◌, ◌≤◌, ◌<◌, leb, ltb}
 use Rattle.series_lines.specs.Grammar.{part_digits}
 use Rattle.series_lines.specs.Lexer.{spot_point, spot_done, put}
 use Rattle.published_records.specs.declared.Row.{Row}
 use Rattle.published_records.specs.Layout.{a_first, a_last, b_last, c_last}
+
+-- So many columns of a decimal's field stand after column c of a term record, where c is in one.
+unfoldable pub decimal_left : ℕ → Option ℕ
+decimal_left c =
+    cond (ltb c a_first) None
+    (cond (leb c a_last) (Some (a_last - c))
+    (cond (leb c b_last) (Some (b_last - c))
+    (cond (leb c c_last) (Some (c_last - c))
+    None)))
 
 -- So many of the last columns of a field take digits after the point, from one with m columns after it.
 unfoldable pub parts_left : ℕ → ℕ

@@ -1,20 +1,7 @@
 -- `published_headings::judge::skip_blocks` meets its contract: what is left to skip gives what all of it gives. Assumes nothing.
-use mathlib.Core.Path.{refl, sym, ◌∙◌}
-use native.Mathlib.Omega.{arith}
+use Rattle.std.proofs.Common.{sym, ◌∙◌, arith}
 use Rattle.published_headings.proofs.Judged.{opened_fits, skip_more, skip_end}
 use Rattle.published_headings.proofs.judge.skip_blocks.Goals as goal
-
-pub loop-i-init : goal.loop-i-init
-loop-i-init c = (c.requires, refl)
-
-pub open_block-s-requires : goal.open_block-s-requires
-open_block-s-requires c = c.loop-i.invariant.0
-
-pub overflow_add-i : goal.overflow_add-i
-overflow_add-i c = omega arith
-
-pub loop-i-smaller : goal.loop-i-smaller
-loop-i-smaller c = omega arith
 
 pub loop-i-preserved : goal.loop-i-preserved
 loop-i-preserved c =

@@ -1,5 +1,5 @@
 -- `published_records::parts::come_to` meets its contract. Assumes nothing.
-use native.Mathlib.Omega.{arith}
+use Rattle.std.proofs.Common.{arith}
 use Rattle.published_records.proofs.PartRuns.{come_small}
 use Rattle.published_records.proofs.parts.come_to.Goals as goal
 

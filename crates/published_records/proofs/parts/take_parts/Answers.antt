@@ -1,9 +1,11 @@
 -- `published_records::parts::take_parts` meets its contract: each digit of the run goes on. Assumes nothing.
+use Rattle.std.proofs.Common.{false}
 use Prim.Native.Nat.{◌+◌, ◌-◌, ◌≤◌}
 use native.Mathlib.Omega.{arith}
 use Rattle.series_lines.proofs.DigitRuns.{run_within}
 use Rattle.published_records.specs.Machine.Parts.{row_at}
-use Rattle.published_records.proofs.PartRuns.{parted, skips_parts}
+use Rattle.published_records.proofs.PartRuns.{parted}
+use Rattle.published_records.proofs.ByteRuns.{skips_taken}
 use Rattle.published_records.proofs.parts.take_parts.Goals as goal
 
 pub overflow_sub-spot : goal.overflow_sub-spot
@@ -21,4 +23,4 @@ pub returns : goal.returns
 returns c =
     let r = c.args.row in
     rw c.come_to.ensures
-    (skips_parts r (row_at r _ _) _ _ _ (parted r _ _ c.requires c.take_digits-digits.ensures).takes)
+    (skips_taken false r (row_at r _ _) _ _ _ (parted r _ _ c.requires c.take_digits-digits.ensures).takes)
