@@ -2,65 +2,24 @@
 // The root is found bit by bit from the top: RULES, "The floor root bit by bit". What holds of every bit is said in specs/Bits.antt.
 #![tactic(auto)]
 
-ghost use Rattle.std.specs.Prelude.{◌≡◌, ◌+◌, ◌*◌, ◌/◌, ◌%◌, ◌<◌, ◌^◌, nat_abs, ◌+ℤ◌, ◌*ℤ◌};
+ghost use Rattle.std.specs.Prelude.{◌≡◌, ◌+◌, ◌*◌, ◌<◌, ◌^◌, nat_abs, ◌+ℤ◌, ◌*ℤ◌};
 ghost use Rattle.integers.specs.Root.{root};
 ghost use Rattle.roots.specs.Bits.{Worked, read};
 ghost use Rattle.roots.specs.Machine.Word.{word};
 
-use arith::signed::abs;
-
-// The half of a word is below this, 2^24, and a word below its square, 2^48.
-const HALF_WORD: u64 = 16777216;
-
-const WORD: u64 = HALF_WORD * HALF_WORD;
+// A word is below this, 2^48.
+const WORD: u64 = 1 << WORD_BITS;
 
 // The bits of a word, and its pairs of bits.
 const WORD_BITS: u32 = 48;
 
 const PAIRS: u64 = 24;
 
-// A number in two words.
-#[derive(Clone, Copy)]
-struct Words {
-    high: u64,
-    low: u64,
-}
-
 // The root of a number as far as it has been read, and the rest: what the number has above the root's square.
 #[derive(Clone, Copy)]
 struct Working {
     root: u64,
     rest: u64,
-}
-
-// x·x, by halves of 24 bits.
-fn square(x: u64) -> Words
-    requires { x < word }
-    ensures { (result.high ≡ x * x / word) × (result.low ≡ x * x % word) }
-{
-    let h = x / HALF_WORD;
-    let l = x % HALF_WORD;
-    let m = 2 * (h * l);
-    let s = l * l + m % HALF_WORD * HALF_WORD;
-    Words {
-        high: h * h + m / HALF_WORD + s / WORD,
-        low: s % WORD,
-    }
-}
-
-// The sum of three squares.
-fn squares(x: u64, y: u64, z: u64) -> Words
-    requires { x * x + y * y + z * z < word * word }
-    ensures { (result.high ≡ (x * x + y * y + z * z) / word) × (result.low ≡ (x * x + y * y + z * z) % word) }
-{
-    let a = square(x);
-    let b = square(y);
-    let c = square(z);
-    let s = a.low + b.low + c.low;
-    Words {
-        high: a.high + b.high + c.high + s / WORD,
-        low: s % WORD,
-    }
 }
 
 // The next pair of bits of the number, and with it one bit more of the root. With a 1 the square is by `trial` greater than with a 0, so the
@@ -71,6 +30,7 @@ fn with_pair(w: Working, pair: u64) -> Working
 {
     let rest = (w.rest << 2) + pair;
     let trial = (w.root << 2) + 1;
+    // The bit and what it takes off are set in the test and used after it: of a result for each way the compiler makes a jump.
     let mut bit: u64 = 0;
     let mut growth: u64 = 0;
     if trial <= rest {
@@ -90,24 +50,30 @@ fn with_word(start: Working, next: u64) -> Working
 {
     let mut w = start;
     let mut left = next;
-    let mut done: u64 = 0;
-    while done < PAIRS {
+    for _ in 0..PAIRS {
         let moved = left << 2;
         w = with_pair(w, moved >> WORD_BITS);
         left = moved % WORD;
-        done += 1;
     }
     w
 }
 
-// The floor root of the number.
-fn floor_root(n: Words) -> u64
-    requires { (n.high < word) × (n.low < word) }
-    ensures { result ≡ root (n.high * word + n.low) }
+// The floor root of a number of two words, the upper one first. It is not std's: the bits are found as the rule has it.
+fn floor_root(n: u128) -> u64
+    requires { n < word * word }
+    ensures { result ≡ root n }
 {
     let none = Working { root: 0, rest: 0 };
-    let upper = with_word(none, n.high);
-    with_word(upper, n.low).root
+    let upper = with_word(none, (n / WORD as u128) as u64);
+    with_word(upper, (n % WORD as u128) as u64).root
+}
+
+// x·x.
+fn square(x: i64) -> u128
+    ensures { result ≡ nat_abs x * nat_abs x }
+{
+    let size = u128::from(x.unsigned_abs());
+    size * size
 }
 
 // The floor of the length of (x, y, z).
@@ -115,5 +81,5 @@ pub fn length(x: i64, y: i64, z: i64) -> u64
     requires { nat_abs (x *ℤ x +ℤ y *ℤ y +ℤ z *ℤ z) < 2 ^ 92 }
     ensures { result ≡ root (nat_abs (x *ℤ x +ℤ y *ℤ y +ℤ z *ℤ z)) }
 {
-    floor_root(squares(abs(x), abs(y), abs(z)))
+    floor_root(square(x) + square(y) + square(z))
 }

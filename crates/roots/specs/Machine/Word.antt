@@ -4,10 +4,6 @@ use Rattle.std.specs.Prelude.{ℕ, ◌^◌}
 abbrev pub word : ℕ
 word = 2 ^ 48
 
--- The half of a word is below this.
-abbrev pub half_word : ℕ
-half_word = 2 ^ 24
-
 -- A word has so many pairs of bits.
 abbrev pub pairs : ℕ
 pairs = 24
