@@ -1,2 +1,3 @@
--- RULES, "Sun list": the runs of listed minutes.
+-- RULES, "Sun list": the runs of listed minutes. Machine: what the loops over a window take of each.
 pub mod Runs
+pub mod Machine

@@ -1,5 +1,5 @@
 -- RULES, "Sun list": for each maximal run of listed minutes its first and its last minute, ascending.
-use Rattle.std.specs.Prelude.{Bool, true, false, List, [], ◌∷◌, ◌++◌, map, ℕ, suc, eqb}
+use Rattle.std.specs.Prelude.{Bool, true, false, List, [], ◌∷◌, ◌++◌, ℕ, suc}
 
 -- Whether the first of these minutes is listed; there is none past the window's end.
 unfoldable pub first_listed : List Bool → Bool
@@ -19,21 +19,9 @@ unfoldable pub runs : ℕ → Bool → List Bool → List ℕ
 runs j before [] = []
 runs j before (f ∷ fs) = run_ends j before f (first_listed fs) ++ runs (suc j) f fs
 
--- The byte of a listed minute.
-abbrev pub listed_flag : ℕ
-listed_flag = 1
-
--- Whether a byte says that its minute is listed.
-abbrev pub flag : ℕ → Bool
-flag b = eqb b listed_flag
-
--- The flags of a window, from its bytes.
-unfoldable pub flags : List ℕ → List Bool
-flags bytes = map flag bytes
-
--- The numbers of a window.
-unfoldable pub run_numbers : List ℕ → List ℕ
-run_numbers bytes = runs 0 false (flags bytes)
+-- The numbers of a window, whose flags tell of each minute whether it is listed.
+unfoldable pub run_numbers : List Bool → List ℕ
+run_numbers flags = runs 0 false flags
 
 -- The minutes of a window are at most those of a day.
 abbrev pub most_minutes : ℕ

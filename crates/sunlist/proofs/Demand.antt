@@ -17,7 +17,7 @@ use Rattle.series.specs.Sums.{coordinates}
 use Rattle.separation.specs.Listed.{listed}
 use Rattle.separation.specs.Machine.Near.{NearCoordinates}
 use Rattle.separation.proofs.Core.{within_is_listed, listed_is_within}
-use Rattle.runs.specs.Runs.{run_numbers, flag, flags}
+use Rattle.runs.specs.Runs.{run_numbers}
 use Rattle.runs.proofs.Runs.{FlagsOf, runs_are}
 use Rattle.runs.proofs.Maximal.{RunsOf, runs_of}
 use Rattle.std.specs.Prelude.{Ok}
@@ -61,10 +61,10 @@ module _ (planet_bytes earth_bytes : List ℕ) (t0 : Instant) (minutes keep_out 
 
   list : (r : ℕ) × RunsOf listed_at n r xs
   unfolding decision_at run_numbers
-  list = runs_of listed_at n (runs_are listed_at n (flags (window_flags (decision_at a.planet a.earth t0 k) 0 n))
-      (subst (λ (e : ℕ). FlagsOf listed_at e 0 (flags (window_flags (decision_at a.planet a.earth t0 k) 0 n))) (zero_plus n)
+  list = runs_of listed_at n (runs_are listed_at n (window_flags (decision_at a.planet a.earth t0 k) 0 n)
+      (subst (λ (e : ℕ). FlagsOf listed_at e 0 (window_flags (decision_at a.planet a.earth t0 k) 0 n)) (zero_plus n)
       (flags_are (decision_at a.planet a.earth t0 k) listed_at 0 n
-      (λ j l. subst (λ (i : ℕ). flag (flag_of (decision_at a.planet a.earth t0 k i)) ≡ listed_at i) (sym (zero_plus j))
+      (λ j l. subst (λ (i : ℕ). flag_of (decision_at a.planet a.earth t0 k i) ≡ listed_at i) (sym (zero_plus j))
       (good_flag k (planet_at j) (earth_at j) (good_at j l))))))
 
   -- The numbers written are those of the list.

@@ -1,47 +1,25 @@
 -- What the functions of window.rt ask and answer. Assumes nothing.
 use mathlib.Core.Path.{◌≡◌, refl, sym, ap, ap₂, ◌∙◌, subst}
-use mathlib.Core.Bool.{Bool, true, false, not, ◌||◌}
+use mathlib.Core.Bool.{Bool, true, false, ◌||◌}
 use mathlib.Core.List.{List}
-use Prim.Native.Nat.{ℕ, ◌+◌, ◌*◌, ◌^◌, ◌≤◌, ◌<◌}
+use Prim.Native.Nat.{ℕ, ◌*◌, ◌^◌, ◌≤◌, ◌<◌}
 use native.Mathlib.Omega.{arith}
 use borrow.Author.Tests.{le-leb, lt-leb}
-use lib.Dec.{leb}
 use lib.IntN.{ℤ, pos, nat_abs, ◌+ℤ◌}
 use lib.ListN.{length}
 use lib.Seq.{sets}
 use mir.Syntax.{w64}
 use mir.Val.{SFits}
 use Rattle.integers.proofs.Order.{nat_abs-+, fits}
-use Rattle.units.specs.Units.{minute_ms, t_limit, near_limit, near}
-use Rattle.units.proofs.Limit.{told_past, told_within}
+use Rattle.units.specs.Units.{minute_ms, t_limit, near}
 use Rattle.units.specs.declared.Instant.{Instant}
 use Rattle.units.specs.declared.Refusal.TheVariants.{NoRoom}
 use Rattle.arith.proofs.Cells.{Cell, cell}
-use Rattle.separation.specs.Arcminutes.{least_keep_out, greatest_keep_out}
 use Rattle.std.specs.Prelude.{Err, Ok}
 use Rattle.runs.specs.Runs.{most_minutes}
-use Rattle.sunlist.specs.SunList.{minute, window_fits, first_failing, numbers, answered, written}
+use Rattle.sunlist.specs.SunList.{minute, first_failing, numbers, answered, written}
 use Rattle.sunlist.specs.Machine.Window.{asked_at}
 use Rattle.sunlist.proofs.Failing.{none_fails}
-
--- ---- fits
-
-module _ (n k : ℕ) where
-  pub angle_low : k < least_keep_out → false ≡ window_fits (pos n) (pos k)
-  unfolding window_fits
-  angle_low h = rw (lt-leb least_keep_out k h)
-
-  pub angle_high : least_keep_out ≤ k → greatest_keep_out < k → false ≡ window_fits (pos n) (pos k)
-  unfolding window_fits
-  angle_high g h = rw (le-leb least_keep_out k g, lt-leb k greatest_keep_out h)
-
-  pub no_minutes : least_keep_out ≤ k → k ≤ greatest_keep_out → n < 1 → false ≡ window_fits (pos n) (pos k)
-  unfolding window_fits
-  no_minutes g h l = rw (le-leb least_keep_out k g, le-leb k greatest_keep_out h, lt-leb 1 n l)
-
-  pub minutes_told : least_keep_out ≤ k → k ≤ greatest_keep_out → 1 ≤ n → leb n most_minutes ≡ window_fits (pos n) (pos k)
-  unfolding window_fits
-  minutes_told g h l = rw (le-leb least_keep_out k g, le-leb k greatest_keep_out h, le-leb 1 n l)
 
 -- ---- minute
 module _ (t : ℤ) (j : ℕ) (w : ℤ) (ht : nat_abs t ≤ t_limit) (hj : j < most_minutes) (e : w ≡ pos (minute_ms * j)) where
@@ -59,26 +37,25 @@ module _ (t : ℤ) (j : ℕ) (w : ℤ) (ht : nat_abs t ≤ t_limit) (hj : j < mo
 
 -- ---- first_far
 
-pub good_asked : (t0 : Instant) (n : ℕ) (wide : Bool) → wide ≡ true → n ≡ first_failing (asked_at t0 wide) 0 n
-good_asked t0 n wide e = sym (none_fails (asked_at t0 wide) 0 n (λ i l. rw e (or_true (near (minute t0 i).ms))) ∙ zero_plus n)
+pub good_asked : (t0 : Instant) (n : ℕ) (wide : Bool) → wide ≡ true → n ≤ first_failing (asked_at t0 wide) 0 n
+good_asked t0 n wide e = let f = none_fails (asked_at t0 wide) 0 n (λ i l. rw e (or_true (near (minute t0 i).ms))) in omega arith
   where
     or_true : (b : Bool) → (b || true) ≡ true
     or_true true = refl
     or_true false = refl
 
-    zero_plus : (n : ℕ) → 0 + n ≡ n
-    zero_plus n = omega arith
+-- At minute j, of series that are not both good.
+pub asked_near : (t0 : Instant) (wide : Bool) (j : ℕ) (t : Instant) (b : Bool) → wide ≡ false → t ≡ minute t0 j → near t.ms ≡ b → asked_at t0 wide j ≡ b
+asked_near t0 wide j t b w e h = ap₂ ◌||◌ (ap (λ (s : Instant). near s.ms) (sym e) ∙ h) w ∙ or_false b
+  where
+    or_false : (b : Bool) → (b || false) ≡ b
+    or_false true = refl
+    or_false false = refl
 
--- b is what the test answered at minute j, of series that are not both good, and the caller branched on its negation.
-module _ (t0 : Instant) (wide : Bool) (w : wide ≡ false) (j : ℕ) (t : Instant) (e : t ≡ minute t0 j) (b : Bool) (h : b ≡ near t.ms) where
-  near_is : near (minute t0 j).ms ≡ near t.ms
-  near_is = ap (λ (s : Instant). near s.ms) (sym e)
-
-  pub far_unasked : not b ≡ true → asked_at t0 wide j ≡ false
-  far_unasked f = ap₂ ◌||◌ (near_is ∙ told_past near_limit t.ms b h f) w
-
-  pub near_asked : not b ≡ false → asked_at t0 wide j ≡ true
-  near_asked f = ap₂ ◌||◌ (near_is ∙ told_within near_limit t.ms b h f) w
+-- What is found, or that nothing is.
+pub found_at : (test : ℕ → Bool) (t0 : Instant) (n j : ℕ) (t : Instant) → j ≡ first_failing test 0 n → j < n → t ≡ minute t0 j
+    → (first_failing test 0 n < n) × (t ≡ minute t0 (first_failing test 0 n))
+found_at test t0 n j t e l h = (omega arith, h ∙ ap (minute t0) e)
 
 -- ---- write_runs
 pub no_room : (xs out : List ℕ) (n : ℕ) → n ≡ length xs → length out < n → (Err (NoRoom n) ≡ answered (length out) (numbers xs))

@@ -12,7 +12,7 @@ use Rattle.limits.specs.Wide.{Range, four_millennia, both_asked}
 use Rattle.packed.specs.Series.{Parsed, accepted, refused, parse}
 use Rattle.series.specs.Sums.{coordinates}
 use Rattle.separation.specs.Arcminutes.{least_keep_out, greatest_keep_out}
-use Rattle.runs.specs.Runs.{listed_flag, run_numbers, most_minutes}
+use Rattle.runs.specs.Runs.{run_numbers, most_minutes}
 use Rattle.sunlist.specs.declared.Decision.{Decision}
 use Rattle.sunlist.specs.declared.Decision.TheVariants.{Listed, Clear, Unusable}
 use Rattle.std.specs.Prelude.{Err, Ok, Result}
@@ -37,18 +37,11 @@ good (Listed f) = true
 good (Clear f) = true
 good Unusable = false
 
--- The flags of a minute that is not listed: it is clear, or its places are not usable.
-abbrev pub clear_flag : ℕ
-clear_flag = 0
-
-abbrev pub unusable_flag : ℕ
-unusable_flag = 2
-
--- The flag of a minute so decided.
-abbrev pub flag_of : Decision → ℕ
-flag_of (Listed f) = listed_flag
-flag_of (Clear f) = clear_flag
-flag_of Unusable = unusable_flag
+-- The flag of a minute so decided: whether it is listed.
+abbrev pub flag_of : Decision → Bool
+flag_of (Listed f) = true
+flag_of (Clear f) = false
+flag_of Unusable = false
 
 -- Of n minutes from j on: the first at which a test fails, or the minute after them.
 unfoldable pub first_failing : (ℕ → Bool) → ℕ → ℕ → ℕ
@@ -59,7 +52,7 @@ first_failing test j (suc n) = cond (test j) (first_failing test (suc j) n) j
 abbrev pub first_bad : (ℕ → Decision) → ℕ → ℕ → ℕ
 first_bad at j n = first_failing (λ (i : ℕ). good (at i)) j n
 
-unfoldable pub window_flags : (ℕ → Decision) → ℕ → ℕ → List ℕ
+unfoldable pub window_flags : (ℕ → Decision) → ℕ → ℕ → List Bool
 window_flags at j zero = []
 window_flags at j (suc n) = flag_of (at j) ∷ window_flags at (suc j) n
 

@@ -8,9 +8,8 @@ mod one_minute;
 mod window;
 
 use crate::list::of_series;
-use crate::window::{fits, minute};
-use arith::signed::natural_or;
-use units::{Instant, Refusal, in_limit};
+use crate::window::Window;
+use units::{Instant, Refusal};
 
 // The figures by which a usable minute is decided: the squared separation of the two unit vectors and the threshold, both in 1/U^2;
 // D, and both R (planet, earth), in parts.
@@ -43,17 +42,6 @@ pub fn sun_list(
 ) -> Result<u64, Refusal>
     ensures { SunListPromised planet.now earth.now t0 minutes keep_out out.old result out.new }
 {
-    let n = natural_or(minutes, 0);
-    let k = natural_or(keep_out, 0);
-    if !fits(n, k) {
-        return Err(Refusal::BadWindow);
-    }
-    if !in_limit(t0) {
-        return Err(Refusal::PastLimit(t0));
-    }
-    let last = minute(t0, n - 1);
-    if !in_limit(last) {
-        return Err(Refusal::PastLimit(last));
-    }
-    of_series(planet, earth, t0, n as usize, k, out)
+    let window = Window::new(t0, minutes, keep_out)?;
+    of_series(planet, earth, window, out)
 }

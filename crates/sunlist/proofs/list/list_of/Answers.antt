@@ -1,31 +1,48 @@
 -- `sunlist::list::list_of` meets its contract. Assumes nothing.
+use Rattle.std.proofs.Common.{◌≡◌, false, length, take, replicate, ◌∙◌}
+use Rattle.std.proofs.lemmas.Result.{err_from_is_err_and}
 use Rattle.packed.specs.Machine.Table.{table_blocks}
-use Rattle.sunlist.proofs.Listing.{answers_as, far_told, all_asked, minutes_told}
-use borrow.Author.Rules.{rules}
+use Rattle.std.proofs.Math.Seq.{length-take-le}
+use Rattle.std.proofs.lemmas.List.{length-replicate}
+use Rattle.sunlist.specs.Machine.Answers.{decided_at}
+use Rattle.sunlist.proofs.Listing.{answers_as, far_told, all_asked, minutes_told, bad_told, numbers_are}
 use Rattle.sunlist.proofs.list.list_of.Goals as goal
 
-pub returns-then-far-n : goal.returns-then-far-n
-returns-then-far-n c =
-    far_told (table_blocks c.args.planet.now) (table_blocks c.args.earth.now) c.args.t0 c.args.n c.args.k
-    c.first_far-far.result c.args.wide c.args.out.now c.requires.3 c.first_far-far.ensures
-    c.minute.result c.minute.ensures c.if-far-n.true
+pub returns-in-Some : goal.returns-in-Some
+returns-in-Some c =
+    let f = c.in-Some.ensures in
+    far_told (table_blocks c.args.planet.now) (table_blocks c.args.earth.now) c.args.window.t0 c.args.window.minutes c.args.window.keep_out
+    c.args.wide c.requires.2 c.in-Some.far c.args.out.now f.0 f.1
 
-pub list_in-requires : goal.list_in-requires
-list_in-requires c = (
-  search rules,
-  c.requires.0,
-  record {
-    planet_table = c.requires.1;
-    earth_table = c.requires.2;
-    asked =
-        all_asked (table_blocks c.args.planet.now) (table_blocks c.args.earth.now) c.args.t0 c.args.n c.args.k
-        c.first_far-far.result c.args.wide c.args.out.now c.requires.3 c.first_far-far.ensures c.if-far-n.false;
-  },
-)
+pub flag_minutes-requires : goal.flag_minutes-requires
+flag_minutes-requires c =
+    let l : length (take c.args.window.minutes (replicate 1440 false)) ≡ c.args.window.minutes =
+    let few = c.args.window.few in length-take-le c.args.window.minutes (replicate 1440 false) (rw (length-replicate 1440 false) few) in (
+      l,
+      record {
+        planet_table = c.requires.0;
+        earth_table = c.requires.1;
+        asked =
+            all_asked (table_blocks c.args.planet.now) (table_blocks c.args.earth.now) c.args.window.t0 c.args.window.minutes c.args.window.keep_out
+            c.args.wide c.requires.2 c.in_default.ensures;
+      },
+    )
+
+pub returns-in_err-flag_minutes : goal.returns-in_err-flag_minutes
+returns-in_err-flag_minutes c =
+    let p = err_from_is_err_and c.from_residual.result c.from_residual.ensures.1 in
+    let f = c.in_err-flag_minutes.ensures in
+    rw (p.1, p.2)
+    (answers_as _ _ _ _ _
+    (minutes_told (table_blocks c.args.planet.now) (table_blocks c.args.earth.now) c.args.window.t0 c.args.window.minutes c.args.window.keep_out
+    c.args.wide c.requires.2 c.in_default.ensures)
+    (bad_told (decided_at c.args.planet.now c.args.earth.now c.args.window.t0 c.args.window.keep_out) _ _ _ f.0 f.1))
 
 pub returns : goal.returns
 returns c =
+    let f = c.in_ok-flag_minutes.ensures in
     answers_as _ _ _ _ _
-    (minutes_told (table_blocks c.args.planet.now) (table_blocks c.args.earth.now) c.args.t0 c.args.n c.args.k
-    c.first_far-far.result c.args.wide c.args.out.now c.requires.3 c.first_far-far.ensures c.if-far-n.false)
-    c.list_in.ensures
+    (numbers_are (decided_at c.args.planet.now c.args.earth.now c.args.window.t0 c.args.window.keep_out) _ _ f.0 f.1
+    ∙ minutes_told (table_blocks c.args.planet.now) (table_blocks c.args.earth.now) c.args.window.t0 c.args.window.minutes c.args.window.keep_out
+    c.args.wide c.requires.2 c.in_default.ensures)
+    c.write_runs.ensures
