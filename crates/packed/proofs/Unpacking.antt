@@ -6,7 +6,7 @@ use Prim.Native.Nat.{ℕ, suc, ◌+◌, ◌-◌, ◌≤◌, ◌<◌}
 use native.Mathlib.Numerals.{add-one}
 use native.Mathlib.Omega.{arith}
 use lib.ListN.{length, take, drop, set, length-append, length-set, drop_of_length-le}
-use lib.Seq.{sets, take-suc-set, take-set-le, take_all, drop-cons}
+use lib.Seq.{sets, length-sets, take-suc-set, take-set-le, take_all, drop-cons}
 use Rattle.units.specs.declared.Refusal.{Refusal}
 use Rattle.units.specs.declared.Refusal.TheVariants.{ByteAfterEnd}
 use Rattle.packed_numbers.specs.Numbers.{Read, got, bad, next}
@@ -22,7 +22,7 @@ use Rattle.limits.specs.Wide.{good_for_wide}
 use Rattle.limits.proofs.Series.{good_allowed}
 use Rattle.packed.specs.Machine.Table.{Sized, Holds, ends, block_ends, unpacked}
 use Rattle.packed.specs.Machine.Tallies.{tally_rows, wide_rows, Tallied}
-use Rattle.packed.specs.Machine.Answers.{row_of, filled, Filled}
+use Rattle.packed.specs.Machine.Answers.{row_of, filled}
 use Rattle.packed_numbers.specs.declared.Found.{Found}
 use Rattle.packed.proofs.Walking.{Stepped, joined, joined_none, joined_more}
 use Rattle.packed.proofs.Blocks.{block_accepted, block_sums, blocks_are_good}
@@ -62,10 +62,10 @@ unpacking_none s rows sums z m =
     }
 
 -- The rows of the table after a block.
-block_rows : (n : ℕ) (r : Read (List Term)) (rows after : List (List ℕ)) {ts : List Term} {to : ℕ} {rest : List ℕ} → r ≡ got ts to rest → Filled n r rows after
+block_rows : (n : ℕ) (r : Read (List Term)) (rows after : List (List ℕ)) {ts : List Term} {to : ℕ} {rest : List ℕ} → r ≡ got ts to rest → filled n r rows after
     → after ≡ sets rows n (map row_of ts)
 unfolding filled
-block_rows n r rows after e f = rw e at f.rows
+block_rows n r rows after e f = rw e at f
 
 -- Its terms are there, and then its end is too.
 module _ (rows after : List (List ℕ)) (n m k : ℕ) (done : List (List Term)) (ts : List Term) (f : m ≤ series_limit) (p : m ≡ n + length ts)
@@ -118,7 +118,7 @@ module _ (s : List ℕ) (rows : List (List ℕ)) (sums : List Tally) (tally : Ta
 
   pub unpacking_more : (read : Found Tally) (after : List (List ℕ)) → k < block_count
       → Stepped (after_block k tally) s (read_block k tally i (drop i s)) read
-      → Filled tally.terms (read_block k tally i (drop i s)) rows after
+      → filled tally.terms (read_block k tally i (drop i s)) rows after
       → Unpacking s (set after (series_limit + k) (read.value.terms ∷ 0 ∷ 0 ∷ [])) (set sums k read.value) read.value read.next (k + 1)
   unpacking_more read after h w f =
       let to = read.next in
@@ -140,7 +140,7 @@ module _ (s : List ℕ) (rows : List (List ℕ)) (sums : List Tally) (tally : Ta
         tally_is = w.with ∙ here ts;
         tallies = rw (add-one, take-suc-set sums k more (rw l.sums_many h), l.tallies, w.with) (sym (here_rows ts));
         sums_many = length-set sums k more ∙ l.sums_many;
-        sized = record { size = length-set after (series_limit + k) _ ∙ f.sized.size };
+        sized = record { size = length-set after (series_limit + k) _ ∙ ap length new ∙ length-sets rows tally.terms (map row_of ts) ∙ l.sized.size };
       }
     where
       here : (ts : List Term) → after_block k tally ts ≡ tally_upto 0 no_tally (l.done ++ ts ∷ [])

@@ -4,7 +4,7 @@ use mathlib.Core.List.{List, [], ◌∷◌, ◌++◌, map, append_assoc, append-
 use Prim.Native.Nat.{ℕ, suc, ◌+◌, ◌-◌, ◌≤◌, ◌<◌}
 use native.Mathlib.Nat.{add-zero}
 use native.Mathlib.Omega.{arith}
-use lib.ListN.{length, drop, set, length-append, length-set}
+use lib.ListN.{length, drop, set, length-append}
 use lib.Seq.{sets}
 use Rattle.units.specs.declared.Refusal.{Refusal}
 use Rattle.packed_numbers.specs.Numbers.{Read, got, bad, next}
@@ -17,8 +17,7 @@ use Rattle.packed_numbers.specs.declared.Found.{Found}
 use Rattle.packed_numbers.specs.Machine.Answers.{shown}
 use Rattle.limits.specs.Limits.{added, summed}
 use Rattle.packed.specs.Series.{read_term, read_terms}
-use Rattle.packed.specs.Machine.Table.{Sized}
-use Rattle.packed.specs.Machine.Answers.{term_of, row_of, stored, filled, Filled}
+use Rattle.packed.specs.Machine.Answers.{term_of, row_of, stored, filled}
 
 -- What was read, from the tally with it.
 pub record Stepped {A : Type 0} (tally : A → Tally) (s : List ℕ) (r : Read A) (read : Found Tally) : Type 0 where
@@ -76,10 +75,10 @@ put_more (x ∷ done) t from rows =
     let e : from + suc (length done) ≡ suc from + length done = omega arith in
     rw e (put_more done t (suc from) (set rows from (row_of x)))
 
--- After a refusal nothing is said but the size.
-pub filled_bad : (k : ℕ) (r : Read (List Term)) (q : Refusal) (before after : List (List ℕ)) → r ≡ bad q → Sized after → Filled k r before after
+-- After a refusal nothing is said.
+pub filled_bad : (k : ℕ) (r : Read (List Term)) (q : Refusal) (before after : List (List ℕ)) → r ≡ bad q → filled k r before after
 unfolding filled
-filled_bad k r q before after e z = record { rows = rw e tt; sized = z }
+filled_bad k r q before after e = rw e tt
 
 -- The loop's invariant, with the terms that are done.
 pub record Taken (s : List ℕ) (at f from end : ℕ) (first : Tally) (rows₀ rows : List (List ℕ)) (tally : Tally) (i k : ℕ) : Type 0 where
@@ -89,12 +88,11 @@ pub record Taken (s : List ℕ) (at f from end : ℕ) (first : Tally) (rows₀ r
   pub whole : read_terms (end - from) f first at (drop at s) ≡ joined done (read_terms (end - k) f tally i (drop i s))
   pub with : tally ≡ summed f first done
   pub held : rows ≡ sets rows₀ from (map row_of done)
-  pub sized : Sized rows
 
 module _ (s : List ℕ) (at f from end : ℕ) (first : Tally) (rows₀ : List (List ℕ)) where
-  pub taken_none : from ≤ end → Sized rows₀ → Taken s at f from end first rows₀ rows₀ first at from
+  pub taken_none : from ≤ end → Taken s at f from end first rows₀ rows₀ first at from
   unfolding summed
-  taken_none h z =
+  taken_none h =
       record {
         done = [];
         place = omega arith;
@@ -102,7 +100,6 @@ module _ (s : List ℕ) (at f from end : ℕ) (first : Tally) (rows₀ : List (L
         whole = sym (joined_none _);
         with = refl;
         held = refl;
-        sized = z;
       }
 
   module _ (rows : List (List ℕ)) (tally : Tally) (i k : ℕ) (l : Taken s at f from end first rows₀ rows tally i k) where
@@ -137,18 +134,13 @@ module _ (s : List ℕ) (at f from end : ℕ) (first : Tally) (rows₀ : List (L
           whole = left_got t read.next h w.is ∙ rw w.with;
           with = w.with ∙ rw l.with (sym (summed_more f first l.done t));
           held = p ∙ rw (l.held, l.place) (put_more l.done t from rows₀);
-          sized = record { size = ap length p ∙ length-set rows k _ ∙ l.sized.size };
         }
 
     -- The whole block is read, or a refusal ends it.
-    pub filled_last : end ≤ k → Filled from (read_terms (end - from) f first at (drop at s)) rows₀ rows
+    pub filled_last : end ≤ k → filled from (read_terms (end - from) f first at (drop at s)) rows₀ rows
     unfolding filled
-    filled_last h = record { rows = rw (taken_last h) l.held; sized = l.sized }
+    filled_last h = rw (taken_last h) l.held
 
-    pub filled_stop : (q : Refusal) (rows' : List (List ℕ)) → k < end → read_term f tally i (drop i s) ≡ bad q
-        → rows' ≡ stored k (read_term f tally i (drop i s)) rows
-        → Filled from (read_terms (end - from) f first at (drop at s)) rows₀ rows'
-    unfolding stored
-    filled_stop q rows' h e m =
-        let p : rows' ≡ rows = rw e at m in
-        filled_bad from _ q rows₀ rows' (taken_stop q h e) (record { size = ap length p ∙ l.sized.size })
+    pub filled_stop : (q : Refusal) (after : List (List ℕ)) → k < end → read_term f tally i (drop i s) ≡ bad q
+        → filled from (read_terms (end - from) f first at (drop at s)) rows₀ after
+    filled_stop q after h e = filled_bad from _ q rows₀ after (taken_stop q h e)

@@ -6,7 +6,7 @@ ghost use Rattle.limits.specs.Limits.{added, summed, after_block};
 ghost use Rattle.limits.specs.Machine.Magnitudes.{factor_limit};
 ghost use Rattle.packed.specs.Series.{read_term, read_terms, read_block, parse, checked};
 ghost use Rattle.packed.specs.Machine.Table.{Sized, ends, unpacked};
-ghost use Rattle.packed.specs.Machine.Answers.{Begun, stored, Filled};
+ghost use Rattle.packed.specs.Machine.Answers.{Begun, stored, filled};
 
 use crate::Content;
 use crate::terms::{read_term_at, sizes};
@@ -57,9 +57,9 @@ fn take_terms(
     from: usize,
     table: &mut Table,
 ) -> Result<Found<Tally>, Refusal>
-    requires { Begun f tally from table.old }
+    requires { Begun f tally from }
     ensures { (result ≡ shown (summed f tally) (at_offset (read_terms (tally.terms - from) f tally) at bytes.now))
-        × Filled from (at_offset (read_terms (tally.terms - from) f tally) at bytes.now) table.old table.new }
+        × filled from (at_offset (read_terms (tally.terms - from) f tally) at bytes.now) table.old table.new }
 {
     let mut read = Found {
         value: tally,
@@ -79,9 +79,8 @@ fn take_block(
     tally: Tally,
     table: &mut Table,
 ) -> Result<Found<Tally>, Refusal>
-    requires { Sized table.old }
     ensures { (result ≡ shown (after_block k tally) (at_offset (read_block k tally) at bytes.now))
-        × Filled tally.terms (at_offset (read_block k tally) at bytes.now) table.old table.new }
+        × filled tally.terms (at_offset (read_block k tally) at bytes.now) table.old table.new }
 {
     let count = number_at(bytes, at)?;
     if !tally.count_fits(count.value) {
@@ -95,7 +94,6 @@ fn take_block(
 // Reads a packed series into a term table. The answer is what it holds, or the refusal; after a refusal the table holds
 // nothing that can be relied on.
 pub fn unpack(bytes: &[u8], table: &mut Table) -> Result<Content, Refusal>
-    requires { Sized table.old }
     ensures { (result ≡ checked (parse bytes.now)) × unpacked (parse bytes.now) table.new × Sized table.new }
 {
     let mut tallies = [Tally::empty(); END_ROWS];
@@ -119,7 +117,7 @@ pub fn unpack(bytes: &[u8], table: &mut Table) -> Result<Content, Refusal>
 
 // The row where block k ends: the first that is no longer its own.
 pub fn block_end(table: &Table, k: usize) -> u64
-    requires { Sized table.now × (k < block_count) }
+    requires { k < block_count }
     ensures { result ≡ get_or (ends table.now) k 0 }
 {
     let row = table[TERM_ROWS + k];

@@ -6,7 +6,7 @@
 
 ghost use Rattle.std.specs.Prelude.{◌≡◌, ◌+◌, ◌-◌, ◌≤◌, ◌<◌};
 ghost use Rattle.units.specs.Units.{series_limit};
-ghost use Rattle.packed.specs.Machine.Table.{Sized, term_at, terms_at};
+ghost use Rattle.packed.specs.Machine.Table.{term_at, terms_at};
 ghost use Rattle.limits.specs.Allowed.{TermFits, BlockFits};
 ghost use Rattle.pieces.specs.Sums.{block_sum};
 ghost use Rattle.pieces.specs.Machine.Parted.{piece_limit, room, half_sum, WorkedFor, Piece, Rooms, PutInBoth, Half, Closed, Parted};
@@ -57,7 +57,7 @@ fn put_term(w: ReducedTerm, n: Counts, evens: &mut Side, odds: &mut Side) -> Cou
 
 // The term at place i of the table, with its angle worked out.
 fn worked_at(p: Prepared, table: &Table, i: usize) -> ReducedTerm
-    requires { Sized table.now × (i < series_limit) × TermFits (term_at table.now i) }
+    requires { (i < series_limit) × TermFits (term_at table.now i) }
     ensures { WorkedFor p.t (term_at table.now i) result }
 {
     let row = table[i];
@@ -132,7 +132,7 @@ fn sum_piece(
 
 // The sum of the terms from place from up to place to.
 pub fn sum_terms(p: Prepared, table: &Table, from: usize, to: usize) -> i64
-    requires { Sized table.now × (from ≤ to) × (to ≤ series_limit) × BlockFits (terms_at table.now from (to - from)) }
+    requires { (from ≤ to) × (to ≤ series_limit) × BlockFits (terms_at table.now from (to - from)) }
     ensures { result ≡ block_sum p.t (terms_at table.now from (to - from)) }
 {
     let mut evens = [Placed { a: 0, v: 0 }; ROOM];

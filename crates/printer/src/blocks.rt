@@ -1,7 +1,7 @@
 // Blocks: the lengths of their texts, and writing them into a buffer with room. For this crate alone.
 ghost use Rattle.std.specs.Prelude.{◌≡◌, length, ◌+◌, ◌-◌, ◌*◌, ◌≤◌};
 ghost use Rattle.units.specs.Units.{series_limit};
-ghost use Rattle.packed.specs.Machine.Table.{Sized, ends, table_blocks};
+ghost use Rattle.packed.specs.Machine.Table.{ends, table_blocks};
 ghost use Rattle.printer.specs.Printer.{plain_text};
 ghost use Rattle.printer.specs.Machine.Writing.{Room, Wrote, block_of, Ordered, line_most, whole_most};
 
@@ -11,7 +11,7 @@ use packed::table::{END_ROWS, Table, block_end};
 
 // A block: its count line, and the lines of its terms, which stand in the rows from from to end.
 fn block_length(table: &Table, from: usize, end: usize) -> usize
-    requires { Sized table.now × (from ≤ end) × (end ≤ series_limit) }
+    requires { (from ≤ end) × (end ≤ series_limit) }
     ensures { (result ≡ length (block_of table.now from end)) × (result ≤ line_most * (end - from) + (whole_most + 1)) }
 {
     let n = whole_length((end - from) as u64) + 1;
@@ -19,7 +19,7 @@ fn block_length(table: &Table, from: usize, end: usize) -> usize
 }
 
 fn put_block(table: &Table, from: usize, end: usize, out: &mut [u8], at: usize) -> usize
-    requires { Sized table.now × (from ≤ end) × (end ≤ series_limit) × Room (block_of table.now from end) at out.old }
+    requires { (from ≤ end) × (end ≤ series_limit) × Room (block_of table.now from end) at out.old }
     ensures { Wrote (block_of table.now from end) at out.old result out.new }
 {
     let i = put_whole((end - from) as u64, out, at);
@@ -29,7 +29,7 @@ fn put_block(table: &Table, from: usize, end: usize, out: &mut [u8], at: usize) 
 
 // The text of all blocks of a table.
 pub fn text_length(table: &Table) -> usize
-    requires { Sized table.now × Ordered 0 (ends table.now) }
+    requires { Ordered 0 (ends table.now) }
     ensures { result ≡ length (plain_text (table_blocks table.now)) }
 {
     let mut n = 0;
@@ -43,7 +43,7 @@ pub fn text_length(table: &Table) -> usize
 }
 
 pub fn put_blocks(table: &Table, out: &mut [u8]) -> usize
-    requires { Sized table.now × Ordered 0 (ends table.now) × Room (plain_text (table_blocks table.now)) 0 out.old }
+    requires { Ordered 0 (ends table.now) × Room (plain_text (table_blocks table.now)) 0 out.old }
     ensures { Wrote (plain_text (table_blocks table.now)) 0 out.old result out.new }
 {
     let mut p = 0;

@@ -7,7 +7,7 @@ mod lines;
 
 ghost use Rattle.std.specs.Prelude.{◌≡◌};
 ghost use Rattle.packed.specs.Series.{accepted, parse};
-ghost use Rattle.packed.specs.Machine.Table.{Sized, ends, table_blocks};
+ghost use Rattle.packed.specs.Machine.Table.{ends, table_blocks};
 ghost use Rattle.printer.specs.Printer.{printed, printed_out};
 ghost use Rattle.printer.specs.Machine.Writing.{Ordered};
 
@@ -29,7 +29,7 @@ pub const TEXT_LIMIT: usize = (BLOCK_COUNT * COUNT_LINE_LIMIT
 
 // Prints the blocks of a term table, where their text fits.
 fn print_table(table: &Table, out: &mut [u8]) -> Result<usize, Refusal>
-    requires { Sized table.now × Ordered 0 (ends table.now) }
+    requires { Ordered 0 (ends table.now) }
     ensures { (result ≡ printed (accepted (table_blocks table.now)) out.old)
         × (out.new ≡ printed_out (accepted (table_blocks table.now)) out.old) }
 {

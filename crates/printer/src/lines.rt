@@ -3,7 +3,6 @@ ghost use Rattle.std.specs.Prelude.{◌≡◌, length, ◌-◌, ◌*◌, ◌<◌
 ghost use Rattle.integers.specs.Signs.{negative};
 ghost use Rattle.units.specs.Units.{series_limit};
 ghost use Rattle.packed_numbers.specs.Numbers.{unfolded};
-ghost use Rattle.packed.specs.Machine.Table.{Sized};
 ghost use Rattle.printer.specs.Machine.Writing.{Room, Wrote, line_of, lines_of, line_most};
 
 use crate::digits::{decimal_length, put_byte, put_decimal};
@@ -19,7 +18,7 @@ fn below_zero(v: u64) -> bool
 
 // The line of the term in row k.
 fn line_length(table: &Table, k: usize) -> usize
-    requires { Sized table.now × (k < series_limit) }
+    requires { k < series_limit }
     ensures { (result ≡ length (line_of table.now k)) × (result ≤ line_most) }
 {
     let row = table[k];
@@ -34,7 +33,7 @@ fn line_length(table: &Table, k: usize) -> usize
 }
 
 fn put_line(table: &Table, k: usize, out: &mut [u8], at: usize) -> usize
-    requires { Sized table.now × (k < series_limit) × Room (line_of table.now k) at out.old }
+    requires { (k < series_limit) × Room (line_of table.now k) at out.old }
     ensures { Wrote (line_of table.now k) at out.old result out.new }
 {
     let row = table[k];
@@ -52,7 +51,7 @@ fn put_line(table: &Table, k: usize, out: &mut [u8], at: usize) -> usize
 
 // The lines of the terms in the rows from from to end.
 pub fn lines_length(table: &Table, from: usize, end: usize) -> usize
-    requires { Sized table.now × (from ≤ end) × (end ≤ series_limit) }
+    requires { (from ≤ end) × (end ≤ series_limit) }
     ensures { (result ≡ length (lines_of table.now from end)) × (result ≤ line_most * (end - from)) }
 {
     let mut n = 0;
@@ -63,7 +62,7 @@ pub fn lines_length(table: &Table, from: usize, end: usize) -> usize
 }
 
 pub fn put_lines(table: &Table, from: usize, end: usize, out: &mut [u8], at: usize) -> usize
-    requires { Sized table.now × (from ≤ end) × (end ≤ series_limit) × Room (lines_of table.now from end) at out.old }
+    requires { (from ≤ end) × (end ≤ series_limit) × Room (lines_of table.now from end) at out.old }
     ensures { Wrote (lines_of table.now from end) at out.old result out.new }
 {
     let mut p = at;

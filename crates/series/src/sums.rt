@@ -3,7 +3,7 @@ ghost use Rattle.std.specs.Prelude.{◌≡◌, true, [], ◌∷◌, ◌+◌, ◌
 ghost use Rattle.integers.specs.Division.{rounded};
 ghost use Rattle.units.specs.Units.{millennium, t_limit, wide_total, powers, block_count};
 ghost use Rattle.limits.specs.Wide.{reaches};
-ghost use Rattle.packed.specs.Machine.Table.{Sized, ends, table_blocks};
+ghost use Rattle.packed.specs.Machine.Table.{ends, table_blocks};
 ghost use Rattle.pieces.specs.Sums.{block_sum};
 ghost use Rattle.series.specs.Sums.{running_sum};
 ghost use Rattle.series.specs.Machine.Table.{Table};
@@ -20,7 +20,7 @@ pub const COORDINATE_BLOCKS: usize = POWERS as usize;
 
 // Where block j starts: where the one before it ends.
 fn block_start(table: &Table, j: usize) -> u64
-    requires { Sized table.now × (j < block_count) }
+    requires { j < block_count }
     ensures { result ≡ get_or (0 ∷ ends table.now) j 0 }
 {
     if j == 0 {

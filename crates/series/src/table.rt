@@ -3,7 +3,7 @@ ghost use Rattle.std.specs.Prelude.{◌≡◌, true, ◌≤◌, nat_abs};
 ghost use Rattle.units.specs.Units.{t_limit};
 ghost use Rattle.limits.specs.Wide.{reaches};
 ghost use Rattle.packed.specs.Series.{parse, checked};
-ghost use Rattle.packed.specs.Machine.Table.{Sized, table_blocks};
+ghost use Rattle.packed.specs.Machine.Table.{table_blocks};
 ghost use Rattle.series.specs.Sums.{coordinates as coordinates_of};
 ghost use Rattle.series.specs.Machine.Table.{Table, filled};
 
@@ -19,7 +19,6 @@ pub const TABLE_ROWS: usize = packed::table::TABLE_ROWS;
 
 // Reads a packed series into the table. The answer is what it holds, or the refusal, after which the table is of no use.
 pub fn fill(packed: &[u8], table: &mut Table) -> Result<Content, Refusal>
-    requires { Sized table.old }
     ensures { (result ≡ checked (parse packed.now)) × filled (parse packed.now) table.new }
 {
     unpack(packed, table)

@@ -9,7 +9,6 @@ use Rattle.limits.specs.declared.Term.{Term}
 use Rattle.limits.specs.declared.Sizes.{Sizes}
 use Rattle.limits.specs.declared.Tally.{Tally}
 use Rattle.limits.specs.Machine.Magnitudes.{factor_limit}
-use Rattle.packed.specs.Machine.Table.{Sized}
 
 -- A term as it is packed, the term that it is, and the sizes of its numbers.
 abbrev pub packed_term : Term → PackedTerm
@@ -31,17 +30,12 @@ stored k (got t at rest) rows = set rows k (row_of t)
 stored k (bad r) rows = rows
 
 -- What reading the terms of a block asks: they go from row from up to the number of terms declared, within the table.
-pub record Begun (f : ℕ) (tally : Tally) (from : ℕ) (rows : List (List ℕ)) : Type 0 where
+pub record Begun (f : ℕ) (tally : Tally) (from : ℕ) : Type 0 where
   pub small : f ≤ factor_limit
   pub from_there : from ≤ tally.terms
   pub few : tally.terms ≤ series_limit
-  pub sized : Sized rows
 
 -- After terms that were read the table holds them from row k on, and else what it held. After a refusal nothing is said of its rows.
 unfoldable pub filled : ℕ → Read (List Term) → List (List ℕ) → List (List ℕ) → Type 0
 filled k (got ts at rest) before after = after ≡ sets before k (map row_of ts)
 filled k (bad r) before after = Unit
-
-pub record Filled (k : ℕ) (r : Read (List Term)) (before after : List (List ℕ)) : Type 0 where
-  pub rows : filled k r before after
-  pub sized : Sized after

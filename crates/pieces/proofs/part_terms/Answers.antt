@@ -10,7 +10,7 @@ loop-i-init c = partly_none c.requires.0 c.requires.1
 pub worked_at-requires : goal.worked_at-requires
 worked_at-requires c =
     let q = c.requires.0 in
-    (q.sized, (let n = q.space in omega arith), term_fits c.loop-i.invariant.summed c.loop-i-test.true)
+    ((let n = q.space in omega arith), term_fits c.loop-i.invariant.summed c.loop-i-test.true)
 
 pub put_term-n-requires : goal.put_term-n-requires
 put_term-n-requires c = (c.worked_at.ensures.parity, evens_free c.loop-i.invariant, odds_free c.loop-i.invariant)

@@ -10,16 +10,15 @@ use Rattle.pieces.proofs.sum_terms.Goals as goal
 
 pub loop-at-init : goal.loop-at-init
 loop-at-init c =
-    let least : min c.args.from c.args.to ≡ c.args.from = let h = c.requires.1 in omega arith in
-    (rw least (summed_none c.requires.1 c.requires.2 c.requires.3), record { evens = refl; odds = refl })
+    let least : min c.args.from c.args.to ≡ c.args.from = let h = c.requires.0 in omega arith in
+    (rw least (summed_none c.requires.0 c.requires.1 c.requires.2), record { evens = refl; odds = refl })
 
 pub sum_piece-requires : goal.sum_piece-requires
 sum_piece-requires c =
     let e = c.min-end.ensures in (
       record {
-        sized = c.requires.0;
         order = omega arith;
-        space = (let r = c.requires.2 in omega arith);
+        space = (let r = c.requires.1 in omega arith);
         short = omega arith;
         limits = piece_fits (summed_at c.loop-at-test.true c.loop-at.invariant.0) c.min-end.result (omega arith) (omega arith) (omega arith);
       },

@@ -12,7 +12,7 @@ print_table-requires c =
     let no_refusal : (q : Refusal) → checked (parse c.args.packed.now) ≡ Err q → ⊥ =
     λ q e. cc (c.unpack.ensures.0, c.in_ok-_content.was, e) in
     let t = c.unpack.ensures in
-    (t.2, (opened _ _ (no_refusal) t.1).ordered)
+    (opened _ _ (no_refusal) t.1).ordered
 
 pub returns-in_err-_content : goal.returns-in_err-_content
 returns-in_err-_content c =

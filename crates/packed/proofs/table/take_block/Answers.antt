@@ -15,7 +15,7 @@ returns-in_err-count c =
     let a = c.args in
     let e = c.in_err-count.ensures in (
       pass_on plain (after_block a.k a.tally) _ c.from_residual.ensures.1 e (block_bad a.k a.tally a.at _ _),
-      filled_bad a.tally.terms _ _ _ _ (block_bad a.k a.tally a.at _ _ (was_bad plain _ _ (sym e))) c.requires,
+      filled_bad a.tally.terms _ _ _ _ (block_bad a.k a.tally a.at _ _ (was_bad plain _ _ (sym e))),
     )
 
 pub overflow_sub-result : goal.overflow_sub-result
@@ -26,7 +26,7 @@ returns-then-not-count_fits c =
     let a = c.args in
     let n = number_found _ _ c.in_ok-count.count c.in_ok-count.ensures in
     let e = block_over a.k a.tally a.at _ _ _ _ n.is (sym c.count_fits.ensures ∙ c.if-not-count_fits.true) in
-    (show_bad (after_block a.k a.tally) e, filled_bad a.tally.terms _ _ _ _ e c.requires)
+    (show_bad (after_block a.k a.tally) e, filled_bad a.tally.terms _ _ _ _ e)
 
 pub take_terms-requires : goal.take_terms-requires
 take_terms-requires c =
@@ -37,7 +37,6 @@ take_terms-requires c =
       small = c.block_factor-f.ensures.1;
       from_there = o.from;
       few = o.few;
-      sized = c.requires;
     }
 
 pub returns : goal.returns

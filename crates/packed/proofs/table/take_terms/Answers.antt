@@ -8,7 +8,7 @@ use Rattle.packed.proofs.Walking.{taken_none, taken_more, taken_stop, taken_last
 use Rattle.packed.proofs.table.take_terms.Goals as goal
 
 pub loop-k-init : goal.loop-k-init
-loop-k-init c = let p = c.requires in taken_none _ _ _ _ _ _ _ p.from_there p.sized
+loop-k-init c = taken_none _ _ _ _ _ _ _ c.requires.from_there
 
 pub take_term-requires : goal.take_term-requires
 take_term-requires c =
@@ -22,7 +22,7 @@ returns-in_err-read c =
     let t = c.in_err-read.ensures in
     let h = c.loop-k-test.true in (
       pass_on (added a.f l.read.value) (summed a.f a.tally) _ c.from_residual.ensures.1 t.0 (taken_stop _ _ _ _ _ _ _ _ _ _ _ l.invariant _ h),
-      filled_stop _ _ _ _ _ _ _ _ _ _ _ l.invariant _ _ h (was_bad (added a.f l.read.value) _ _ (sym t.0)) t.1,
+      filled_stop _ _ _ _ _ _ _ _ _ _ _ l.invariant _ _ h (was_bad (added a.f l.read.value) _ _ (sym t.0)),
     )
 
 pub loop-k-preserved : goal.loop-k-preserved

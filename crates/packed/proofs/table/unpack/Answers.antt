@@ -14,7 +14,7 @@ use Rattle.packed.proofs.Unpacking.{unpacking_done, unpacking_holds, unpacking_t
 use Rattle.packed.proofs.table.unpack.Goals as goal
 
 pub loop-k-init : goal.loop-k-init
-loop-k-init c = rw c.empty.ensures (unpacking_none _ _ _ c.requires (search rules))
+loop-k-init c = rw c.empty.ensures (unpacking_none _ _ _ (record { size = omega arith }) (search rules))
 
 pub returns-in_err-read : goal.returns-in_err-read
 returns-in_err-read c =
@@ -23,7 +23,7 @@ returns-in_err-read c =
     let e = unpacking_stop _ _ _ _ _ _ l.invariant _ c.loop-k-test.true (was_bad (after_block l.k l.read.value) _ _ (sym t.0)) in
     let r = answer_refused _ _ _ e in
     let p = err_from_is_err_and c.from_residual.result c.from_residual.ensures.1 in
-    (p.1 ∙ ap Err p.2 ∙ r.0, r.1, t.1.sized)
+    (p.1 ∙ ap Err p.2 ∙ r.0, r.1, record { size = omega arith })
 
 pub loop-k-preserved : goal.loop-k-preserved
 loop-k-preserved c =

@@ -25,20 +25,20 @@ begun table k at out ea fa ec fc =
 pub put_decimal-i-requires : goal.put_decimal-i-requires
 put_decimal-i-requires c =
     let left0 = begun _ _ _ _ c.below_zero-minus_a.ensures c.magnitude-size_a.ensures c.below_zero-minus_c.ensures c.magnitude-size_c.ensures in
-    left_room left0 c.requires.2
+    left_room left0 c.requires.1
 
 pub put_byte-at_b-requires : goal.put_byte-at_b-requires
 put_byte-at_b-requires c =
     let left0 = begun _ _ _ _ c.below_zero-minus_a.ensures c.magnitude-size_a.ensures c.below_zero-minus_c.ensures c.magnitude-size_c.ensures in
     let left1 = left_more left0 c.put_decimal-i.ensures in
-    left_room left1 c.requires.2
+    left_room left1 c.requires.1
 
 pub put_decimal-j-requires : goal.put_decimal-j-requires
 put_decimal-j-requires c =
     let left0 = begun _ _ _ _ c.below_zero-minus_a.ensures c.magnitude-size_a.ensures c.below_zero-minus_c.ensures c.magnitude-size_c.ensures in
     let left1 = left_more left0 c.put_decimal-i.ensures in
     let left2 = left_more left1 c.put_byte-at_b.ensures in
-    left_room left2 c.requires.2
+    left_room left2 c.requires.1
 
 pub put_byte-at_c-requires : goal.put_byte-at_c-requires
 put_byte-at_c-requires c =
@@ -46,7 +46,7 @@ put_byte-at_c-requires c =
     let left1 = left_more left0 c.put_decimal-i.ensures in
     let left2 = left_more left1 c.put_byte-at_b.ensures in
     let left3 = left_more left2 c.put_decimal-j.ensures in
-    left_room left3 c.requires.2
+    left_room left3 c.requires.1
 
 pub put_decimal-end-requires : goal.put_decimal-end-requires
 put_decimal-end-requires c =
@@ -55,7 +55,7 @@ put_decimal-end-requires c =
     let left2 = left_more left1 c.put_byte-at_b.ensures in
     let left3 = left_more left2 c.put_decimal-j.ensures in
     let left4 = left_more left3 c.put_byte-at_c.ensures in
-    left_room left4 c.requires.2
+    left_room left4 c.requires.1
 
 pub put_byte-requires : goal.put_byte-requires
 put_byte-requires c =
@@ -65,7 +65,7 @@ put_byte-requires c =
     let left3 = left_more left2 c.put_decimal-j.ensures in
     let left4 = left_more left3 c.put_byte-at_c.ensures in
     let left5 = left_more left4 c.put_decimal-end.ensures in
-    left_room left5 c.requires.2
+    left_room left5 c.requires.1
 
 pub returns : goal.returns
 returns c =

@@ -5,13 +5,13 @@ use Rattle.printer.proofs.TableText.{line_left, lines_over}
 use Rattle.printer.proofs.lines.put_lines.Goals as goal
 
 pub loop-i-init : goal.loop-i-init
-loop-i-init c = (c.requires.1, left_one _ _ _)
+loop-i-init c = (c.requires.0, left_one _ _ _)
 
 pub put_line-p-requires : goal.put_line-p-requires
 put_line-p-requires c =
     let l = c.loop-i in
     let left = line_left c.args.table.now l.i c.args.end l.invariant.1 c.loop-i-test.true in
-    (c.requires.0, omega (arith, c.loop-i-test.true, c.requires.2), left_room left c.requires.3)
+    (omega (arith, c.loop-i-test.true, c.requires.1), left_room left c.requires.2)
 
 pub loop-i-preserved : goal.loop-i-preserved
 loop-i-preserved c =

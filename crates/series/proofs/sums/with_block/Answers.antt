@@ -3,17 +3,17 @@ use Rattle.series.proofs.Stepping.{inside, sum_asks, sum_is, carried_asks, step_
 use Rattle.series.proofs.sums.with_block.Goals as goal
 
 pub block_start-from-requires : goal.block_start-from-requires
-block_start-from-requires c = (c.requires.1.sized, c.requires.2)
+block_start-from-requires c = c.requires.2
 
 pub block_end-to-requires : goal.block_end-to-requires
-block_end-to-requires c = (c.requires.1.sized, c.requires.2)
+block_end-to-requires c = c.requires.2
 
 pub sum_terms-sum-requires : goal.sum_terms-sum-requires
 sum_terms-sum-requires c =
     let q =
     sum_asks c.args.table.now c.requires.1 c.args.j c.requires.2 c.block_start-from.result c.block_end-to.result
     c.block_start-from.ensures c.block_end-to.ensures in
-    (c.requires.1.sized, q.0, q.1, q.2)
+    (q.0, q.1, q.2)
 
 pub mul_div_round-carried-requires : goal.mul_div_round-carried-requires
 mul_div_round-carried-requires c = carried_asks c.args.p.t c.args.v c.requires.0 c.requires.3
