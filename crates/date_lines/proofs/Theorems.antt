@@ -15,23 +15,24 @@ use Rattle.decimals.specs.Texts.{text, line_feed}
 use Rattle.decimals.specs.Decimals.{zero_digit, decimal, written}
 use Rattle.decimals.specs.Numerals.{Digits, value, Decimal}
 use Rattle.decimals.proofs.Numbers.{grows}
-use Rattle.date_lines.specs.Lines.{space, fresh, greatest, at_space, at_digit}
+use Rattle.date_lines.specs.Lines.{space, fresh, greatest, numbers, at_space, at_digit}
 use Rattle.date_lines.specs.Lines.{take, reading, read}
 use Rattle.date_lines.specs.Replies.{refused, day_text, reply, after, said, line_after, replies}
 use Rattle.date_lines.specs.Written.{NoFeed, ThreeNumbers, Decided, three, fault, example_lines, example_replies}
 use Rattle.date_lines.specs.declared.reader.Line.{Line}
-use Rattle.date_lines.specs.declared.reader.Reading.{Reading}
-use Rattle.date_lines.specs.declared.reader.Reading.TheVariants.{Three, Bad}
+use Rattle.date_lines.specs.declared.reader.Fault.{Fault}
+use Rattle.calendar.specs.declared.Date.{Date}
+use Rattle.std.specs.Prelude.{Some, None, Result, Ok, Err}
 use Rattle.date_lines.proofs.LeastNumber.{greatest_most}
 use Rattle.date_lines.proofs.OnlyThree.{state, one_digit, minus_read, only_three}
 
 -- Two pieces are the input in one.
-pub cut_line : (s : Line) (xs ys : List ℕ) → line_after s (xs ++ ys) ≡ line_after (line_after s xs) ys
+pub cut_line : (s : Result Line Fault) (xs ys : List ℕ) → line_after s (xs ++ ys) ≡ line_after (line_after s xs) ys
 unfolding line_after
 cut_line s [] ys = refl
 cut_line s (b ∷ xs) ys = cut_line (after s b) xs ys
 
-pub cut_replies : (s : Line) (xs ys : List ℕ) → replies s (xs ++ ys) ≡ replies s xs ++ replies (line_after s xs) ys
+pub cut_replies : (s : Result Line Fault) (xs ys : List ℕ) → replies s (xs ++ ys) ≡ replies s xs ++ replies (line_after s xs) ys
 unfolding line_after replies
 cut_replies s [] ys = refl
 cut_replies s (b ∷ xs) ys =
@@ -39,53 +40,53 @@ cut_replies s (b ∷ xs) ys =
     (append_assoc (said s b) (replies (after s b) xs) (replies (line_after (after s b) xs) ys))
 
 -- A line and its line feed: the reply to what it says, and a fresh line.
-pub one_line : (s : Line) (l rest : List ℕ) → NoFeed l → replies s (l ++ (line_feed ∷ rest)) ≡ reply (reading (read s l)) ++ replies fresh rest
+pub one_line : (s : Result Line Fault) (l rest : List ℕ) → NoFeed l → replies s (l ++ (line_feed ∷ rest)) ≡ reply (reading (read s l)) ++ replies fresh rest
 unfolding replies read after said
 one_line s [] rest h = refl
 one_line s (b ∷ l) rest h = rw (ne_eqb b line_feed h.0) (one_line (take s b) l rest h.1)
 
 module _ (count : ℕ) (year month : ℤ) (few : count ≤ 2) (minus : Bool) where
   more_digits : (v : ℕ) (ds rest : List ℕ) → Digits ds → value v ds ≤ greatest minus
-      → read (state count year month minus true v) (ds ++ rest) ≡ read (state count year month minus true (value v ds)) rest
+      → read (state count year month minus (Some v)) (ds ++ rest) ≡ read (state count year month minus (Some (value v ds))) rest
   unfolding value read
   more_digits v [] rest h l = refl
   more_digits v (b ∷ ds) rest h l =
       let g = grows (10 * v + (b - zero_digit)) ds in
-      ap (λ (s : Line). read s (ds ++ rest)) (one_digit count year month few minus true v b h.0 h.1 (omega (arith, greatest_most minus)))
+      ap (λ (s : Result Line Fault). read s (ds ++ rest)) (one_digit count year month few minus (Some v) b h.0 h.1 (omega (arith, greatest_most minus)))
       ∙ more_digits (10 * v + (b - zero_digit)) ds rest h.2 l
 
   all_digits : (b : ℕ) (ds rest : List ℕ) → Decimal greatest minus b ds
-      → read (state count year month minus false 0) (b ∷ (ds ++ rest)) ≡ read (state count year month minus true (value 0 (b ∷ ds))) rest
+      → read (state count year month minus None) (b ∷ (ds ++ rest)) ≡ read (state count year month minus (Some (value 0 (b ∷ ds)))) rest
   unfolding value read
   all_digits b ds rest h =
-      ap (λ (s : Line). read s (ds ++ rest)) (one_digit count year month few minus false 0 b h.digits.0 h.digits.1 (omega arith))
+      ap (λ (s : Result Line Fault). read s (ds ++ rest)) (one_digit count year month few minus None b h.digits.0 h.digits.1 (omega arith))
       ∙ more_digits (10 * 0 + (b - zero_digit)) ds rest h.digits.2 h.small
 
 number_read : (count : ℕ) (year month : ℤ) (few : count ≤ 2) (minus : Bool) (b : ℕ) (ds rest : List ℕ) → Decimal greatest minus b ds
-    → read (state count year month false false 0) (written minus (b ∷ ds) ++ rest) ≡ read (state count year month minus true (value 0 (b ∷ ds))) rest
+    → read (state count year month false None) (written minus (b ∷ ds) ++ rest) ≡ read (state count year month minus (Some (value 0 (b ∷ ds)))) rest
 unfolding read
 number_read count year month few false b ds rest h = all_digits count year month few false b ds rest h
 number_read count year month few true b ds rest h =
-    ap (λ (s : Line). read s (b ∷ (ds ++ rest))) (minus_read count year month few) ∙ all_digits count year month few true b ds rest h
+    ap (λ (s : Result Line Fault). read s (b ∷ (ds ++ rest))) (minus_read count year month few) ∙ all_digits count year month few true b ds rest h
 
 -- A space after the year and after the month, and the end after the day.
 module _ (minus : Bool) (v : ℕ) (l : v ≤ greatest minus) where
-  year_read : (rest : List ℕ) → read (state 0 (pos 0) (pos 0) minus true v) (space ∷ rest) ≡ read (state 1 (sgn minus v) (pos 0) false false 0) rest
+  year_read : (rest : List ℕ) → read (state 0 (pos 0) (pos 0) minus (Some v)) (space ∷ rest) ≡ read (state 1 (sgn minus v) (pos 0) false None) rest
   unfolding read take at_space
   year_read rest = rw (le-ltb (greatest minus) v l)
 
-  month_read : (y : ℤ) (rest : List ℕ) → read (state 1 y (pos 0) minus true v) (space ∷ rest) ≡ read (state 2 y (sgn minus v) false false 0) rest
+  month_read : (y : ℤ) (rest : List ℕ) → read (state 1 y (pos 0) minus (Some v)) (space ∷ rest) ≡ read (state 2 y (sgn minus v) false None) rest
   unfolding read take at_space
   month_read y rest = rw (le-ltb (greatest minus) v l)
 
-  day_read : (y m : ℤ) → reading (read (state 2 y m minus true v) []) ≡ Three y m (sgn minus v)
+  day_read : (y m : ℤ) → reading (read (state 2 y m minus (Some v)) []) ≡ Ok (numbers y m (sgn minus v))
   unfolding read reading
   day_read y m = rw (le-ltb (greatest minus) v l)
 
 -- Three numbers parted by single spaces are these numbers.
 pub three_numbers : (a b c : Bool) (f g h : ℕ) (fs gs hs : List ℕ) → Decimal greatest a f fs → Decimal greatest b g gs → Decimal greatest c h hs
     → reading (read fresh (written a (f ∷ fs) ++ (space ∷ (written b (g ∷ gs) ++ (space ∷ (written c (h ∷ hs) ++ []))))))
-    ≡ Three (sgn a (value 0 (f ∷ fs))) (sgn b (value 0 (g ∷ gs))) (sgn c (value 0 (h ∷ hs)))
+    ≡ Ok (numbers (sgn a (value 0 (f ∷ fs))) (sgn b (value 0 (g ∷ gs))) (sgn c (value 0 (h ∷ hs))))
 three_numbers a b c f g h fs gs hs p q r =
     let y : ℤ = sgn a (value 0 (f ∷ fs)) in
     let m : ℤ = sgn b (value 0 (g ∷ gs)) in
@@ -99,7 +100,7 @@ three_numbers a b c f g h fs gs hs p q r =
     ∙ day_read c (value 0 (h ∷ hs)) r.small y m
 
 -- And only those: a line is read as three numbers exactly where it has these, and else as a fault.
-pub three_read : (l : List ℕ) (y m d : ℤ) → ThreeNumbers l y m d → reading (read fresh l) ≡ Three y m d
+pub three_read : (l : List ℕ) (y m d : ℤ) → ThreeNumbers l y m d → reading (read fresh l) ≡ Ok (numbers y m d)
 three_read l y m d t =
     let p = t.year in
     let q = t.month in
@@ -112,18 +113,18 @@ three_read l y m d t =
     p.decimal q.decimal r.decimal
     ∙ rw (← p.is, ← q.is, ← r.is)
 
-pub read_three : (l : List ℕ) (y m d : ℤ) → reading (read fresh l) ≡ Three y m d → ThreeNumbers l y m d
+pub read_three : (l : List ℕ) (y m d : ℤ) → reading (read fresh l) ≡ Ok (numbers y m d) → ThreeNumbers l y m d
 read_three l y m d e = only_three y m d l e
 
 pub every_line : (l : List ℕ) → Decided l (reading (read fresh l))
 every_line l = go (reading (read fresh l)) refl
   where
-    go : (r : Reading) → reading (read fresh l) ≡ r → Decided l r
-    go (Three y m d) e = three y m d (read_three l y m d e) refl
-    go (Bad f) e = fault f (λ y m d t. other y m d (three_read l y m d t)) refl
+    go : (r : Result Date Fault) → reading (read fresh l) ≡ r → Decided l r
+    go (Ok t) e = three t.year t.month t.day (read_three l t.year t.month t.day e) refl
+    go (Err f) e = fault f (λ y m d t. other y m d (three_read l y m d t)) refl
       where
-        other : (y m d : ℤ) → reading (read fresh l) ≡ Three y m d → ⊥
-        other y m d q = let z : ◌≡◌ {A = ℕ} 0 1 = cc in omega arith
+        other : (y m d : ℤ) → reading (read fresh l) ≡ Ok (numbers y m d) → ⊥
+        other y m d q = cc
 
 -- The two lines of the rules: `1582 10 4` and `1582 10 10` are answered `2299160` and `refused 1`.
 pub two_lines : replies fresh example_lines ≡ example_replies

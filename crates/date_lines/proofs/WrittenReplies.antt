@@ -1,69 +1,83 @@
--- What the functions that write a reply leave in the output is the reply. Assumes nothing.
-use mathlib.Core.Path.{◌≡◌, refl}
-use mathlib.Core.List.{List, [], ◌∷◌}
-use Prim.Native.Nat.{ℕ, ◌+◌}
-use native.Mathlib.Omega.{arith}
-use borrow.Author.Tests.{eq-eqb, ne_eqb}
-use lib.IntN.{ℤ}
-use lib.ListN.{length, set}
-use lib.Seq.{sets}
+-- What the functions that write a reply leave in the buffer is the reply. Assumes nothing.
+use Rattle.std.proofs.Common.{◌≡◌, refl, ◌∙◌, sym, ℕ, ◌≤◌, ◌<◌, ◌*◌, ◌+◌, cond, Bool, true, false, eqb, List, [], ◌∷◌, ◌++◌, length, length-append, arith, lit≤}
+use mathlib.Core.List.{append_assoc}
+use Rattle.std.proofs.lemmas.List.{append-nil}
+use Rattle.std.specs.Prelude.{ℤ, Result, Ok, Err}
+use native.Mathlib.Numerals.{add-one}
+use lib.ListN.{get_or, drop, drop_of_length-le}
+use lib.Seq.{drop-cons}
 use Rattle.units.specs.declared.Refusal.{Refusal}
 use Rattle.arith.specs.Naturals.{natural_or}
 use Rattle.calendar.specs.Calendar.{day_of_date}
-use Rattle.std.specs.Prelude.{Err, Ok, Result}
-use Rattle.decimals.specs.Texts.{line_feed}
+use Rattle.calendar.specs.declared.Date.{Date}
+use Rattle.decimals.specs.Texts.{text, line_feed}
 use Rattle.decimals.specs.Decimals.{most_digits, decimal}
-use Rattle.decimals.specs.Writing.{Put}
-use Rattle.decimals.proofs.Puts.{put_both, put_one}
-use Rattle.date_lines.specs.Lines.{fault_empty, fresh, take, reading}
-use Rattle.date_lines.specs.Replies.{refused, day_text, fault_text, reply, after, said, last_reply, AnsweredLast}
+use Rattle.decimals.proofs.Digits.{decimal_length}
+use Rattle.date_lines.specs.Lines.{reading}
+use Rattle.date_lines.specs.Replies.{refused, day_text, fault_words, fault_text, reply, after, said, line_after, replies, reply_limit}
+use Rattle.date_lines.specs.declared.reader.Fault.{Fault}
+use Rattle.date_lines.specs.declared.reader.Fault.TheVariants.{Empty, Byte, Space, Large, Few, Many}
 use Rattle.date_lines.specs.declared.reader.Line.{Line}
-use Rattle.date_lines.specs.declared.reader.Reading.{Reading}
-use Rattle.date_lines.specs.declared.reader.Reading.TheVariants.{Three, Bad}
 
--- ---- replies
-pub day_put : (a : Result ℤ Refusal) (z : ℤ) (k at r : ℕ) (out result : List ℕ) → a ≡ Ok z → k ≡ natural_or z 0 → Put out at (decimal most_digits k) r result
-    → Put out at (day_text a) (r + 1) (set result r line_feed)
-unfolding day_text
-day_put a z k at r out result e f h =
-    rw (e, ← f) (put_both (decimal most_digits k) (line_feed ∷ []) at r (r + 1) out result (set result r line_feed) h (put_one line_feed r result))
+-- ---- no reply has more than 40 bytes
+day_length : (a : Result ℤ Refusal) → length (day_text a) ≤ reply_limit
+unfolding text day_text refused
+day_length (Ok n) = omega (arith, decimal_length most_digits (natural_or n 0), length-append (decimal most_digits (natural_or n 0)) (line_feed ∷ []))
+day_length (Err r) = lit≤ tt
 
-pub refused_put : (a : Result ℤ Refusal) (q : Refusal) (at r : ℕ) (out result : List ℕ) → a ≡ Err q → Put out at refused r result → Put out at (day_text a) r result
-unfolding day_text
-refused_put a q at r out result e h = rw e h
+pub fault_length : (f : Fault) → length (fault_text f) ≤ reply_limit
+unfolding text fault_text fault_words
+fault_length Empty = lit≤ tt
+fault_length Byte = lit≤ tt
+fault_length Space = lit≤ tt
+fault_length Large = lit≤ tt
+fault_length Few = lit≤ tt
+fault_length Many = lit≤ tt
 
-pub three_put : (w : Reading) (y m d : ℤ) (a : Result ℤ Refusal) (at r : ℕ) (out result : List ℕ) → w ≡ Three y m d → a ≡ day_of_date y m d
-    → Put out at (day_text a) r result → Put out at (reply w) r result
+reply_length : (w : Result Date Fault) → length (reply w) ≤ reply_limit
 unfolding reply
-three_put w y m d a at r out result e f h = rw (e, ← f) h
+reply_length (Ok d) = day_length (day_of_date d.year d.month d.day)
+reply_length (Err f) = fault_length f
 
-pub bad_put : (w : Reading) (f at r : ℕ) (out result : List ℕ) → w ≡ Bad f → Put out at (fault_text f) r result → Put out at (reply w) r result
-unfolding reply
-bad_put w f at r out result e h = rw e h
+said_length : (s : Result Line Fault) (b : ℕ) → length (said s b) ≤ reply_limit
+unfolding said
+said_length s b = go (eqb b line_feed)
+  where
+    go : (e : Bool) → length (cond e (reply (reading s)) []) ≤ reply_limit
+    go true = reply_length (reading s)
+    go false = omega arith
 
--- ---- one byte
-pub take_end : (s t : Line) (w : Reading) (b at r : ℕ) (out result : List ℕ) → b ≡ line_feed → w ≡ reading s → Put out at (reply w) r result → t ≡ fresh
-    → (t ≡ after s b) × (r ≡ at + length (said s b)) × (result ≡ sets out at (said s b))
-unfolding after said
-take_end s t w b at r out result e f h g = rw (eq-eqb b line_feed e, ← f) (g, h.0, h.1)
+-- ---- a piece: what stands and what is left to say are all
+pub record Left (start : Result Line Fault) (first piece out : List ℕ) (line : Result Line Fault) (rest : List ℕ) : Type 0 where
+  pub room : length out + reply_limit * length rest ≤ length first + reply_limit * length piece
+  pub line_is : line_after line rest ≡ line_after start piece
+  pub holds : out ++ replies line rest ≡ first ++ replies start piece
 
-pub take_more : (s t : Line) (b at : ℕ) (out : List ℕ) → (b ≡ line_feed → ⊥) → t ≡ take s b
-    → (t ≡ after s b) × (at ≡ at + length (said s b)) × (out ≡ sets out at (said s b))
-unfolding after said
-take_more s t b at out e f = rw (ne_eqb b line_feed e) (f, omega arith, refl)
+pub left_start : (start : Result Line Fault) (first piece : List ℕ) → Left start first piece first start piece
+left_start start first piece = record { room = omega arith; line_is = refl; holds = refl }
 
--- ---- the last line
-pub last_none : (s : Line) (w : Reading) (f : ℕ) (out : List ℕ) → w ≡ reading s → w ≡ Bad f → f ≡ fault_empty
-    → (0 ≡ length (last_reply s)) × (out ≡ sets out 0 (last_reply s))
-unfolding last_reply
-last_none s w f out e g h = rw (← e, g, eq-eqb f fault_empty h) (refl, refl)
+module _ (start : Result Line Fault) (first piece out : List ℕ) (line : Result Line Fault) (i : ℕ) (l : Left start first piece out line (drop i piece)) where
+  pub left_more : (new : List ℕ) (t : Result Line Fault) → i < length piece → t ≡ after line (get_or piece i 0)
+      → new ≡ out ++ said line (get_or piece i 0) → Left start first piece new t (drop (i + 1) piece)
+  unfolding line_after replies
+  left_more new t h e f =
+      let b : ℕ = get_or piece i 0 in
+      let rest : List ℕ = drop (i + 1) piece in
+      let d : drop i piece ≡ b ∷ rest = rw add-one (drop-cons piece i 0 h) in
+      let now : Left start first piece out line (b ∷ rest) = rw d at l in
+      rw (e, f)
+      (record {
+        room = omega (arith, now.room, said_length line b, length-append out (said line b));
+        line_is = now.line_is;
+        holds = append_assoc out (said line b) (replies (after line b) rest) ∙ now.holds;
+      })
 
-pub last_bad : (s : Line) (w : Reading) (f r : ℕ) (out result : List ℕ) → w ≡ reading s → w ≡ Bad f → (f ≡ fault_empty → ⊥)
-    → Put out 0 (fault_text f) r result → AnsweredLast s out r result
-unfolding last_reply reply
-last_bad s w f r out result e g h q = rw (← e, g, ne_eqb f fault_empty h) (omega (arith, q.0), q.1)
+  pub left_line : length piece ≤ i → line ≡ line_after start piece
+  unfolding line_after
+  left_line h = rw (drop_of_length-le piece h) at l.line_is
 
-pub last_three : (s : Line) (w : Reading) (y m d : ℤ) (a : Result ℤ Refusal) (r : ℕ) (out result : List ℕ) → w ≡ reading s → w ≡ Three y m d → a ≡ day_of_date y m d
-    → Put out 0 (day_text a) r result → AnsweredLast s out r result
-unfolding last_reply reply
-last_three s w y m d a r out result e g f q = rw (← e, g, ← f) (omega (arith, q.0), q.1)
+  pub left_output : length piece ≤ i → out ≡ first ++ replies start piece
+  unfolding replies
+  left_output h =
+      let e : out ++ [] ≡ first ++ replies start piece = rw (drop_of_length-le piece h) at l.holds in
+      sym (append-nil out) ∙ e

@@ -2,4 +2,3 @@
 pub mod Lines
 pub mod Replies
 pub mod Written
-pub mod Machine

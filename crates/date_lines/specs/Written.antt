@@ -1,10 +1,10 @@
 -- The words of the theorems in proofs/Theorems: lines as they are written. Their numbers are those of decimals/specs/Numerals.
-use Rattle.std.specs.Prelude.{◌≡◌, List, [], ◌∷◌, ◌++◌, ℕ, ℤ}
+use Rattle.std.specs.Prelude.{◌≡◌, List, [], ◌∷◌, ◌++◌, ℕ, ℤ, Result, Ok, Err}
 use Rattle.decimals.specs.Texts.{text, line_feed}
 use Rattle.decimals.specs.Numerals.{Numeral}
-use Rattle.date_lines.specs.Lines.{space, greatest}
-use Rattle.date_lines.specs.declared.reader.Reading.{Reading}
-use Rattle.date_lines.specs.declared.reader.Reading.TheVariants.{Three, Bad}
+use Rattle.calendar.specs.declared.Date.{Date}
+use Rattle.date_lines.specs.Lines.{space, greatest, numbers}
+use Rattle.date_lines.specs.declared.reader.Fault.{Fault}
 
 -- Bytes without a line feed.
 abbrev pub NoFeed : List ℕ → Type 0
@@ -22,9 +22,9 @@ pub record ThreeNumbers (line : List ℕ) (y m d : ℤ) : Type 0 where
   pub line_is : line ≡ ys ++ (space ∷ (ms ++ (space ∷ ds)))
 
 -- Each line is decided: it has three numbers and is read as these, or it has not and is read as a fault.
-pub data Decided (line : List ℕ) (r : Reading) : Type 0 where
-  three : (y m d : ℤ) → ThreeNumbers line y m d → r ≡ Three y m d → Decided line r
-  fault : (f : ℕ) → ((y m d : ℤ) → ThreeNumbers line y m d → ⊥) → r ≡ Bad f → Decided line r
+pub data Decided (line : List ℕ) (r : Result Date Fault) : Type 0 where
+  three : (y m d : ℤ) → ThreeNumbers line y m d → r ≡ Ok (numbers y m d) → Decided line r
+  fault : (f : Fault) → ((y m d : ℤ) → ThreeNumbers line y m d → ⊥) → r ≡ Err f → Decided line r
 
 -- The two lines of the rules, and their replies.
 abbrev pub example_lines : List ℕ

@@ -1,10 +1,9 @@
-// A line of three numbers, read byte by byte. `Line` and `start` are for the program `date` too, the rest is for lib.rt.
-ghost use Rattle.std.specs.Prelude.{◌≡◌, ◌≤◌};
-ghost use Rattle.integers.specs.Signs.{sgn};
-ghost use Rattle.date_lines.specs.Lines.{waiting, fresh, faulty, greatest, ended, at_space, at_minus, at_digit, take, reading};
+// A line of three numbers, read byte by byte. `Line`, `Fault` and `start` are for the program `date` too, the rest is for lib.rt.
+ghost use Rattle.std.specs.Prelude.{◌≡◌};
+ghost use Rattle.date_lines.specs.Lines.{waiting, fresh, greatest, number, ended, at_space, at_minus, at_digit, take, reading};
 
-use crate::{FAULT_BYTE, FAULT_EMPTY, FAULT_FEW, FAULT_LARGE, FAULT_MANY, FAULT_SPACE};
 use arith::signed::of_parts;
+use calendar::Date;
 use decimals::{MINUS_SIGN, NINE_DIGIT, ZERO_DIGIT};
 
 // specs/Lines.antt has the same constants under the same names.
@@ -19,24 +18,32 @@ const GREATEST_SIZE: u64 = LEAST_SIZE - 1;
 
 const DIGIT_LIMIT: u64 = GREATEST_SIZE / 10;
 
-// What a line has said so far: its first fault, or 0; how many of its numbers have ended; the year and the month once they have;
-// and of the number that is being read whether it has a minus, whether it has a digit, and its magnitude.
+// What may be wrong with a line.
+#[derive(Clone, Copy)]
+pub enum Fault {
+    // There is nothing on it.
+    Empty,
+    // A byte that no number has there.
+    Byte,
+    // A space that does not part two numbers.
+    Space,
+    // A number past 64 bits.
+    Large,
+    // Fewer than three numbers.
+    Few,
+    // More.
+    Many,
+}
+
+// What a line without a fault has said so far: how many of its numbers have ended; the year and the month once they have; and of the number
+// that is being read whether it has a minus, and its magnitude once it has a digit.
 #[derive(Clone, Copy)]
 pub struct Line {
-    pub fault: u64,
     pub count: u64,
     pub year: i64,
     pub month: i64,
     pub minus: bool,
-    pub digits: bool,
-    pub value: u64,
-}
-
-// What a whole line says: its three numbers, or its first fault.
-#[derive(Clone, Copy)]
-pub enum Reading {
-    Three(i64, i64, i64),
-    Bad(u64),
+    pub value: Option<u64>,
 }
 
 // A line with so many numbers ended, of which these are the year and the month, and nothing of the next.
@@ -44,39 +51,23 @@ fn waiting(count: u64, year: i64, month: i64) -> Line
     ensures { result ≡ waiting count year month }
 {
     Line {
-        fault: 0,
         count,
         year,
         month,
         minus: false,
-        digits: false,
-        value: 0,
+        value: None,
     }
 }
 
 // A line before its first byte.
-pub fn start() -> Line
+pub fn start() -> Result<Line, Fault>
     ensures { result ≡ fresh }
 {
-    waiting(0, 0, 0)
-}
-
-// A line that has this fault.
-fn refuse(fault: u64) -> Line
-    ensures { result ≡ faulty fault }
-{
-    Line {
-        fault,
-        count: 0,
-        year: 0,
-        month: 0,
-        minus: false,
-        digits: false,
-        value: 0,
-    }
+    Ok(waiting(0, 0, 0))
 }
 
 // The greatest magnitude that a number of 64 bits may have.
+#[tactic(auto, unfolding(crate::specs::Lines::greatest))]
 fn greatest(minus: bool) -> u64
     ensures { result ≡ greatest minus }
 {
@@ -86,134 +77,116 @@ fn greatest(minus: bool) -> u64
     GREATEST_SIZE
 }
 
-// The number with this sign and magnitude.
-fn number(minus: bool, value: u64) -> i64
-    requires { value ≤ greatest minus }
-    ensures { result ≡ sgn minus value }
+// The number with this sign and magnitude, if it has 64 bits.
+#[tactic(auto, using(crate::proofs::LeastNumber::greatest_most, crate::proofs::LeastNumber::least), unfolding(crate::specs::Lines::number))]
+fn number(minus: bool, value: u64) -> Result<i64, Fault>
+    ensures { result ≡ number minus value }
 {
+    if greatest(minus) < value {
+        return Err(Fault::Large);
+    }
     if value == LEAST_SIZE {
-        return i64::MIN;
+        return Ok(i64::MIN);
     }
-    of_parts(minus, value)
+    Ok(of_parts(minus, value))
 }
 
-// A number that has ended: the year, the month, or the day, after which nothing may come.
-fn end_number(s: Line, n: i64) -> Line
-    ensures { result ≡ ended s n }
-{
-    if s.count == 0 {
-        return waiting(1, n, 0);
-    }
-    if s.count == 1 {
-        return waiting(2, s.year, n);
-    }
-    waiting(3, s.year, s.month)
-}
-
-fn take_space(s: Line) -> Line
-    ensures { result ≡ at_space s }
-{
-    let minus = s.minus;
-    let value = s.value;
-    if !s.digits {
-        if minus {
-            return refuse(FAULT_BYTE);
+impl Line {
+    // A number that has ended: the year, the month, or the day, after which nothing may come.
+    fn end_number(self, n: i64) -> Line
+        ensures { result ≡ ended self n }
+    {
+        match self.count {
+            0 => waiting(1, n, 0),
+            1 => waiting(2, self.year, n),
+            _ => waiting(3, self.year, self.month),
         }
-        return refuse(FAULT_SPACE);
     }
-    let limit = greatest(minus);
-    if limit < value {
-        return refuse(FAULT_LARGE);
-    }
-    end_number(s, number(minus, value))
-}
 
-fn take_minus(s: Line) -> Line
-    ensures { result ≡ at_minus s }
-{
-    if s.digits {
-        return refuse(FAULT_BYTE);
+    #[tactic(auto, unfolding(crate::specs::Lines::at_space, crate::specs::Lines::number))]
+    fn take_space(self) -> Result<Line, Fault>
+        ensures { result ≡ at_space self }
+    {
+        let Some(value) = self.value else {
+            if self.minus {
+                return Err(Fault::Byte);
+            }
+            return Err(Fault::Space);
+        };
+        Ok(self.end_number(number(self.minus, value)?))
     }
-    if s.minus {
-        return refuse(FAULT_BYTE);
-    }
-    Line {
-        fault: 0,
-        count: s.count,
-        year: s.year,
-        month: s.month,
-        minus: true,
-        digits: false,
-        value: 0,
-    }
-}
 
-fn take_digit(s: Line, b: u8) -> Line
-    ensures { result ≡ at_digit s b }
-{
-    if b < ZERO_DIGIT {
-        return refuse(FAULT_BYTE);
+    #[tactic(auto, unfolding(crate::specs::Lines::at_minus))]
+    fn take_minus(self) -> Result<Line, Fault>
+        ensures { result ≡ at_minus self }
+    {
+        if self.minus || self.value.is_some() {
+            return Err(Fault::Byte);
+        }
+        Ok(Line {
+            minus: true,
+            ..self
+        })
     }
-    if NINE_DIGIT < b {
-        return refuse(FAULT_BYTE);
-    }
-    if DIGIT_LIMIT < s.value {
-        return refuse(FAULT_LARGE);
-    }
-    Line {
-        fault: 0,
-        count: s.count,
-        year: s.year,
-        month: s.month,
-        minus: s.minus,
-        digits: true,
-        value: 10 * s.value + (b - ZERO_DIGIT) as u64,
+
+    #[tactic(auto, unfolding(crate::specs::Lines::at_digit))]
+    fn take_digit(self, b: u8) -> Result<Line, Fault>
+        ensures { result ≡ at_digit self b }
+    {
+        if b < ZERO_DIGIT || NINE_DIGIT < b {
+            return Err(Fault::Byte);
+        }
+        let value = self.value.unwrap_or(0);
+        if DIGIT_LIMIT < value {
+            return Err(Fault::Large);
+        }
+        Ok(Line {
+            value: Some(10 * value + (b - ZERO_DIGIT) as u64),
+            ..self
+        })
     }
 }
 
-// One byte of the line.
-pub fn take_byte(s: Line, b: u8) -> Line
-    ensures { result ≡ take s b }
+// One byte of the line; a fault stays.
+#[tactic(auto, unfolding(crate::specs::Lines::take))]
+pub fn take_byte(line: Result<Line, Fault>, b: u8) -> Result<Line, Fault>
+    ensures { result ≡ take line b }
 {
-    if s.fault != 0 {
-        return s;
-    }
+    let s = line?;
     if b == SPACE {
-        return take_space(s);
+        return s.take_space();
     }
     if 2 < s.count {
-        return refuse(FAULT_MANY);
+        return Err(Fault::Many);
     }
     if b == MINUS_SIGN {
-        return take_minus(s);
+        return s.take_minus();
     }
-    take_digit(s, b)
+    s.take_digit(b)
 }
 
-// The end of the line.
-pub fn whole(s: Line) -> Reading
-    ensures { result ≡ reading s }
+// What a whole line says: its three numbers, or its first fault.
+#[tactic(auto, unfolding(crate::specs::Lines::reading, crate::specs::Lines::number))]
+pub fn whole(line: Result<Line, Fault>) -> Result<Date, Fault>
+    ensures { result ≡ reading line }
 {
-    if s.fault != 0 {
-        return Reading::Bad(s.fault);
-    }
-    if !s.digits {
+    let s = line?;
+    let Some(value) = s.value else {
         if s.minus {
-            return Reading::Bad(FAULT_BYTE);
+            return Err(Fault::Byte);
         }
         if s.count == 0 {
-            return Reading::Bad(FAULT_EMPTY);
+            return Err(Fault::Empty);
         }
-        return Reading::Bad(FAULT_SPACE);
-    }
-    let minus = s.minus;
-    let value = s.value;
-    let limit = greatest(minus);
-    if limit < value {
-        return Reading::Bad(FAULT_LARGE);
-    }
+        return Err(Fault::Space);
+    };
+    let day = number(s.minus, value)?;
     if s.count < 2 {
-        return Reading::Bad(FAULT_FEW);
+        return Err(Fault::Few);
     }
-    Reading::Three(s.year, s.month, number(minus, value))
+    Ok(Date {
+        year: s.year,
+        month: s.month,
+        day,
+    })
 }

@@ -1,11 +1,7 @@
 -- `answer_piece` meets its contract. Assumes nothing.
-use Prim.Native.Nat.{◌-◌}
-use lib.ListN.{length}
-use Rattle.date_lines.proofs.PieceLoop.{Left}
+use Rattle.std.proofs.Common.{drop}
+use Rattle.date_lines.proofs.WrittenReplies.{Left}
 use Rattle.date_lines.proofs.answer_piece.Given as goal
 
-abbrev pub invariant-loop-i : goal.invariant-loop-i
-invariant-loop-i l = Left l.initial.so_far.line l.initial.out l.piece l.out l.so_far.line l.so_far.at l.i
-
-abbrev pub decreases-loop-i : goal.decreases-loop-i
-decreases-loop-i l = length l.piece - l.i
+abbrev pub invariant-loop-b : goal.invariant-loop-b
+invariant-loop-b g l = Left l.initial.now l.initial.out l.piece l.out l.now (drop l.b-index l.piece)
