@@ -17,7 +17,7 @@ impl Published {
     }
 
     // The bytes that stand from an index on, as far as the record goes on with them.
-    pub fn take_row(self, text: &[u8], from: usize) -> Passed<Published>
+    pub(crate) fn take_row(self, text: &[u8], from: usize) -> Passed<Published>
         ensures { GoesOn self text.now from result.state result.next }
     {
         if text.len() <= from || !self.counts(text.len() - from) {

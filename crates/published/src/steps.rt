@@ -22,7 +22,7 @@ use units::Fault;
 impl Published {
     // The record that is read: a heading comes where no term is left of the block.
     #[tactic(auto, unfolding(crate::specs::Reader::at_heading))]
-    pub fn kind(self) -> Kind
+    pub(crate) fn kind(self) -> Kind
         ensures { is_heading result ≡ at_heading self }
     {
         match self.reader.left {
@@ -33,7 +33,7 @@ impl Published {
 
     // After block 18 nothing may come.
     #[tactic(auto, unfolding(crate::specs::Reader::complete))]
-    pub fn is_complete(self) -> bool
+    pub(crate) fn is_complete(self) -> bool
         ensures { result ≡ complete self }
     {
         next_spot(self.reader.blocks, self.reader.left) == SPOT_AFTER
@@ -159,7 +159,7 @@ impl Published {
 
     // One byte.
     #[tactic(auto, unfolding(crate::specs::Reader::step, crate::specs::Reader::step_out, series_lines::specs::Reader::uncounted))]
-    pub fn take_byte(self, byte: u8, out: &mut [u8]) -> Published
+    pub(crate) fn take_byte(self, byte: u8, out: &mut [u8]) -> Published
         ensures { (result ≡ step self out.old byte) × (out.new ≡ step_out self out.old byte) }
     {
         let r = self.reader;
@@ -197,7 +197,7 @@ impl Published {
 
     // The end of the file.
     #[tactic(auto, unfolding(crate::specs::Reader::ended, crate::specs::Reader::ended_out, crate::specs::Reader::inside))]
-    pub fn close(self, out: &mut [u8]) -> Published
+    pub(crate) fn close(self, out: &mut [u8]) -> Published
         ensures { (result ≡ ended self out.old) × (out.new ≡ ended_out self out.old) }
     {
         let r = self.reader;

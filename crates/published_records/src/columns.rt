@@ -60,7 +60,7 @@ fn decimal_column(m: u64) -> Column
 
 // So many columns of a decimal's field stand after column c of a term record, where c is in one.
 #[tactic(auto, unfolding(crate::specs::Machine::Parts::decimal_left))]
-pub fn decimal_left(c: u64) -> Option<u64>
+pub(crate) fn decimal_left(c: u64) -> Option<u64>
     ensures { result ≡ decimal_left c }
 {
     match c {

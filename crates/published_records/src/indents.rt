@@ -17,7 +17,8 @@ const A_WHOLE: u64 = A_LAST - PART_DIGITS - 1;
 
 const C_WHOLE: u64 = C_LAST - PART_DIGITS - 1;
 
-// The last whole column of the figure that column c is in; 0 in free columns, at the first column of a and of c, in b and from a point on.
+// The last whole column of the figure that column c is in; 0, which no column stands before, in free columns, at the first column of a and of c,
+// in b and from a point on.
 #[tactic(auto, unfolding(crate::specs::Machine::Indents::last_whole))]
 fn last_whole(c: u64) -> u64
     ensures { result ≡ last_whole c }

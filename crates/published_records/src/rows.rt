@@ -20,7 +20,7 @@ pub const COLUMN_LIMIT: u64 = C_LAST + 1;
 
 // The column after n bytes, from column c on.
 #[tactic(auto, unfolding(crate::specs::Machine::Fillers::held))]
-pub fn held(c: u64, n: u64) -> u64
+pub(crate) fn held(c: u64, n: u64) -> u64
     ensures { result ≡ held c n }
 {
     c.saturating_add(n).min(COLUMN_LIMIT)

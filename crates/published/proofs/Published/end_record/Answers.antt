@@ -51,5 +51,6 @@ returns c =
     let e = rw (c.block_factor-f.ensures.0, c.saturating_sub.ensures, c.tally-s.ensures) at c.in_ok-term_line_refusal.ensures in
     let unrefused = record_as_line p (sym c.follows.ensures ∙ c.if-not-follows.false) ∙ sym e in
     let t : c.add_term-more.result ≡ (record_end p).tally =
-    rw (c.sizes.ensures, c.block_factor-f.ensures.0, c.saturating_sub.ensures, c.tally-s.ensures) at c.add_term-more.ensures ∙ line_added _ (tally p.reader) l in
+    let a = rw (c.sizes.ensures, c.block_factor-f.ensures.0, c.saturating_sub.ensures, c.tally-s.ensures) at c.add_term-more.ensures in
+    a ∙ line_added _ (tally p.reader) l in
     wrote_next p.reader _ _ (record_end p) unrefused _ _ c.in-Ok.ensures.1 _ c.in-Ok.ensures.0 (c.advanced.ensures ∙ rw (c.saturating_sub-2.ensures, t))
