@@ -13,7 +13,7 @@ use Rattle.mending.specs.Rule.{tab, blank, stays, dropped, left, mended_from, me
 use Rattle.mending.specs.Machine.Runs.{spared, spared_run, tab_changes, drops}
 use Rattle.mending.specs.Machine.Passes.{no_run, Counted, Plain}
 use Rattle.mending.proofs.Runs.{bytes_at_feed, changes_at_feed, bytes_at_other, changes_at_other, bytes_at_end, changes_at_end}
-use Rattle.mending.proofs.Runs.{pending_more, pending_none, tabs_more, length_spared_run, length_drops}
+use Rattle.mending.proofs.Runs.{pending_more, pending_none, plain_bytes, tabs_more, length_spared_run, length_drops}
 
 no_tabs : (text : List ℕ) (i : ℕ) → 0 ≡ length (tab_changes i (slice i i text))
 unfolding tab_changes
@@ -53,9 +53,10 @@ module _ (text : List ℕ) (c : Counting) (i : ℕ) (k : Counted text c i) (h : 
     all_changes = k.all_changes;
   }
 
-  pub counted_tab : blank (get_or text i 0) ≡ true → get_or text i 0 ≡ tab
+  pub counted_tab : get_or text i 0 ≡ tab
       → Counted text (record { begun = c.begun; from = c.from; tabs = c.tabs + 1; length = c.length; changes = c.changes }) (i + 1)
-  counted_tab b e = let n = one_tab i (get_or text i 0) e in held (c.tabs + 1) b (omega (arith, n)) (omega (arith, n))
+  unfolding blank
+  counted_tab e = let n = one_tab i (get_or text i 0) e in held (c.tabs + 1) (rw (eq-eqb _ tab e)) (omega (arith, n)) (omega (arith, n))
 
   pub counted_blank : blank (get_or text i 0) ≡ true → (get_or text i 0 ≡ tab → ⊥) → Counted text c (i + 1)
   counted_blank b f = let n = not_tab i (get_or text i 0) f in held c.tabs b (omega (arith, n)) (omega (arith, n))
@@ -138,7 +139,7 @@ counted_plain text i start bytes changes next k s p =
       few_tabs = omega arith;
       few_bytes = omega (arith, k.few_bytes, p.onward);
       few_changes = omega (arith, k.few_changes, p.onward);
-      all_bytes = omega (arith, k.all_bytes, p.onward, p.bytes);
+      all_bytes = omega (arith, k.all_bytes, p.onward, plain_bytes text (i + 1) next p);
       all_changes = omega (arith, k.all_changes, ap length p.changes);
     }
 

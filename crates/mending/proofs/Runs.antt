@@ -1,6 +1,6 @@
 -- A run of blanks goes as a whole: it is dropped before a line feed, and stays before any other byte and at the end of a text. Assumes nothing.
 use mathlib.Core.Path.{◌≡◌, refl, sym, ap, subst, ◌∙◌}
-use mathlib.Core.Bool.{Bool, true, false, cond}
+use mathlib.Core.Bool.{Bool, true, false, not, cond}
 use mathlib.Core.List.{List, [], ◌∷◌, ◌++◌, append_assoc, append-nil}
 use Prim.Native.Nat.{ℕ, zero, suc, ◌+◌, ◌*◌, ◌-◌, ◌≤◌, ◌<◌}
 use native.Mathlib.Nat.{add-zero}
@@ -8,9 +8,14 @@ use native.Mathlib.Numerals.{add-one}
 use native.Mathlib.Omega.{arith}
 use native.Mathlib.Decide.{dec_le}
 use borrow.Author.Tests.{ne_eqb, eq-eqb, lt-ltb, le-ltb}
-use lib.Dec.{eqb}
-use lib.ListN.{length, get_or, take, drop, length-append, take-append-drop, drop_of_length-le}
+use lib.Dec.{leb, eqb}
+use lib.ListN.{length, get_or, take, drop, length-append, length-drop, take-append-drop, drop_of_length-le}
 use lib.Seq.{drop-cons, slice, slice_empty, take-suc, length-take-le, drop-append-le, length-slice}
+use Rattle.std.specs.List.{position, position_or_len}
+use Rattle.std.specs.Option.{unwrap_or}
+use Rattle.std.proofs.lemmas.List.{get_or-drop}
+use Rattle.std.proofs.lemmas.List.Sums.{prefix_len-le-length, prefix_len_passes}
+use Rattle.std.proofs.lemmas.Bool.Decides.{nat_tests}
 use Rattle.integers.proofs.Tests.{false_true}
 use Rattle.series_lines.specs.Grammar.{feed, space}
 use Rattle.mending.specs.Rule.{tab, carriage_return, blank, blank_to_feed, stays, dropped, spaced, fate, begins, begun_after, left, mended_from}
@@ -257,16 +262,53 @@ pending_none text i h = record { onward = omega arith; within = h; blanks = rw (
 -- ---- bytes above a space
 
 pub plain_none : (text : List ℕ) (i : ℕ) → i ≤ length text → Plain text i i
-plain_none text i h = record { onward = omega arith; within = h; bytes = omega arith; changes = refl }
+plain_none text i h = record {
+  onward = omega arith;
+  within = h;
+  bytes = let e : i - i ≡ 0 = omega arith in rw e;
+  changes = refl;
+}
 
-pub plain_more : (text : List ℕ) (i j : ℕ) → Plain text i j → j < length text → space < get_or text j 0 → Plain text i (j + 1)
+plain_more : (text : List ℕ) (i j : ℕ) → Plain text i j → j < length text → space < get_or text j 0 → Plain text i (j + 1)
 plain_more text i j p h g =
+    let n : j + 1 - i ≡ suc (j - i) = omega (arith, p.onward) in
+    let at : i + (j - i) ≡ j = omega (arith, p.onward) in
+    let k : j - i < length (drop i text) = omega (arith, length-drop i text, p.onward) in
+    let one : take (suc (j - i)) (drop i text) ≡ take (j - i) (drop i text) ++ (get_or text j 0 ∷ []) =
+    take-suc (drop i text) (j - i) 0 k ∙ rw (get_or-drop i text (j - i) 0, at) in
     record {
       onward = omega (arith, p.onward);
       within = omega arith;
-      bytes = omega (arith, p.onward, p.bytes, ap length (bytes_at_plain text j h g));
+      bytes =
+          p.bytes
+          ∙ ap (λ (l : List ℕ). take (j - i) (drop i text) ++ l) (bytes_at_plain text j h g)
+          ∙ rw (n, one) (sym (append_assoc (take (j - i) (drop i text)) (get_or text j 0 ∷ []) _));
       changes = p.changes ∙ changes_at_plain text j h g;
     }
+
+pub plain_bytes : (text : List ℕ) (i j : ℕ) → Plain text i j → length (mended_from true (drop i text)) ≡ j - i + length (mended_from true (drop j text))
+plain_bytes text i j p =
+    let n : length (take (j - i) (drop i text)) ≡ j - i = length-take-le (j - i) (drop i text) (omega (arith, length-drop i text, p.onward, p.within)) in
+    ap length p.bytes ∙ length-append (take (j - i) (drop i text)) _ ∙ rw n
+
+-- So many bytes above a space.
+plain_first : (text : List ℕ) (i n : ℕ) → i + n ≤ length text → ((k : ℕ) → k < n → space < get_or text (i + k) 0) → Plain text i (i + n)
+plain_first text i zero h f = rw (add-zero i) (plain_none text i (omega arith))
+plain_first text i (suc n) h f =
+    let p = plain_first text i n (omega arith) (λ k q. f k (omega arith)) in
+    let e : i + n + 1 ≡ i + suc n = omega arith in
+    subst (λ (j : ℕ). Plain text i j) e (plain_more text i (i + n) p (omega arith) (f n (omega arith)))
+
+pub position_or : (p : ℕ → Bool) (xs : List ℕ) → unwrap_or (position p xs) (length xs) ≡ position_or_len p xs
+position_or p xs = grind (arith, nat_tests, prefix_len-le-length)
+
+pub plain_all : (text : List ℕ) (i n : ℕ) → i ≤ length text → n ≡ position_or_len (λ x. leb x space) (drop i text) → Plain text i (i + n)
+plain_all text i n h e =
+    plain_first text i n (omega (arith, e, prefix_len-le-length (λ x. not (leb x space)) (drop i text), length-drop i text))
+    (λ k q. above k (prefix_len_passes (λ x. not (leb x space)) (drop i text) k 0 (omega (arith, e))))
+  where
+    above : (k : ℕ) → not (leb (get_or (drop i text) k 0) space) ≡ true → space < get_or text (i + k) 0
+    above k t = grind (arith, nat_tests, get_or-drop)
 
 -- ---- the byte that is looked at next
 

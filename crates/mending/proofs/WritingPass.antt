@@ -1,22 +1,25 @@
 -- What one byte does to both buffers: what is left to write gives what was left before. Assumes nothing.
 use mathlib.Core.Path.{◌≡◌, refl, sym, ap, ap₂, subst, ◌∙◌}
 use mathlib.Core.Bool.{Bool, true, false, cond}
-use mathlib.Core.List.{List, [], ◌∷◌, ◌++◌, append-nil}
+use mathlib.Core.List.{List, [], ◌∷◌, ◌++◌, append_assoc, append-nil}
 use Prim.Native.Nat.{ℕ, suc, ◌+◌, ◌-◌, ◌≤◌, ◌<◌}
 use native.Mathlib.Nat.{add-zero}
 use native.Mathlib.Numerals.{add-one}
 use native.Mathlib.Omega.{arith}
 use borrow.Author.Tests.{ne_eqb, eq-eqb}
-use lib.ListN.{length, get_or, set, drop, length-append}
-use lib.Seq.{sets, length-sets, slice, slice_empty, slice-cons}
+use lib.ListN.{length, get_or, set, take, drop, length-append, length-drop}
+use lib.Seq.{sets, sets-eq, length-sets, length-take-le, slice, slice_empty, slice-cons}
+use borrow.Rule.Slice.PartMut.{put_mid}
+use Rattle.std.proofs.lemmas.Slice.{put_mid-paste}
+use Rattle.std.proofs.lemmas.List.Edits.{paste_all}
 use Rattle.buffers.proofs.Sets.{sets_append}
 use Rattle.series_lines.specs.Grammar.{feed, space}
 use Rattle.mending.specs.declared.writing.Writing.{Writing}
 use Rattle.mending.specs.Rule.{tab, blank, stays, dropped, left, mended_from, drop_kind, space_kind, listed, changes_from, numbers}
 use Rattle.mending.specs.Machine.Runs.{spared, spared_run, tab_changes, drops, Room, Wrote, run_bytes, run_numbers}
-use Rattle.mending.specs.Machine.Passes.{bytes_left, numbers_left, plain_left, Ready, Rest, Copied, Came}
+use Rattle.mending.specs.Machine.Passes.{bytes_left, numbers_left, plain_left, Ready, Rest, Plain, Copied, Came}
 use Rattle.mending.proofs.Runs.{bytes_at_feed, changes_at_feed, bytes_at_other, changes_at_other, bytes_at_end, changes_at_end}
-use Rattle.mending.proofs.Runs.{pending_more, pending_none, bytes_at_plain, plain_none, plain_more, numbers_append}
+use Rattle.mending.proofs.Runs.{pending_more, pending_none, plain_bytes, numbers_append}
 
 -- ---- numbers that are written piece by piece
 
@@ -104,21 +107,25 @@ drops_none i end h = let e : end - i ≡ 0 = omega arith in rw e
 
 -- ---- bytes above a space
 
-pub copied_none : (text : List ℕ) (i at : ℕ) (out : List ℕ) → i ≤ length text → Copied text i at out i at out
-copied_none text i at out h = record { plain = plain_none text i h; bytes = rest_start }
+-- A part of a buffer with other bytes in place of it is the buffer where they were written.
+put_mid_sets : (at k : ℕ) (out ys : List ℕ) → k ≡ length ys → at + k ≤ length out → put_mid at k out ys ≡ sets out at ys
+put_mid_sets at k out ys e h =
+    let room : at + length ys ≤ length out = omega (arith, e) in
+    put_mid-paste at k out ys ys k refl refl e
+    ∙ (paste_all out at ys k e ∙ (rw e (sym (append_assoc (take at out) ys _)) ∙ sym (sets-eq ys out at room)))
 
-module _ {text : List ℕ} {i at : ℕ} {out : List ℕ} {j p : ℕ} {after : List ℕ} (c : Copied text i at out j p after) where
-  module _ (h : j < length text) (g : space < get_or text j 0) where
-    next_left : Rest (plain_left text i) at out (get_or text j 0 ∷ plain_left text (j + 1)) p after
-    next_left = rest_is (bytes_at_plain text j h g) c.bytes
+pub plain_room : (text out : List ℕ) (i at j : ℕ) → Plain text i j → Room (plain_left text i) at out → at + (j - i) ≤ length out
+plain_room text out i at j p r = omega (arith, plain_bytes text i j p)
 
-    pub plain_room : Room (plain_left text i) at out → p < length after
-    plain_room r = let m = next_left.count in let s = next_left.same in omega arith
-
-    pub copied_more : Copied text i at out (j + 1) (p + 1) (set after p (get_or text j 0))
-    copied_more = record {
-      plain = plain_more text i j c.plain h g;
-      bytes = rest_more {ys = get_or text j 0 ∷ []} next_left (wrote_one (get_or text j 0) p after);
+pub copied : (text out ys : List ℕ) (i at j k : ℕ) → Plain text i j → Room (plain_left text i) at out → ys ≡ take (j - i) (drop i text)
+    → k ≡ j - i → Copied text i at out j (at + (j - i)) (put_mid at k out ys)
+copied text out ys i at j k p r e f =
+    let n : length ys ≡ j - i = ap length e ∙ length-take-le (j - i) (drop i text) (omega (arith, length-drop i text, p.onward, p.within)) in
+    let w = put_mid_sets at k out ys (f ∙ sym n) (omega (arith, plain_room text out i at j p r)) in
+    let left = p.bytes ∙ ap (λ (l : List ℕ). l ++ plain_left text j) (sym e) in
+    record {
+      plain = p;
+      bytes = rest_more {ys = ys} (rest_is left rest_start) (record { end = omega (arith, n); holds = w });
     }
 
 -- ---- a byte of the text
@@ -134,25 +141,25 @@ module _ (text : List ℕ) (w : Writing) (i : ℕ) (out list : List ℕ) (r : Re
     numbers_other : numbers_left text w ≡ run_numbers text w.from i ++ numbers (changes_from true (i + 1) (drop (i + 1) text))
     numbers_other = ap numbers (changes_at_other text w.from i r.run h f b w.begun) ∙ numbers_append _ _
 
-    pub run_room : Room (run_bytes text w.from i) w.at out
+    pub run_room : Room (run_bytes text w.from i) w.place.at out
     run_room =
         rest_room (run_bytes text w.from i) (get_or text i 0 ∷ plain_left text (i + 1)) (rest_is bytes_other (rest_start {start = out})) r.room
 
-    pub run_list_room : Room (run_numbers text w.from i) w.slot list
+    pub run_list_room : Room (run_numbers text w.from i) w.place.slot list
     run_list_room =
         rest_room (run_numbers text w.from i) (numbers (changes_from true (i + 1) (drop (i + 1) text)))
         (rest_is numbers_other (rest_start {start = list}))
         r.list_room
 
-    module _ (at slot : ℕ) (out_then list_then : List ℕ) (bytes_run : Wrote (run_bytes text w.from i) w.at out at out_then)
-        (list_run : Wrote (run_numbers text w.from i) w.slot list slot list_then) where
-      bytes_then : Rest (bytes_left text w) w.at out (get_or text i 0 ∷ mended_from true (drop (i + 1) text)) at out_then
+    module _ (at slot : ℕ) (out_then list_then : List ℕ) (bytes_run : Wrote (run_bytes text w.from i) w.place.at out at out_then)
+        (list_run : Wrote (run_numbers text w.from i) w.place.slot list slot list_then) where
+      bytes_then : Rest (bytes_left text w) w.place.at out (get_or text i 0 ∷ mended_from true (drop (i + 1) text)) at out_then
       bytes_then = rest_more (rest_is bytes_other rest_start) bytes_run
 
       pub byte_room : at < length out_then
       byte_room = let m = bytes_then.count in let s = bytes_then.same in omega (arith, r.room)
 
-      pub came_other : Came text w out list (record { begun = true; from = i + 1; at = at + 1; slot = slot }) (i + 1)
+      pub came_other : Came text w out list (record { begun = true; from = i + 1; place = record { at = at + 1; slot = slot } }) (i + 1)
           (set out_then at (get_or text i 0)) list_then
       came_other = record {
         run = pending_none text (i + 1) (omega arith);
@@ -166,12 +173,12 @@ module _ (text : List ℕ) (w : Writing) (i : ℕ) (out list : List ℕ) (r : Re
 
       pub came_word : (next : ℕ) (after : List ℕ)
           → Copied text (i + 1) (at + 1) (set out_then at (get_or text i 0)) next (at + 1 + (next - (i + 1))) after
-          → Came text w out list (record { begun = true; from = next; at = at + (next - i); slot = slot }) next after list_then
+          → Came text w out list (record { begun = true; from = next; place = record { at = at + (next - i); slot = slot } }) next after list_then
       came_word next after c =
           let e : at + 1 + (next - (i + 1)) ≡ at + (next - i) = omega (arith, c.plain.onward) in
           record {
             run = pending_none text next c.plain.within;
-            bytes = subst (λ (k : ℕ). Rest (bytes_left text w) w.at out (plain_left text next) k after) e (rest_then came_other.bytes c.bytes);
+            bytes = subst (λ (k : ℕ). Rest (bytes_left text w) w.place.at out (plain_left text next) k after) e (rest_then came_other.bytes c.bytes);
             changes = rest_is (ap numbers c.plain.changes) came_other.changes;
           }
 
@@ -187,29 +194,29 @@ module _ (text : List ℕ) (w : Writing) (i : ℕ) (out list : List ℕ) (r : Re
         → bytes_left text w ≡ left (cond begun stays dropped) (get_or text i 0) ++ mended_from false (drop (i + 1) text)
     bytes_feed begun s = rw s (bytes_at_feed text w.from i r.run h begun e)
 
-    pub drops_room : Room (numbers (drops w.from (i - w.from))) w.slot list
+    pub drops_room : Room (numbers (drops w.from (i - w.from))) w.place.slot list
     drops_room =
         rest_room (numbers (drops w.from (i - w.from)))
         (numbers (listed i (cond w.begun stays dropped)) ++ numbers (changes_from false (i + 1) (drop (i + 1) text)))
         (rest_is (numbers_feed w.begun refl) (rest_start {start = list}))
         r.list_room
 
-    pub feed_room : w.begun ≡ true → w.at < length out
+    pub feed_room : w.begun ≡ true → w.place.at < length out
     unfolding left
     feed_room s = omega (arith, r.room, ap length (bytes_feed true s))
 
-    module _ (slot : ℕ) (list_then : List ℕ) (dropped_run : Wrote (numbers (drops w.from (i - w.from))) w.slot list slot list_then) where
+    module _ (slot : ℕ) (list_then : List ℕ) (dropped_run : Wrote (numbers (drops w.from (i - w.from))) w.place.slot list slot list_then) where
       pub came_feed : w.begun ≡ true
-          → Came text w out list (record { begun = false; from = i + 1; at = w.at + 1; slot = slot }) (i + 1) (set out w.at (get_or text i 0)) list_then
+          → Came text w out list (record { begun = false; from = i + 1; place = record { at = w.place.at + 1; slot = slot } }) (i + 1) (set out w.place.at (get_or text i 0)) list_then
       unfolding left listed numbers
       came_feed s = record {
         run = pending_none text (i + 1) (omega arith);
-        bytes = rest_more {ys = get_or text i 0 ∷ []} (rest_is (bytes_feed true s) rest_start) (wrote_one (get_or text i 0) w.at out);
+        bytes = rest_more {ys = get_or text i 0 ∷ []} (rest_is (bytes_feed true s) rest_start) (wrote_one (get_or text i 0) w.place.at out);
         changes = rest_more (rest_is (numbers_feed true s) rest_start) dropped_run;
       }
 
       list_left : w.begun ≡ false
-          → Rest (numbers_left text w) w.slot list ((i ∷ drop_kind ∷ []) ++ numbers (changes_from false (i + 1) (drop (i + 1) text))) slot list_then
+          → Rest (numbers_left text w) w.place.slot list ((i ∷ drop_kind ∷ []) ++ numbers (changes_from false (i + 1) (drop (i + 1) text))) slot list_then
       unfolding listed numbers
       list_left s = rest_more (rest_is (numbers_feed false s) rest_start) dropped_run
 
@@ -217,7 +224,7 @@ module _ (text : List ℕ) (w : Writing) (i : ℕ) (out list : List ℕ) (r : Re
       change_room s = rest_room (i ∷ drop_kind ∷ []) (numbers (changes_from false (i + 1) (drop (i + 1) text))) (list_left s) r.list_room
 
       pub came_blank_line : w.begun ≡ false → (slot_after : ℕ) (list_after : List ℕ) → Wrote (i ∷ drop_kind ∷ []) slot list_then slot_after list_after
-          → Came text w out list (record { begun = false; from = i + 1; at = w.at; slot = slot_after }) (i + 1) out list_after
+          → Came text w out list (record { begun = false; from = i + 1; place = record { at = w.place.at; slot = slot_after } }) (i + 1) out list_after
       unfolding left
       came_blank_line s slot_after list_after change = record {
         run = pending_none text (i + 1) (omega arith);
@@ -228,14 +235,14 @@ module _ (text : List ℕ) (w : Writing) (i : ℕ) (out list : List ℕ) (r : Re
 -- ---- the whole text
 
 abbrev pub unwritten : Writing
-unwritten = record { begun = false; from = 0; at = 0; slot = 0 }
+unwritten = record { begun = false; from = 0; place = record { at = 0; slot = 0 } }
 
 pub came_none : (text out list : List ℕ) → Came text unwritten out list unwritten 0 out list
 came_none text out list = record { run = pending_none text 0 (omega arith); bytes = rest_start; changes = rest_start }
 
 module _ {text : List ℕ} {w : Writing} {out list : List ℕ} {v : Writing} {i : ℕ} {out_then list_then : List ℕ}
     (c : Came text w out list v i out_then list_then) where
-  pub came_ready : Room (bytes_left text w) w.at out → Room (numbers_left text w) w.slot list → Ready text v i out_then list_then
+  pub came_ready : Room (bytes_left text w) w.place.at out → Room (numbers_left text w) w.place.slot list → Ready text v i out_then list_then
   came_ready a b = record {
     run = c.run;
     room = omega (arith, c.bytes.count, c.bytes.same);
@@ -253,15 +260,15 @@ module _ {text : List ℕ} {w : Writing} {out list : List ℕ} {v : Writing} {i 
     pub end_numbers : numbers_left text v ≡ run_numbers text v.from i
     end_numbers = ap numbers (changes_at_end text v.from i c.run h v.begun)
 
-    pub end_room : Room (bytes_left text w) w.at out → Room (run_bytes text v.from i) v.at out_then
+    pub end_room : Room (bytes_left text w) w.place.at out → Room (run_bytes text v.from i) v.place.at out_then
     end_room a = omega (arith, c.bytes.count, c.bytes.same, ap length end_bytes)
 
-    pub end_list_room : Room (numbers_left text w) w.slot list → Room (run_numbers text v.from i) v.slot list_then
+    pub end_list_room : Room (numbers_left text w) w.place.slot list → Room (run_numbers text v.from i) v.place.slot list_then
     end_list_room a = omega (arith, c.changes.count, c.changes.same, ap length end_numbers)
 
-    pub end_out : {to : ℕ} {after : List ℕ} → Wrote (run_bytes text v.from i) v.at out_then to after → after ≡ sets out w.at (bytes_left text w)
+    pub end_out : {to : ℕ} {after : List ℕ} → Wrote (run_bytes text v.from i) v.place.at out_then to after → after ≡ sets out w.place.at (bytes_left text w)
     end_out p = (rest_over (rest_more (rest_is (end_bytes ∙ sym (append-nil _)) c.bytes) p)).holds
 
-    pub end_list : {to : ℕ} {after : List ℕ} → Wrote (run_numbers text v.from i) v.slot list_then to after
-        → after ≡ sets list w.slot (numbers_left text w)
+    pub end_list : {to : ℕ} {after : List ℕ} → Wrote (run_numbers text v.from i) v.place.slot list_then to after
+        → after ≡ sets list w.place.slot (numbers_left text w)
     end_list p = (rest_over (rest_more (rest_is (end_numbers ∙ sym (append-nil _)) c.changes) p)).holds

@@ -1,5 +1,6 @@
 // The pass that counts: how many bytes and how many changes a text takes. For this crate alone.
-ghost use Rattle.std.specs.Prelude.{◌≡◌, ◌≤◌, ◌<◌, length};
+ghost use Rattle.std.specs.Prelude.{◌≡◌, ◌≤◌, ◌<◌, length, leb, position};
+ghost use Rattle.series_lines.specs.Grammar.{space};
 ghost use Rattle.mending.specs.Rule.{mended, changes};
 ghost use Rattle.mending.specs.Machine.Passes.{no_run, Counted, Plain, next_byte};
 
@@ -22,73 +23,72 @@ pub struct Counting {
     pub changes: usize,
 }
 
-// The counts where no blanks are held back.
-fn no_run(begun: bool, from: usize, length: usize, changes: usize) -> Counting
-    ensures { result ≡ no_run begun from length changes }
+// Where the first byte stands that is not above a space.
+fn first_low(text: &[u8]) -> Option<usize>
+    ensures { result ≡ position (λ x. leb x space) text.now }
 {
-    Counting {
-        begun,
-        from,
-        tabs: 0,
-        length,
-        changes,
-    }
+    text.iter().position(|byte| *byte <= b' ')
 }
 
 // The index after the bytes above a space that stand from byte i on: none of them is dropped or changed.
-fn past_plain(text: &[u8], i: usize) -> usize
+pub fn past_plain(text: &[u8], i: usize) -> usize
     requires { i ≤ length text.now }
     ensures { Plain text.now i result }
 {
-    let mut j = i;
-    while j < text.len() {
-        if text[j] <= b' ' {
-            return j;
-        }
-        j = j + 1;
-    }
-    j
+    let rest = &text[i..];
+    i + first_low(rest).unwrap_or(rest.len())
 }
 
-// The counts after byte i, and after the bytes above a space that go with one that stays.
-fn count_byte(text: &[u8], i: usize, c: Counting) -> Counting
-    requires { Counted text.now c i × (i < length text.now) }
-    ensures { Counted text.now result (next_byte result.from i) }
-{
-    let length = c.length;
-    let changes = c.changes;
-    let byte = text[i];
-    if is_blank(byte) {
-        if byte == b'\t' {
-            return Counting {
-                begun: c.begun,
-                from: c.from,
-                tabs: c.tabs + 1,
-                length,
-                changes,
-            };
+impl Counting {
+    // Where no blanks are held back.
+    fn no_run(begun: bool, from: usize, length: usize, changes: usize) -> Counting
+        ensures { result ≡ no_run begun from length changes }
+    {
+        Counting {
+            begun,
+            from,
+            tabs: 0,
+            length,
+            changes,
         }
-        return c;
     }
-    if byte != b'\n' {
-        let next = past_plain(text, i + 1);
-        return no_run(true, next, length + (next - c.from), changes + c.tabs);
+
+    // After byte i, and after the bytes above a space that go with one that stays.
+    fn after(self, text: &[u8], i: usize) -> Counting
+        requires { Counted text.now self i × (i < length text.now) }
+        ensures { Counted text.now result (next_byte result.from i) }
+    {
+        let Counting {
+            length,
+            changes,
+            ..
+        } = self;
+        let run = i - self.from;
+        match text[i] {
+            b'\t' => Counting {
+                tabs: self.tabs + 1,
+                ..self
+            },
+            b'\n' if self.begun => Counting::no_run(false, i + 1, length + 1, changes + run),
+            b'\n' => Counting::no_run(false, i + 1, length, changes + run + 1),
+            byte if is_blank(byte) => self,
+            _ => {
+                let next = past_plain(text, i + 1);
+                Counting::no_run(true, next, length + (next - self.from), changes + self.tabs)
+            }
+        }
     }
-    let run = i - c.from;
-    if c.begun {
-        return no_run(false, i + 1, length + 1, changes + run);
-    }
-    no_run(false, i + 1, length, changes + run + 1)
 }
 
 // Counts a whole text. The blanks at its end stay, tabs as spaces.
 pub fn count(text: &[u8]) -> Counts
     ensures { (result.length ≡ length (mended text.now)) × (result.changes ≡ length (changes text.now)) }
 {
-    let mut c = no_run(false, 0, 0, 0);
+    let mut c = Counting::no_run(false, 0, 0, 0);
     let mut i = 0;
+    // An index and not a `for`: a step may take a whole word.
     while i < text.len() {
-        c = count_byte(text, i, c);
+        c = c.after(text, i);
         i = next_byte(c.from, i);
     }
     Counts {

@@ -29,27 +29,20 @@ pub struct Clean {
 }
 
 // The bytes that are dropped before a line feed.
+#[tactic(auto, using(std::proofs::lemmas::Bool::Decides::nat_tests), unfolding(crate::specs::Rule::blank))]
 fn is_blank(byte: u8) -> bool
     ensures { result ≡ blank byte }
 {
-    if byte == b'\t' {
-        return true;
-    }
-    if byte == b'\r' {
-        return true;
-    }
-    byte == b' '
+    matches!(byte, b'\t' | b'\r' | b' ')
 }
 
 // The byte to look at after byte i: the next, or the first that is not done yet.
+#[tactic(auto, using(std::proofs::lemmas::Bool::Decides::nat_tests), unfolding(crate::specs::Machine::Passes::next_byte))]
 fn next_byte(from: usize, i: usize) -> usize
     requires { i + 1 < 2 ^ 64 }
     ensures { result ≡ next_byte from i }
 {
-    if i < from {
-        return from;
-    }
-    i + 1
+    from.max(i + 1)
 }
 
 // Mends a text: out holds the mended text, and list an offset and a kind for each change; where either is too short, both stay as they were.

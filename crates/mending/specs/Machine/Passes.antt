@@ -1,5 +1,5 @@
 -- What each of the two passes keeps from byte to byte: what it has done and what the rest of the text gives are the whole.
-use Rattle.std.specs.Prelude.{◌≡◌, Bool, true, false, cond, List, ℕ, ◌+◌, ◌-◌, ◌≤◌, ◌<◌, ltb, length, get_or, drop}
+use Rattle.std.specs.Prelude.{◌≡◌, Bool, true, false, cond, List, ◌++◌, ℕ, ◌+◌, ◌-◌, ◌≤◌, ◌<◌, ltb, length, get_or, take, drop}
 use Rattle.std.proofs.lemmas.List.Edits.{sets}
 use Rattle.std.proofs.Math.Seq.{slice}
 use Rattle.series_lines.specs.Grammar.{feed}
@@ -32,8 +32,8 @@ numbers_left text w = numbers (changes_from w.begun w.from (drop w.from text))
 -- The bytes before i are written, and there is room for what is left.
 pub record Ready (text : List ℕ) (w : Writing) (i : ℕ) (out list : List ℕ) : Type 0 where
   pub run : Pending text w.from i
-  pub room : Room (bytes_left text w) w.at out
-  pub list_room : Room (numbers_left text w) w.slot list
+  pub room : Room (bytes_left text w) w.place.at out
+  pub list_room : Room (numbers_left text w) w.place.slot list
 
 -- Of numbers xs from at in a buffer start, the numbers ys are left to write, from p in the buffer out.
 pub record Rest (xs : List ℕ) (at : ℕ) (start ys : List ℕ) (p : ℕ) (out : List ℕ) : Type 0 where
@@ -59,7 +59,7 @@ plain_left text i = mended_from true (drop i text)
 pub record Plain (text : List ℕ) (i j : ℕ) : Type 0 where
   pub onward : i ≤ j
   pub within : j ≤ length text
-  pub bytes : length (plain_left text i) ≡ j - i + length (plain_left text j)
+  pub bytes : plain_left text i ≡ take (j - i) (drop i text) ++ plain_left text j
   pub changes : changes_from true i (drop i text) ≡ changes_from true j (drop j text)
 
 -- They are written as they are.
@@ -74,5 +74,5 @@ next_byte from i = cond (ltb i from) from (i + 1)
 -- From w one has come to v before the byte i.
 pub record Came (text : List ℕ) (w : Writing) (out list : List ℕ) (v : Writing) (i : ℕ) (out_after list_after : List ℕ) : Type 0 where
   pub run : Pending text v.from i
-  pub bytes : Rest (bytes_left text w) w.at out (bytes_left text v) v.at out_after
-  pub changes : Rest (numbers_left text w) w.slot list (numbers_left text v) v.slot list_after
+  pub bytes : Rest (bytes_left text w) w.place.at out (bytes_left text v) v.place.at out_after
+  pub changes : Rest (numbers_left text w) w.place.slot list (numbers_left text v) v.place.slot list_after

@@ -7,8 +7,8 @@ use Rattle.mending.proofs.counting.count.Goals as goal
 pub loop-i-init : goal.loop-i-init
 loop-i-init c = rw c.no_run-c.ensures (counted_none _)
 
-pub count_byte-c-requires : goal.count_byte-c-requires
-count_byte-c-requires c = (c.loop-i.invariant, c.loop-i-test.true)
+pub after-c-requires : goal.after-c-requires
+after-c-requires c = (c.loop-i.invariant, c.loop-i-test.true)
 
 pub next_byte-i-requires : goal.next_byte-i-requires
 next_byte-i-requires c = omega arith
@@ -16,10 +16,10 @@ next_byte-i-requires c = omega arith
 pub loop-i-smaller : goal.loop-i-smaller
 loop-i-smaller c =
     let e = c.next_byte-i.ensures in
-    omega (arith, e, next_above c.count_byte-c.result.from c.loop-i.i)
+    omega (arith, e, next_above c.after-c.result.from c.loop-i.i)
 
 pub loop-i-preserved : goal.loop-i-preserved
-loop-i-preserved c = rw c.next_byte-i.ensures c.count_byte-c.ensures
+loop-i-preserved c = rw c.next_byte-i.ensures c.after-c.ensures
 
 pub overflow_sub-result : goal.overflow_sub-result
 overflow_sub-result c = omega (arith, c.loop-i.invariant.run.onward)

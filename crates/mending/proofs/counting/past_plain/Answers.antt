@@ -1,25 +1,15 @@
 -- `mending::counting::past_plain` meets its contract. Assumes nothing.
 use native.Mathlib.Omega.{arith}
-use Rattle.mending.proofs.Runs.{plain_none, plain_more}
+use Rattle.std.proofs.lemmas.List.{take_rest}
+use Rattle.mending.proofs.Runs.{position_or, plain_all}
 use Rattle.mending.proofs.counting.past_plain.Goals as goal
 
-pub loop-j-init : goal.loop-j-init
-loop-j-init c = plain_none _ _ c.requires
-
-pub bounds-text-j : goal.bounds-text-j
-bounds-text-j c = omega arith
-
-pub returns-then-text-j-le32 : goal.returns-then-text-j-le32
-returns-then-text-j-le32 c = c.loop-j.invariant
-
-pub overflow_add-j : goal.overflow_add-j
-overflow_add-j c = omega arith
-
-pub loop-j-smaller : goal.loop-j-smaller
-loop-j-smaller c = omega arith
-
-pub loop-j-preserved : goal.loop-j-preserved
-loop-j-preserved c = plain_more _ _ _ c.loop-j.invariant (omega arith) (omega arith)
+pub overflow_add-result : goal.overflow_add-result
+overflow_add-result c =
+    let n = rw (c.first_low.ensures, position_or, take_rest) at c.unwrap_or.ensures in
+    omega (arith, (plain_all c.args.text.now c.args.i _ c.requires n).within)
 
 pub returns : goal.returns
-returns c = c.loop-j.invariant
+returns c =
+    let n = rw (c.first_low.ensures, position_or, take_rest) at c.unwrap_or.ensures in
+    plain_all c.args.text.now c.args.i _ c.requires n

@@ -8,8 +8,8 @@ use Rattle.mending.proofs.writing.write.Goals as goal
 pub loop-i-init : goal.loop-i-init
 loop-i-init c = came_none _ _ _
 
-pub write_byte-w-requires : goal.write_byte-w-requires
-write_byte-w-requires c = (came_ready c.loop-i.invariant c.requires.0 c.requires.1, c.loop-i-test.true)
+pub after-w-requires : goal.after-w-requires
+after-w-requires c = (came_ready c.loop-i.invariant c.requires.0 c.requires.1, c.loop-i-test.true)
 
 pub next_byte-i-requires : goal.next_byte-i-requires
 next_byte-i-requires c = omega arith
@@ -17,10 +17,10 @@ next_byte-i-requires c = omega arith
 pub loop-i-smaller : goal.loop-i-smaller
 loop-i-smaller c =
     let e = c.next_byte-i.ensures in
-    omega (arith, e, next_above c.write_byte-w.result.from c.loop-i.i)
+    omega (arith, e, next_above c.after-w.result.from c.loop-i.i)
 
 pub loop-i-preserved : goal.loop-i-preserved
-loop-i-preserved c = rw c.next_byte-i.ensures (came_further c.loop-i.invariant c.write_byte-w.ensures)
+loop-i-preserved c = rw c.next_byte-i.ensures (came_further c.loop-i.invariant c.after-w.ensures)
 
 pub put_run-requires : goal.put_run-requires
 put_run-requires c =
