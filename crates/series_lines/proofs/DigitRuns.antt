@@ -12,7 +12,7 @@ use Rattle.std.proofs.lemmas.Grind.{common_steps}
 use Rattle.series_lines.specs.declared.Line.{Line}
 use Rattle.series_lines.specs.Grammar.{digit_0}
 use Rattle.series_lines.specs.Lexer.{spot_point, spot_done, value_limit, takes_digit, put, with_digit, lex}
-use Rattle.series_lines.specs.Machine.Parts.{run_end, PartAt, Digits, none, more, DigitRun}
+use Rattle.series_lines.specs.Machine.Parts.{run_end, Digits, none, more, DigitRun}
 use Rattle.series_lines.proofs.Digits.{in_parts, at_last_part, first_digit}
 
 -- A test that said no.

@@ -6,7 +6,7 @@ use Prim.Native.Nat.{ℕ, zero, suc, ◌+◌, ◌*◌, ◌-◌, ◌≤◌, ◌<�
 use native.Mathlib.Nat.{add-zero, add_assoc}
 use native.Mathlib.Omega.{arith}
 use borrow.Author.Tests.{le-ltb, lt-ltb, le-leb, lt-leb}
-use lib.Dec.{ltb, leb}
+use lib.Dec.{ltb}
 use lib.ListN.{length, set, length-append}
 use lib.Seq.{sets}
 use Rattle.integers.specs.Signs.{sgn}
@@ -16,9 +16,8 @@ use Rattle.packed_numbers.specs.Numbers.{folded, encode}
 use Rattle.limits.specs.declared.Term.{Term}
 use Rattle.packed.specs.Series.{pack_term}
 use Rattle.series_lines.specs.Judge.{signed}
-use Rattle.series_lines.specs.Reader.{fits, put_bytes, last_offset}
+use Rattle.series_lines.specs.Reader.{fits, put_bytes}
 use Rattle.series_lines.specs.Machine.Writer.{three_packed, put_bytes_answer}
-use Rattle.series_lines.specs.Machine.Modes.{has_room, kept_answer, kept_out}
 use Rattle.packed_numbers.specs.Machine.Answers.{put_or, room_for, put_answer, put_out}
 
 pub sets_append : (xs ys l : List ℕ) (i : ℕ) → sets l i (xs ++ ys) ≡ sets (sets l i xs) (i + length xs) ys
@@ -86,18 +85,6 @@ module _ (bytes : List ℕ) (at : ℕ) (out : List ℕ) where
       → (Ok n ≡ put_bytes_answer bytes at out) × (after ≡ put_bytes bytes at out)
   unfolding fits put_bytes
   put_next n after h e w = let f = le-leb (at + length bytes) (length out) h in (rw (f, e), rw (f, w))
-
--- The same for a call that writes, and for one that only counts the bytes.
-module _ (writes : Bool) (bytes : List ℕ) (at : ℕ) (p : Result ℕ NoRoom) (out : List ℕ) where
-  pub kept_written : (after : List ℕ) → writes ≡ true → (p ≡ put_bytes_answer bytes at out) × (after ≡ put_bytes bytes at out)
-      → (p ≡ kept_answer writes bytes at out) × (after ≡ kept_out writes bytes at out)
-  unfolding has_room kept_out
-  kept_written after w e = (e.0 ∙ rw w, e.1 ∙ rw w)
-
-  pub kept_counted : (n : ℕ) → writes ≡ false → n ≡ length bytes → p ≡ put_or (at + n) n (leb (at + n) last_offset)
-      → (p ≡ kept_answer writes bytes at out) × (out ≡ kept_out writes bytes at out)
-  unfolding has_room kept_out
-  kept_counted n w e f = (f ∙ rw (w, e), rw w)
 
 -- A number is put as its bytes are.
 pub number_put : (v at : ℕ) (out : List ℕ) → (put_answer v at out ≡ put_bytes_answer (encode v) at out) × (put_out v at out ≡ put_bytes (encode v) at out)

@@ -92,12 +92,11 @@ pub struct Written;
 impl Sink for Written {
     ghost writes = { true };
 
-    #[tactic(auto, using(std::proofs::lemmas::Bool::Decides::nat_tests, crate::proofs::WrittenTerm::number_put), unfolding(crate::specs::Machine::Modes::has_room, crate::specs::Machine::Modes::kept_out))]
+    #[tactic(auto, using(crate::proofs::WrittenTerm::number_put), unfolding(crate::specs::Machine::Modes::has_room, crate::specs::Machine::Modes::kept_out))]
     fn put_count(v: u64, out: &mut [u8], at: usize) -> Result<usize, NoRoom> {
         put_number(v, out, at)
     }
 
-    #[tactic(auto, using(std::proofs::lemmas::Bool::Decides::nat_tests), unfolding(crate::specs::Machine::Modes::has_room, crate::specs::Machine::Modes::kept_out, crate::specs::Reader::fits, crate::specs::Reader::put_bytes))]
     fn put_term(l: Line, out: &mut [u8], at: usize) -> Result<usize, NoRoom> {
         let numbers = Numbers::of_line(l);
         check_room(out, at, numbers.length())?;
@@ -120,15 +119,14 @@ impl Counted {
     }
 }
 
+#[tactic(auto, unfolding(crate::specs::Machine::Modes::has_room, crate::specs::Machine::Modes::kept_out))]
 impl Sink for Counted {
     ghost writes = { false };
 
-    #[tactic(auto, using(std::proofs::lemmas::Bool::Decides::nat_tests), unfolding(crate::specs::Machine::Modes::has_room, crate::specs::Machine::Modes::kept_out))]
     fn put_count(v: u64, _out: &mut [u8], at: usize) -> Result<usize, NoRoom> {
         Counted::past(groups_of(v), at)
     }
 
-    #[tactic(auto, using(std::proofs::lemmas::Bool::Decides::nat_tests), unfolding(crate::specs::Machine::Modes::has_room, crate::specs::Machine::Modes::kept_out))]
     fn put_term(l: Line, _out: &mut [u8], at: usize) -> Result<usize, NoRoom> {
         Counted::past(Numbers::of_line(l).length(), at)
     }

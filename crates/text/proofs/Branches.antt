@@ -6,13 +6,12 @@ use Prim.Native.Nat.{ℕ, ◌+◌, ◌≤◌, ◌<◌}
 use borrow.Author.Tests.{eq-eqb, ne_eqb}
 use lib.Dec.{eqb}
 use lib.ListN.{length, get_or, drop}
-use Rattle.units.specs.Refusals.{bad_byte, byte_after_end}
+use Rattle.units.specs.Refusals.{bad_byte}
 use Rattle.series_lines.specs.declared.Line.{Line}
 use Rattle.series_lines.specs.declared.Reader.{Reader}
 use Rattle.series_lines.specs.Lexer.{lex, whole_count, whole_term}
 use Rattle.series_lines.specs.Judge.{count_end, term_end}
-use Rattle.series_lines.specs.Reader.{last_offset, stopped, further_in_line, uncounted}
-use Rattle.series_lines.specs.Machine.Modes.{line_ended, line_left}
+use Rattle.series_lines.specs.Reader.{last_offset, further_in_line, uncounted}
 use Rattle.series_lines.proofs.Branches.{line_wrote, line_judged}
 use Rattle.series_lines.proofs.Calls as fold
 use Rattle.text.specs.Reader.{verdict, other, step, step_out, run}
@@ -33,52 +32,19 @@ unfolding verdict
 verdict_early r p q = rw (p, q)
 
 -- A byte that is no line feed.
-pub other_bad : (r s : Reader) (l : Line) (byte : ℕ) → l ≡ lex r.line byte → l.spot ≡ 31 → s ≡ stopped r bad_byte → s ≡ other r byte
-unfolding other
-other_bad r s l byte e h p = rw (← e, eq-eqb l.spot 31 h, p)
-
 pub other_good : (r : Reader) (l : Line) (byte : ℕ) → l ≡ lex r.line byte → (l.spot ≡ 31 → ⊥) → further_in_line r l ≡ other r byte
 unfolding other
 other_good r l byte e h = rw (← e, ne_eqb l.spot 31 h)
 
--- One byte.
-module _ (writes : Bool) (r s : Reader) (out after : List ℕ) (byte : ℕ) where
-  pub moved_stopped : (r.status ≡ 0 → ⊥) → (r ≡ moved writes r out byte) × (out ≡ moved_out writes r out byte)
-  unfolding moved moved_out
-  moved_stopped h = let t = ne_eqb r.status 0 h in (rw t, rw t)
-
-  module _ (going : r.status ≡ 0) where
-    pub moved_uncounted : r.at ≡ last_offset → s ≡ stopped r bad_byte → (s ≡ moved writes r out byte) × (out ≡ moved_out writes r out byte)
-    unfolding moved moved_out uncounted
-    moved_uncounted h e =
-        let g = eq-eqb r.status 0 going in
-        let t = eq-eqb r.at last_offset h in (rw (g, t, e), rw (g, t))
-
-    module _ (counts : r.at ≡ last_offset → ⊥) where
-      pub moved_after : r.line.spot ≡ 30 → s ≡ stopped r byte_after_end → (s ≡ moved writes r out byte) × (out ≡ moved_out writes r out byte)
-      unfolding moved moved_out uncounted
-      moved_after h e =
-          let g = eq-eqb r.status 0 going in
-          let t = ne_eqb r.at last_offset counts in
-          let u = eq-eqb r.line.spot 30 h in (rw (g, t, u, e), rw (g, t, u))
-
-      module _ (inside : r.line.spot ≡ 30 → ⊥) where
-        pub moved_feed : byte ≡ 10 → (s ≡ line_ended writes r out (verdict r)) × (after ≡ line_left writes r out (verdict r))
-            → (s ≡ moved writes r out byte) × (after ≡ moved_out writes r out byte)
-        unfolding moved moved_out uncounted
-        moved_feed h e =
-            let g = eq-eqb r.status 0 going in
-            let t = ne_eqb r.at last_offset counts in
-            let u = ne_eqb r.line.spot 30 inside in
-            let v = eq-eqb byte 10 h in (rw (g, t, u, v) e.0, rw (g, t, u, v) e.1)
-
-        pub moved_other : (byte ≡ 10 → ⊥) → s ≡ other r byte → (s ≡ moved writes r out byte) × (out ≡ moved_out writes r out byte)
-        unfolding moved moved_out uncounted
-        moved_other h e =
-            let g = eq-eqb r.status 0 going in
-            let t = ne_eqb r.at last_offset counts in
-            let u = ne_eqb r.line.spot 30 inside in
-            let v = ne_eqb byte 10 h in (rw (g, t, u, v) e, rw (g, t, u, v))
+-- One byte that is no line feed.
+pub moved_other : (writes : Bool) (r s : Reader) (out : List ℕ) (byte : ℕ) → r.status ≡ 0 → (r.at ≡ last_offset → ⊥) → (r.line.spot ≡ 30 → ⊥)
+    → (byte ≡ 10 → ⊥) → s ≡ other r byte → (s ≡ moved writes r out byte) × (out ≡ moved_out writes r out byte)
+unfolding moved moved_out uncounted
+moved_other writes r s out byte going counts inside h e =
+    let g = eq-eqb r.status 0 going in
+    let t = ne_eqb r.at last_offset counts in
+    let u = ne_eqb r.line.spot 30 inside in
+    let v = ne_eqb byte 10 h in (rw (g, t, u, v) e, rw (g, t, u, v))
 
 -- A turn of the loop over a piece: what is left to run.
 module _ (writes : Bool) where

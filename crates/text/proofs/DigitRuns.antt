@@ -23,7 +23,7 @@ step_part : (writes : Bool) (r : Reader) (out : List ℕ) (byte : ℕ) → r.sta
 step_part writes r out byte e c h k v f g =
     let l = r.line in
     let m = short l.minus in
-    moved_other writes r _ out out byte e (λ q. omega (arith, q)) (λ q. omega (arith, q)) (λ q. omega (arith, q))
+    moved_other writes r _ out byte e (λ q. omega (arith, q)) (λ q. omega (arith, q)) (λ q. omega (arith, q))
     (other_good r (put l (l.spot + 1) l.minus (10 * l.value + (byte - digit_0))) byte (lex_part l byte h k v f g) (λ q. omega (arith, q)))
 
 -- The digits before i have come: the line of r, now at spot with value, goes on from i as r does from the first of them.

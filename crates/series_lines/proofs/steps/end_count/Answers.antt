@@ -1,7 +1,7 @@
 -- `series_lines::steps::end_count` meets its contract. Assumes nothing.
-use mathlib.Core.Path.{◌≡◌, sym, ◌∙◌}
+use mathlib.Core.Path.{sym, ◌∙◌}
 use native.Mathlib.Omega.{arith}
-use Rattle.series_lines.specs.Judge.{tally, count_end}
+use Rattle.series_lines.specs.Judge.{count_end}
 use Rattle.series_lines.proofs.LineLimits.{count_limits}
 use Rattle.series_lines.proofs.Branches.{fault_some, line_refused, line_full, line_next}
 use Rattle.series_lines.proofs.steps.end_count.Goals as goal

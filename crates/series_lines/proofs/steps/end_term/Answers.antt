@@ -1,5 +1,5 @@
 -- `series_lines::steps::end_term` meets its contract. Assumes nothing.
-use mathlib.Core.Path.{◌≡◌, sym, ◌∙◌}
+use mathlib.Core.Path.{sym, ◌∙◌}
 use native.Mathlib.Omega.{arith}
 use Rattle.series_lines.specs.Judge.{tally, term_end}
 use Rattle.series_lines.proofs.LineLimits.{line_added, line_may_come, line_small}
