@@ -207,7 +207,8 @@ module _ (text : List ℕ) (w : Writing) (i : ℕ) (out list : List ℕ) (r : Re
 
     module _ (slot : ℕ) (list_then : List ℕ) (dropped_run : Wrote (numbers (drops w.from (i - w.from))) w.place.slot list slot list_then) where
       pub came_feed : w.begun ≡ true
-          → Came text w out list (record { begun = false; from = i + 1; place = record { at = w.place.at + 1; slot = slot } }) (i + 1) (set out w.place.at (get_or text i 0)) list_then
+          → Came text w out list (record { begun = false; from = i + 1; place = record { at = w.place.at + 1; slot = slot } }) (i + 1)
+          (set out w.place.at (get_or text i 0)) list_then
       unfolding left listed numbers
       came_feed s = record {
         run = pending_none text (i + 1) (omega arith);

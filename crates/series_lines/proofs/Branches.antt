@@ -12,7 +12,7 @@ use Rattle.units.specs.declared.Fault.{Fault}
 use Rattle.units.specs.declared.Fault.TheVariants.{BadByte as byte_fault, OverLimit as limit_fault, TotalOverLimit as total_fault}
 use Rattle.units.specs.declared.Fault.TheVariants.{TooCoarse as coarse_fault, NoRoom as room_fault, EndedEarly as end_fault}
 use Rattle.units.specs.declared.Fault.TheVariants.{ByteAfterEnd as after_fault, BadHeading as heading_fault, BadNumber as number_fault}
-use Rattle.std.proofs.Common.{Result, Ok, Err}
+use Rattle.std.proofs.Common.{Ok, Err}
 use Rattle.packed_numbers.specs.declared.NoRoom.{NoRoom}
 use Rattle.packed_numbers.specs.Machine.Answers.{put_or}
 use Rattle.series_lines.specs.declared.Reader.{Reader}
@@ -49,7 +49,8 @@ module _ (writes : Bool) (r s : Reader) (out : List ℕ) (v : Verdict) where
 
   module _ (good : v.refusal ≡ 0) (after : List ℕ) (m : ℕ)
       (po : after ≡ kept_out writes v.bytes r.written out) where
-    pub line_full : (e : NoRoom) → Err e ≡ put_or (r.written + length v.bytes) m (has_room writes v.bytes r.written out) → s ≡ stopped r no_room → (s ≡ line_ended writes r out v) × (after ≡ line_left writes r out v)
+    pub line_full : (e : NoRoom) → Err e ≡ put_or (r.written + length v.bytes) m (has_room writes v.bytes r.written out) → s ≡ stopped r no_room
+        → (s ≡ line_ended writes r out v) × (after ≡ line_left writes r out v)
     unfolding line_ended line_left
     line_full q f e =
         let t = no_fit (has_room writes v.bytes r.written out) _ _ q f in (
@@ -57,7 +58,8 @@ module _ (writes : Bool) (r s : Reader) (out : List ℕ) (v : Verdict) where
           rw (eq-eqb v.refusal 0 good) po,
         )
 
-    pub line_next : (n : ℕ) → Ok n ≡ put_or (r.written + length v.bytes) m (has_room writes v.bytes r.written out) → s ≡ advanced r n v.blocks v.left v.tally → (s ≡ line_ended writes r out v) × (after ≡ line_left writes r out v)
+    pub line_next : (n : ℕ) → Ok n ≡ put_or (r.written + length v.bytes) m (has_room writes v.bytes r.written out)
+        → s ≡ advanced r n v.blocks v.left v.tally → (s ≡ line_ended writes r out v) × (after ≡ line_left writes r out v)
     unfolding line_ended line_left
     line_next n f e =
         let t = fit (has_room writes v.bytes r.written out) _ _ n f in (
@@ -88,10 +90,12 @@ module _ (r s : Reader) (out : List ℕ) (v : Verdict) where
 
   module _ (good : v.refusal ≡ 0) (after : List ℕ) (m : ℕ)
       (po : after ≡ put_bytes v.bytes r.written out) where
-    pub wrote_full : (e : NoRoom) → Err e ≡ put_or (r.written + length v.bytes) m (fits v.bytes r.written out) → s ≡ stopped r no_room → (s ≡ wrote r out v) × (after ≡ wrote_out r out v)
+    pub wrote_full : (e : NoRoom) → Err e ≡ put_or (r.written + length v.bytes) m (fits v.bytes r.written out) → s ≡ stopped r no_room
+        → (s ≡ wrote r out v) × (after ≡ wrote_out r out v)
     unfolding has_room kept_out
     wrote_full q f e = writing (line_full true r s out v good after m po q f e)
 
-    pub wrote_next : (n : ℕ) → Ok n ≡ put_or (r.written + length v.bytes) m (fits v.bytes r.written out) → s ≡ advanced r n v.blocks v.left v.tally → (s ≡ wrote r out v) × (after ≡ wrote_out r out v)
+    pub wrote_next : (n : ℕ) → Ok n ≡ put_or (r.written + length v.bytes) m (fits v.bytes r.written out)
+        → s ≡ advanced r n v.blocks v.left v.tally → (s ≡ wrote r out v) × (after ≡ wrote_out r out v)
     unfolding has_room kept_out
     wrote_next n f e = writing (line_next true r s out v good after m po n f e)

@@ -10,7 +10,7 @@ use lib.Dec.{ltb}
 use lib.ListN.{length, set, length-append}
 use lib.Seq.{sets}
 use Rattle.integers.specs.Signs.{sgn}
-use Rattle.std.proofs.Common.{Result, Ok, Err}
+use Rattle.std.proofs.Common.{Ok, Err}
 use Rattle.packed_numbers.specs.declared.NoRoom.{NoRoom}
 use Rattle.packed_numbers.specs.Numbers.{folded, encode}
 use Rattle.limits.specs.declared.Term.{Term}
@@ -18,7 +18,7 @@ use Rattle.packed.specs.Series.{pack_term}
 use Rattle.series_lines.specs.Judge.{signed}
 use Rattle.series_lines.specs.Reader.{fits, put_bytes}
 use Rattle.series_lines.specs.Machine.Writer.{three_packed, put_bytes_answer}
-use Rattle.packed_numbers.specs.Machine.Answers.{put_or, room_for, put_answer, put_out}
+use Rattle.packed_numbers.specs.Machine.Answers.{room_for, put_answer, put_out}
 
 pub sets_append : (xs ys l : List ℕ) (i : ℕ) → sets l i (xs ++ ys) ≡ sets (sets l i xs) (i + length xs) ys
 sets_append [] ys l i = rw (add-zero i)

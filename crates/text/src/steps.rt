@@ -40,11 +40,7 @@ fn take_other(r: Reader, byte: u8) -> Reader
 }
 
 // One byte.
-#[tactic(
-    auto,
-    using(std::proofs::lemmas::Bool::Decides::nat_tests),
-    unfolding(crate::specs::Machine::Modes::moved, crate::specs::Machine::Modes::moved_out, series_lines::specs::Reader::uncounted)
-)]
+#[tactic(auto, unfolding(crate::specs::Machine::Modes::moved, crate::specs::Machine::Modes::moved_out, series_lines::specs::Reader::uncounted))]
 pub fn take_byte<S: Sink>(r: Reader, byte: u8, out: &mut [u8]) -> Reader
     ensures { (result ≡ moved S.writes r out.old byte) × (out.new ≡ moved_out S.writes r out.old byte) }
 {

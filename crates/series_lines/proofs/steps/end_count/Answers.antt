@@ -20,7 +20,8 @@ open_block-requires g c = (count_limits _ _ _ (sym c.in_default.ensures)).1
 pub returns-in-Err-put_count : goal.returns-in-Err-put_count
 returns-in-Err-put_count g c =
     let r = c.args.r in
-    line_full _ r _ _ (count_end r) (sym (rw c.tally-s.ensures at c.in_default.ensures)) _ _ c.in-Err-put_count.ensures.1 _ c.in-Err-put_count.ensures.0 c.refused-in-Err-put_count.ensures
+    let p = c.in-Err-put_count.ensures in
+    line_full _ r _ _ (count_end r) (sym (rw c.tally-s.ensures at c.in_default.ensures)) _ _ p.1 _ p.0 c.refused-in-Err-put_count.ensures
 
 pub returns-in-Ok : goal.returns-in-Ok
 returns-in-Ok g c =
