@@ -8,7 +8,6 @@ ghost use Rattle.cosine.specs.Machine.Prepared.{tick, cut, cuts, base, top_digit
 ghost use Rattle.cosine.specs.Terms.{term_angle, term_value};
 
 use crate::working::{HALF_UNIT, biased_angle, difference, quarters};
-use arith::signed::{add, low, sub, wide};
 use units::{A_LIMIT, ANGLE_PER_PART, Instant, MILLENNIUM, T_LIMIT, TAU_LIMIT, TURN, U};
 
 // A millennium by the units of angle in a part, and half of that: specs/Machine/Prepared.antt has these, and all down to BIAS_STEP.
@@ -86,7 +85,7 @@ fn biased(x: i64, k: u64) -> u64
     requires { (nat_abs x ≤ k) × (k < 2 ^ 62) }
     ensures { pos result ≡ x +ℤ pos k }
 {
-    low(add(x, wide(k)))
+    (x + k as i64) as u64
 }
 
 impl ByTick {
@@ -148,7 +147,7 @@ fn signed_amplitude(a: i64, k: u64) -> i64
     requires { nat_abs a < a_limit }
     ensures { (k < 2 → result ≡ a) × (2 ≤ k → result ≡ neg_ℤ a) × (nat_abs result ≡ nat_abs a) }
 {
-    if k < 2 { a } else { sub(0, a) }
+    if k < 2 { a } else { -a }
 }
 
 impl Prepared {

@@ -7,7 +7,6 @@ ghost use Rattle.cosine.specs.Cosine.{q_of, w_of, y_of, even_part, odd_part, cos
 ghost use Rattle.cosine.specs.Machine.Parity.{InRange, y_limit, divisor_limit};
 
 use crate::parity::{Even, Odd, Parity, horner};
-use arith::signed::{sub, wide};
 use units::{ANGLE_STEP, QUARTER, U};
 
 // What a quotient by U, and by the quarter, is rounded by.
@@ -72,7 +71,7 @@ pub fn difference(a: u64, b: u64) -> i64
     requires { (a < 2 ^ 63) × (b < 2 ^ 63) }
     ensures { result ≡ pos a -ℤ pos b }
 {
-    sub(wide(a), wide(b))
+    a as i64 - b as i64
 }
 
 // An angle by its quarter k of the turn, and within the quarter by its working angle v and y.

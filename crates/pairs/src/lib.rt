@@ -6,7 +6,6 @@ ghost use Rattle.units.specs.Units.{U, a_limit};
 ghost use Rattle.cosine.specs.Cosine.{horner};
 ghost use Rattle.cosine.specs.Machine.Parity.{InRange, y_limit};
 
-use arith::signed::add;
 use cosine::parity::{FURTHER, Parity};
 use cosine::term::times_cosine;
 use cosine::working::{first, square, step};
@@ -56,5 +55,5 @@ pub fn values<P: Parity>(a1: i64, a2: i64, v: Pair) -> i64
     ensures { result ≡ P.value a1 v.one +ℤ P.value a2 v.two }
 {
     let c = lifted_pair::<P>(v);
-    add(times_cosine(a1, c.one), times_cosine(a2, c.two))
+    times_cosine(a1, c.one) + times_cosine(a2, c.two)
 }

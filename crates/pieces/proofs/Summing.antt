@@ -167,3 +167,6 @@ module _ {t : ℤ} {rows : List (List ℕ)} {from to : ℕ} where
     where
       least : (i n : ℕ) → n ≤ i → n ≤ min i n
       least i n h = omega arith
+
+  pub summed_end : {sum : ℤ} {j : ℕ} (i : ℕ) → j ≡ min i to → Summed t rows from to sum j → Summed t rows from to sum (min i to)
+  summed_end {sum} i e s = subst (λ (k : ℕ). Summed t rows from to sum k) e s

@@ -11,7 +11,6 @@ ghost use Rattle.limits.specs.Allowed.{TermFits, BlockFits};
 ghost use Rattle.pieces.specs.Sums.{block_sum};
 ghost use Rattle.pieces.specs.Machine.Parted.{piece_limit, room, half_sum, WorkedFor, Piece, Rooms, PutInBoth, Half, Closed, Parted};
 
-use arith::signed::add;
 use cosine::parity::{Even, Odd, Parity};
 use cosine::term::{Prepared, ReducedTerm};
 use packed::table::Table;
@@ -96,7 +95,7 @@ fn two_more<P: Parity>(half: &Side, i: usize, sum: i64) -> i64
         one: one.v,
         two: two.v,
     };
-    add(sum, values::<P>(one.a, two.a, v))
+    sum + values::<P>(one.a, two.a, v)
 }
 
 // The sum of a table of n terms.
@@ -127,7 +126,7 @@ fn sum_piece(
     let n = part_terms(p, table, from, to, evens, odds);
     let even = sum_half::<Even>(evens, n.evens);
     let odd = sum_half::<Odd>(odds, n.odds);
-    add(even, odd)
+    even + odd
 }
 
 // The sum of the terms from place from up to place to.
@@ -140,7 +139,7 @@ pub fn sum_terms(p: Prepared, table: &Table, from: usize, to: usize) -> i64
     let mut sum: i64 = 0;
     for at in (from..to).step_by(PIECE_LIMIT) {
         let end = (at + PIECE_LIMIT).min(to);
-        sum = add(sum, sum_piece(p, table, at, end, &mut evens, &mut odds));
+        sum += sum_piece(p, table, at, end, &mut evens, &mut odds);
     }
     sum
 }

@@ -9,7 +9,6 @@ ghost use Rattle.series.specs.Sums.{running_sum};
 ghost use Rattle.series.specs.Machine.Table.{Table};
 
 use arith::muldiv::mul_div_round;
-use arith::signed::add;
 use cosine::term::Prepared;
 use packed::table::{Table, block_end};
 use pieces::sum_terms;
@@ -39,7 +38,7 @@ fn with_block(p: Prepared, table: &Table, j: usize, v: i64) -> i64
     let to = block_end(table, j);
     let sum = sum_terms(p, table, from as usize, to as usize);
     let carried = mul_div_round(v, p.t, MILLENNIUM);
-    add(sum, carried)
+    sum + carried
 }
 
 // V of the coordinate whose blocks begin with block first, at an instant at which the series may be asked.
