@@ -6,6 +6,9 @@ use native.Mathlib.Omega.{arith}
 use native.Mathlib.Nat.{mul-le-mul}
 use lib.Dec.{eqb}
 use lib.IntN.{ℤ, pos, neg_ℤ, nat_abs, ◌+ℤ◌, ◌*ℤ◌}
+use mir.Syntax.{w64}
+use mir.Val.{to_z}
+use Rattle.std.proofs.lemmas.Int.{to_z_pos}
 use Rattle.integers.specs.Root.{root}
 use Rattle.integers.specs.Signs.{negative}
 use Rattle.integers.proofs.Order.{nat_abs-+, nat_abs-*, nat_abs_sgn}
@@ -97,8 +100,8 @@ module _ (v : Vector) (h : Components equator_reach v) where
       let l = latitude_le v.x v.y v.z in
       cell k (subst (λ (s : ℤ). nat_abs s < 2 ^ 63) (sym p) (omega arith)) ∙ p
 
-  pub equatorial_is : (d : ℕ) (a b u : ℤ) → d < 2 ^ 46 → a ≡ pos (direction (Cell v.x) (Cell v.y))
-      → b ≡ latitude (Cell v.x) (Cell v.y) (Cell v.z) → u ≡ pos d
-      → ◌≡◌ {A = Equatorial} (record { right_ascension = Cell a; declination = Cell b; distance = Cell u }) (equatorial v d)
+  pub equatorial_is : (d : ℕ) (a b : ℤ) → d < 2 ^ 46 → a ≡ pos (direction (Cell v.x) (Cell v.y))
+      → b ≡ latitude (Cell v.x) (Cell v.y) (Cell v.z)
+      → ◌≡◌ {A = Equatorial} (record { right_ascension = Cell a; declination = Cell b; distance = to_z w64 d }) (equatorial v d)
   unfolding equatorial
-  equatorial_is d a b u l e f g = rw (direction_told a e, latitude_told b f, cell u (subst (λ (s : ℤ). nat_abs s < 2 ^ 63) (sym g) (omega arith)) ∙ g)
+  equatorial_is d a b l e f = rw (direction_told a e, latitude_told b f, to_z_pos w64 d (omega arith))

@@ -1,12 +1,14 @@
 -- A vector turned to the true equator, as the code works it, and its size. Assumes nothing.
-use mathlib.Core.Path.{◌≡◌, sym, ◌∙◌, subst}
+use mathlib.Core.Path.{◌≡◌, sym, ap₂, ◌∙◌, subst}
 use Prim.Native.Nat.{ℕ, ◌+◌, ◌^◌, ◌≤◌, ◌<◌}
 use native.Mathlib.Omega.{arith}
 use native.Mathlib.Nat.{le_trans}
 use lib.Dec.{lit<}
 use lib.IntN.{ℤ, pos, nat_abs, ◌+ℤ◌, ◌-ℤ◌, ◌*ℤ◌}
+use mir.Syntax.{w64}
+use mir.Val.{SFits}
 use Rattle.integers.specs.Division.{rounded}
-use Rattle.integers.proofs.Order.{nat_abs_sub, nat_abs-+}
+use Rattle.integers.proofs.Order.{nat_abs_sub, nat_abs-+, fits}
 use Rattle.units.specs.Units.{U}
 use Rattle.cosine.specs.Cosine.{cosine, sine}
 use Rattle.rectangular.specs.declared.Vector.{Vector}
@@ -32,11 +34,11 @@ equator_size k e v h =
 
 -- The two products that y and z are made of, by a cosine and a sine, and their difference and sum.
 module _ (y z c s : ℤ) (y_in : nat_abs y ≤ 2 ^ 61) (z_in : nat_abs z ≤ 2 ^ 61) (c_in : nat_abs c ≤ U) (s_in : nat_abs s ≤ U) where
-  pub difference_small : nat_abs (rounded (y *ℤ c) U -ℤ rounded (z *ℤ s) U) < 2 ^ 63
+  difference_small : nat_abs (rounded (y *ℤ c) U -ℤ rounded (z *ℤ s) U) < 2 ^ 63
   difference_small =
       omega (arith, nat_abs_sub (rounded (y *ℤ c) U) (rounded (z *ℤ s) U), le_trans (scaled_size y c c_in) y_in, le_trans (scaled_size z s s_in) z_in)
 
-  pub sum_small : nat_abs (rounded (y *ℤ s) U +ℤ rounded (z *ℤ c) U) < 2 ^ 63
+  sum_small : nat_abs (rounded (y *ℤ s) U +ℤ rounded (z *ℤ c) U) < 2 ^ 63
   sum_small =
       omega (arith, nat_abs-+ (rounded (y *ℤ s) U) (rounded (z *ℤ c) U), le_trans (scaled_size y s s_in) y_in, le_trans (scaled_size z c c_in) z_in)
 
@@ -48,21 +50,43 @@ module _ (v : Vector) (h : Components (2 ^ 61) v) (e : ℕ) (c s : ℤ) (pc : c 
   s_in : nat_abs s ≤ U
   s_in = subst (λ (t : ℤ). nat_abs t ≤ U) (sym ps) (sine_size (pos e))
 
-  pub turned_asks : (nat_abs (Cell v.y) ≤ 2 ^ 61) × (nat_abs (Cell v.z) ≤ 2 ^ 61) × (nat_abs (Cell c) ≤ U) × (nat_abs (Cell s) ≤ U)
-  turned_asks = (held_le v.y _ (lit< tt) h.y_in, held_le v.z _ (lit< tt) h.z_in, held_le c U (lit< tt) c_in, held_le s U (lit< tt) s_in)
+  pub scales_ask : (nat_abs (Cell v.y) < 2 ^ 63) × (nat_abs (Cell v.z) < 2 ^ 63) × (nat_abs (Cell c) ≤ U) × (nat_abs (Cell s) ≤ U)
+  scales_ask =
+      let y = held_le v.y (2 ^ 61) (lit< tt) h.y_in in
+      let z = held_le v.z (2 ^ 61) (lit< tt) h.z_in in
+      (omega arith, omega arith, held_le c U (lit< tt) c_in, held_le s U (lit< tt) s_in)
 
-  pub to_equator_is : (y z : ℤ) → y ≡ rounded (Cell v.y *ℤ Cell c) U -ℤ rounded (Cell v.z *ℤ Cell s) U
-      → z ≡ rounded (Cell v.y *ℤ Cell s) U +ℤ rounded (Cell v.z *ℤ Cell c) U
-      → ◌≡◌ {A = Vector} (record { x = Cell v.x; y = Cell y; z = Cell z }) (to_equator (pos e) v)
+  product : (x m z : ℤ) → nat_abs x ≤ 2 ^ 61 → nat_abs m ≤ U → z ≡ rounded (Cell x *ℤ Cell m) U → Cell z ≡ rounded (x *ℤ m) U
+  product x m z hx hm e =
+      let p : z ≡ rounded (x *ℤ m) U = rw (cell x (omega arith), cell m (omega arith)) at e in
+      let l = le_trans (scaled_size x m hm) hx in rw p (cell (rounded (x *ℤ m) U) (omega arith))
+
+  -- the products a and b of the new y
+  module _ (a b : ℤ) (pa : a ≡ rounded (Cell v.y *ℤ Cell c) U) (pb : b ≡ rounded (Cell v.z *ℤ Cell s) U) where
+    y_is : Cell a -ℤ Cell b ≡ rounded (v.y *ℤ c) U -ℤ rounded (v.z *ℤ s) U
+    y_is = ap₂ ◌-ℤ◌ (product v.y c a h.y_in c_in pa) (product v.z s b h.z_in s_in pb)
+
+    y_small : nat_abs (Cell a -ℤ Cell b) < 2 ^ 63
+    y_small = rw y_is (difference_small v.y v.z c s h.y_in h.z_in c_in s_in)
+
+    pub y_fits : SFits w64 (Cell a -ℤ Cell b)
+    y_fits = fits _ y_small
+
+  -- and d and f of the new z
+  module _ (d f : ℤ) (pd : d ≡ rounded (Cell v.y *ℤ Cell s) U) (pf : f ≡ rounded (Cell v.z *ℤ Cell c) U) where
+    z_is : Cell d +ℤ Cell f ≡ rounded (v.y *ℤ s) U +ℤ rounded (v.z *ℤ c) U
+    z_is = ap₂ ◌+ℤ◌ (product v.y s d h.y_in s_in pd) (product v.z c f h.z_in c_in pf)
+
+    z_small : nat_abs (Cell d +ℤ Cell f) < 2 ^ 63
+    z_small = rw z_is (sum_small v.y v.z c s h.y_in h.z_in c_in s_in)
+
+    pub z_fits : SFits w64 (Cell d +ℤ Cell f)
+    z_fits = fits _ z_small
+
+  pub to_equator_is : (a b d f : ℤ) → a ≡ rounded (Cell v.y *ℤ Cell c) U → b ≡ rounded (Cell v.z *ℤ Cell s) U → d ≡ rounded (Cell v.y *ℤ Cell s) U
+      → f ≡ rounded (Cell v.z *ℤ Cell c) U
+      → ◌≡◌ {A = Vector} (record { x = Cell v.x; y = Cell (Cell a -ℤ Cell b); z = Cell (Cell d +ℤ Cell f) }) (to_equator (pos e) v)
   unfolding to_equator
-  to_equator_is y z ey ez =
-      let vy = cell v.y (let a = h.y_in in omega arith) in
-      let vz = cell v.z (let a = h.z_in in omega arith) in
-      let cc = cell c (let a = c_in in omega arith) in
-      let cs = cell s (let a = s_in in omega arith) in
-      let p = rw (vy, vz, cc, cs) at ey in
-      let q = rw (vy, vz, cc, cs) at ez in
+  to_equator_is a b d f pa pb pd pf =
       rw (← pc, ← ps)
-      (three (cell v.x (let a = h.x_in in omega arith))
-      (cell y (subst (λ (t : ℤ). nat_abs t < 2 ^ 63) (sym p) (difference_small v.y v.z c s h.y_in h.z_in c_in s_in)) ∙ p)
-      (cell z (subst (λ (t : ℤ). nat_abs t < 2 ^ 63) (sym q) (sum_small v.y v.z c s h.y_in h.z_in c_in s_in)) ∙ q))
+      (three (cell v.x (let k = h.x_in in omega arith)) (cell _ (y_small a b pa pb) ∙ y_is a b pa pb) (cell _ (z_small d f pd pf) ∙ z_is d f pd pf))

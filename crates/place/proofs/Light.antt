@@ -40,12 +40,9 @@ module _ (t : Instant) (d : ℕ) (h : nat_abs t.ms ≤ t_limit) (l : d < 2 ^ 46)
   pub earlier_asks : SFits w64 (Cell t.ms -ℤ Cell z)
   earlier_asks = subst (SFits w64) (sym cells_are) (fits (t.ms -ℤ light_time d) difference_in)
 
-  pub earlier_is : (w : ℤ) → w ≡ Cell t.ms -ℤ Cell z → ◌≡◌ {A = Instant} (record { ms = Cell w }) (earlier t d)
+  pub earlier_is : ◌≡◌ {A = Instant} (record { ms = Cell (Cell t.ms -ℤ Cell z) }) (earlier t d)
   unfolding earlier
-  earlier_is w f =
-      let p : w ≡ t.ms -ℤ light_time d = f ∙ cells_are in
-      let q : Cell w ≡ t.ms -ℤ light_time d = cell w (subst (λ (x : ℤ). nat_abs x < 2 ^ 63) (sym p) difference_in) ∙ p in
-      rw q
+  earlier_is = rw (cells_are, cell (t.ms -ℤ light_time d) difference_in)
 
 -- A marked figure of the rules, and the light times of the least usable D and of 128 AU.
 pub light_times : (light_time 105919798623 ≡ pos 528545) × (light_time 10000000000 ≡ pos 49900) × (light_time 12800000000000 ≡ pos 63872612)

@@ -4,6 +4,9 @@ use Prim.Native.Nat.{ℕ, ◌+◌, ◌-◌, ◌*◌, ◌%◌, ◌^◌, ◌≤◌
 use native.Mathlib.Omega.{arith, by_contra}
 use native.Mathlib.Nat.{mul-le-mul}
 use lib.IntN.{ℤ, pos, nat_abs, ◌+ℤ◌, ◌*ℤ◌}
+use mir.Syntax.{w64}
+use mir.Val.{to_z}
+use Rattle.std.proofs.lemmas.Int.{to_z_pos}
 use Rattle.integers.specs.Division.{modulo}
 use Rattle.integers.specs.Root.{root}
 use Rattle.integers.proofs.Order.{nat_abs-*}
@@ -101,14 +104,14 @@ module _ (v : Vector) (n : ℤ) (c : Components reach v) (cn : Cell n ≡ n) (k 
         ap₂ (λ (p q : ℕ). (p + q) % turn) (ey ∙ ap (λ (s : ℤ). modulo (steps_angle s) turn) k_is) (ez ∙ ap (λ (s : ℤ). modulo s turn) cn)
         ∙ sym (modulo_add (steps_angle (pos (direction v.x v.y))) n turn (omega arith))
 
-    module _ (r : ℤ) (m : ℕ) (em : m ≡ length v) (er : r ≡ pos m) where
-      r_is : Cell r ≡ pos (length v)
-      r_is = let p = er ∙ ap pos em in let h = length_less v c in cell r (subst (λ (s : ℤ). nat_abs s < 2 ^ 63) (sym p) (omega arith)) ∙ p
+    module _ (m : ℕ) (em : m ≡ length v) where
+      r_is : to_z w64 m ≡ pos (length v)
+      r_is = let h = length_less v c in rw (em, to_z_pos w64 (length v) (omega arith))
 
-      pub angles_ask : (nat_abs (Cell r) < 2 ^ 63) × (x < 2 ^ 63) × ((y + z) % turn < 2 ^ 63)
+      pub angles_ask : (nat_abs (to_z w64 m) < 2 ^ 63) × (x < 2 ^ 63) × ((y + z) % turn < 2 ^ 63)
       angles_ask = (rw r_is (let h = length_less v c in omega arith), residue_small x _ ex, residue_small ((y + z) % turn) _ sum_is)
 
-      pub rebuilt_is : (w : Vector) → w ≡ rectangular (Cell r) (pos x) (pos ((y + z) % turn)) → w ≡ rebuilt n v
+      pub rebuilt_is : (w : Vector) → w ≡ rectangular (to_z w64 m) (pos x) (pos ((y + z) % turn)) → w ≡ rebuilt n v
       unfolding rebuilt
       rebuilt_is w e =
           e ∙ three rectangular r_is (ap pos x_is) (ap pos sum_is)

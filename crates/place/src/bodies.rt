@@ -15,17 +15,6 @@ use rectangular::{Frame, View};
 use series::table::{TABLE_ROWS, Table, coordinates, fill};
 use units::{Instant, Refusal, in_limit};
 
-// Planet and Earth at an instant at which both series may be asked, from their term tables, in the frame of the catalogues.
-fn both_at(planet: &Table, earth: &Table, t: Instant) -> Option<View>
-    requires { (nat_abs t.ms ≤ t_limit) × Table planet.now × Table earth.now
-        × (both_asked four_millennia (table_blocks planet.now) (table_blocks earth.now) t.ms ≡ true) }
-    ensures { result ≡ sight_at (table_blocks planet.now) (table_blocks earth.now) t }
-{
-    let p = coordinates(planet, t);
-    let e = coordinates(earth, t);
-    sight(Frame::Catalogues, p, e)
-}
-
 // The sight at the earlier instant, with D at t.
 fn again(distance: u64, s: Option<View>) -> Result<Geocentric, Refusal>
     ensures { result ≡ taken_again distance s }
@@ -37,28 +26,50 @@ fn again(distance: u64, s: Option<View>) -> Result<Geocentric, Refusal>
     Ok(Geocentric { vector, distance })
 }
 
-// At t, and again at t less the light time. `wide` says whether both series are good for the wide range.
-fn taken(planet: &Table, earth: &Table, wide: bool, t: Instant) -> Result<Geocentric, Refusal>
-    requires { (nat_abs t.ms ≤ t_limit) × Table planet.now × Table earth.now
-        × (wide ≡ (good_for_wide (table_blocks planet.now) && good_for_wide (table_blocks earth.now))) }
-    ensures { result ≡ of_series four_millennia (accepted (table_blocks planet.now)) (accepted (table_blocks earth.now)) t }
-{
-    if !may_ask(wide, t) {
-        return Err(Refusal::TooFar(t));
+// The term tables of planet and Earth, and whether both series are good for the wide range.
+// That the tables are such is asked of each method and not a ghost field: `Table` goes by recursion over the terms, and a ghost field takes no such fact.
+#[derive(Clone, Copy)]
+struct Bodies<'a> {
+    planet: &'a Table,
+    earth: &'a Table,
+    wide: bool,
+    ghost good: { wide ≡ (good_for_wide (table_blocks planet.now) && good_for_wide (table_blocks earth.now)) },
+}
+
+impl Bodies<'_> {
+    // Planet and Earth at an instant at which both series may be asked, in the frame of the catalogues.
+    fn at(self, t: Instant) -> Option<View>
+        requires { (nat_abs t.ms ≤ t_limit) × Table self.planet.now × Table self.earth.now
+            × (both_asked four_millennia (table_blocks self.planet.now) (table_blocks self.earth.now) t.ms ≡ true) }
+        ensures { result ≡ sight_at (table_blocks self.entry.planet.now) (table_blocks self.entry.earth.now) t }
+    {
+        let p = coordinates(self.planet, t);
+        let e = coordinates(self.earth, t);
+        sight(Frame::Catalogues, p, e)
     }
-    let Some(first) = both_at(planet, earth, t) else {
-        return Err(Refusal::NotUsable(0));
-    };
-    let distance = first.distance;
-    let before = earlier(t, distance);
-    if !in_limit(before) {
-        return Err(Refusal::PastLimit(before));
+
+    // At t, and again at t less the light time.
+    fn taken(self, t: Instant) -> Result<Geocentric, Refusal>
+        requires { (nat_abs t.ms ≤ t_limit) × Table self.planet.now × Table self.earth.now }
+        ensures { result ≡ of_series four_millennia (accepted (table_blocks self.entry.planet.now)) (accepted (table_blocks self.entry.earth.now)) t }
+    {
+        if !may_ask(self.wide, t) {
+            return Err(Refusal::TooFar(t));
+        }
+        let Some(first) = self.at(t) else {
+            return Err(Refusal::NotUsable(0));
+        };
+        let distance = first.distance;
+        let before = earlier(t, distance);
+        if !in_limit(before) {
+            return Err(Refusal::PastLimit(before));
+        }
+        if !may_ask(self.wide, before) {
+            return Err(Refusal::TooFar(before));
+        }
+        let second = self.at(before);
+        again(distance, second)
     }
-    if !may_ask(wide, before) {
-        return Err(Refusal::TooFar(before));
-    }
-    let second = both_at(planet, earth, before);
-    again(distance, second)
 }
 
 // From the packed series, each unpacked once. Takes every input.
@@ -81,5 +92,10 @@ fn with_earth(planet: &Table, wide: bool, earth: &[u8], t: Instant) -> Result<Ge
     let mut table: Table = [[0; 3]; TABLE_ROWS];
     let content = fill(earth, &mut table)?;
     let good = content.wide;
-    taken(planet, &table, wide & good, t)
+    let bodies = Bodies {
+        planet,
+        earth: &table,
+        wide: wide & good,
+    };
+    bodies.taken(t)
 }

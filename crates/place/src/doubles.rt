@@ -30,12 +30,9 @@ pub fn figures(p: Equatorial) -> MountPlace
     requires { Small p }
     ensures { result ≡ mount_place p }
 {
-    let right_ascension = degrees(p.right_ascension);
-    let declination = degrees(p.declination);
-    let distance = units_of_distance(p.distance);
     MountPlace {
-        right_ascension,
-        declination,
-        distance,
+        right_ascension: degrees(p.right_ascension),
+        declination: degrees(p.declination),
+        distance: units_of_distance(p.distance),
     }
 }

@@ -55,10 +55,8 @@ pub fn apparent_place(planet: &[u8], earth: &[u8], t: Instant) -> Result<Equator
     ensures { result ≡ place_answer planet.now earth.now t }
 {
     let g = sighting(planet, earth, t)?;
-    let v = g.vector;
-    let a = apparent(t, v);
-    let w = a.vector;
-    Ok(equatorial(w, g.distance))
+    let a = apparent(t, g.vector);
+    Ok(equatorial(a.vector, g.distance))
 }
 
 // The same for a mount.

@@ -1,8 +1,8 @@
 // The steps to an apparent place. For this crate alone.
-ghost use Rattle.std.specs.Prelude.{◌≡◌, ◌<◌, ◌≤◌, ◌^◌, pos, nat_abs, ◌+ℤ◌, ◌-ℤ◌, ◌*ℤ◌};
+ghost use Rattle.std.specs.Prelude.{◌≡◌, ◌<◌, ◌≤◌, ◌^◌, pos, nat_abs};
 ghost use Rattle.rectangular.specs.Machine.Components.{Components};
-ghost use Rattle.integers.specs.Division.{modulo, rounded};
-ghost use Rattle.units.specs.Units.{U, turn, t_limit};
+ghost use Rattle.integers.specs.Division.{modulo};
+ghost use Rattle.units.specs.Units.{turn, t_limit};
 ghost use Rattle.direction.specs.Direction.{turn_steps, steps_angle};
 ghost use Rattle.place.specs.Apparent.{earlier as earlier_of, rebuilt, to_equator as to_equator_of, apparent as apparent_of};
 ghost use Rattle.place.specs.Apparent.{equatorial as equatorial_of};
@@ -12,7 +12,6 @@ use crate::light_time::light;
 use crate::{Apparent, Equatorial};
 use arith::muldiv::scale;
 use arith::residue::residue;
-use arith::signed::{add, sub, wide};
 use cosine::working::cosine_sine;
 use direction::{TURN_STEPS, direction_of, latitude_of, units_angle};
 use nutation::angles_at;
@@ -24,24 +23,9 @@ pub fn earlier(t: Instant, distance: u64) -> Instant
     requires { (nat_abs t.ms ≤ t_limit) × (distance < 2 ^ 46) }
     ensures { result ≡ earlier_of t distance }
 {
-    let ms = sub(t.ms, light(distance));
-    Instant { ms }
-}
-
-// y and z turned about X by the angle of the cosine c and the sine s: the new y.
-fn turned_y(y: i64, z: i64, c: i64, s: i64) -> i64
-    requires { (nat_abs y ≤ 2 ^ 61) × (nat_abs z ≤ 2 ^ 61) × (nat_abs c ≤ U) × (nat_abs s ≤ U) }
-    ensures { result ≡ rounded (y *ℤ c) U -ℤ rounded (z *ℤ s) U }
-{
-    sub(scale(y, c), scale(z, s))
-}
-
-// The new z.
-fn turned_z(y: i64, z: i64, c: i64, s: i64) -> i64
-    requires { (nat_abs y ≤ 2 ^ 61) × (nat_abs z ≤ 2 ^ 61) × (nat_abs c ≤ U) × (nat_abs s ≤ U) }
-    ensures { result ≡ rounded (y *ℤ s) U +ℤ rounded (z *ℤ c) U }
-{
-    add(scale(y, s), scale(z, c))
+    Instant {
+        ms: t.ms - light(distance),
+    }
 }
 
 // A vector turned to the true equator, by the cosine and the sine of the obliquity.
@@ -50,9 +34,11 @@ fn to_equator(v: Vector, obliquity: u64) -> Vector
     ensures { result ≡ to_equator_of (pos obliquity) v }
 {
     let e = cosine_sine(obliquity);
-    let y = turned_y(v.y, v.z, e.cos, e.sin);
-    let z = turned_z(v.y, v.z, e.cos, e.sin);
-    Vector { x: v.x, y, z }
+    Vector {
+        x: v.x,
+        y: scale(v.y, e.cos) - scale(v.z, e.sin),
+        z: scale(v.y, e.sin) + scale(v.z, e.cos),
+    }
 }
 
 // The angle of k hundredths of an arcsecond, less its whole turns.
@@ -73,7 +59,7 @@ fn rebuild(v: Vector, nutation: i64) -> Vector
     let b = angle_of(h);
     let a = angle_of(k);
     let n = residue(nutation, TURN);
-    let r = wide(length(v));
+    let r = length(v) as i64;
     from_angles(r, b, (a + n) % TURN)
 }
 
@@ -105,12 +91,9 @@ pub fn equatorial(v: Vector, distance: u64) -> Equatorial
     requires { Components equator_reach v × (distance < 2 ^ 46) }
     ensures { result ≡ equatorial_of v distance }
 {
-    let a = direction_of(v.x, v.y);
-    let d = latitude_of(v.x, v.y, v.z);
-    let u = wide(distance);
     Equatorial {
-        right_ascension: a,
-        declination: d,
-        distance: u,
+        right_ascension: direction_of(v.x, v.y),
+        declination: latitude_of(v.x, v.y, v.z),
+        distance: distance as i64,
     }
 }

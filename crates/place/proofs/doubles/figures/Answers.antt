@@ -4,6 +4,6 @@ use Rattle.place.proofs.doubles.figures.Goals as goal
 
 pub returns : goal.returns
 returns c =
-    figures_are c.args.p c.requires c.degrees-right_ascension.result c.degrees-declination.result c.units_of_distance-distance.result
-    c.degrees-right_ascension.ensures c.degrees-declination.ensures
-    c.units_of_distance-distance.ensures
+    figures_are c.args.p c.requires c.degrees.result c.degrees-2.result c.units_of_distance.result
+    c.degrees.ensures c.degrees-2.ensures
+    c.units_of_distance.ensures

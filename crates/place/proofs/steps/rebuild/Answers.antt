@@ -39,11 +39,11 @@ from_angles-requires c =
     angles_ask c.args.v c.args.nutation c.requires (back c.args.nutation c.ranges.nutation)
     c.direction_of-k.result c.latitude_of-h.result c.direction_of-k.ensures c.latitude_of-h.ensures
     c.angle_of-b.result c.angle_of-a.result c.residue-n.result c.angle_of-b.ensures c.angle_of-a.ensures c.residue-n.ensures
-    c.wide-r.result c.length.result c.length.ensures.0 c.wide-r.ensures
+    c.length-r.result c.length-r.ensures.0
 
 pub returns : goal.returns
 returns c =
     rebuilt_is c.args.v c.args.nutation c.requires (back c.args.nutation c.ranges.nutation)
     c.direction_of-k.result c.latitude_of-h.result c.direction_of-k.ensures c.latitude_of-h.ensures
     c.angle_of-b.result c.angle_of-a.result c.residue-n.result c.angle_of-b.ensures c.angle_of-a.ensures c.residue-n.ensures
-    c.wide-r.result c.length.result c.length.ensures.0 c.wide-r.ensures c.from_angles.result c.from_angles.ensures
+    c.length-r.result c.length-r.ensures.0 c.from_angles.result c.from_angles.ensures

@@ -1,8 +1,8 @@
--- `place::bodies::both_at` meets its contract. Assumes nothing.
+-- `place::bodies::Bodies::at` meets its contract. Assumes nothing.
 use Rattle.limits.proofs.Reach.{each_asked}
 use Rattle.place.proofs.Sightings.{both_is}
 use borrow.Author.Rules.{rules}
-use Rattle.place.proofs.bodies.both_at.Goals as goal
+use Rattle.place.proofs.bodies.Bodies.at.Goals as goal
 
 pub coordinates-p-requires : goal.coordinates-p-requires
 coordinates-p-requires c = let h = (each_asked _ _ _ c.requires.3).0 in search rules
