@@ -1,5 +1,5 @@
 -- Numbers that are held in their range: what is answered, and what the calls ask. Assumes nothing.
-use mathlib.Core.Path.{◌≡◌, refl, sym, ap, ap₂, ◌∙◌, subst}
+use mathlib.Core.Path.{◌≡◌, refl, ap, ap₂, ◌∙◌, subst}
 use mathlib.Core.Bool.{true, false}
 use Prim.Native.Nat.{ℕ, zero, suc, ◌^◌, ◌≤◌, ◌<◌}
 use native.Mathlib.Omega.{arith}
@@ -15,16 +15,13 @@ use Rattle.rectangular.specs.declared.Frame.{Frame}
 use Rattle.rectangular.specs.declared.Frame.TheVariants.{Theory, Catalogues}
 use Rattle.std.specs.Prelude.{Option}
 use Rattle.rectangular.specs.declared.View.{View}
-use Rattle.rectangular.specs.Frames.{turned}
 use Rattle.rectangular.specs.Sight.{sight}
-use Rattle.rectangular.specs.Machine.Components.{Components, grown}
+use Rattle.rectangular.specs.Machine.Components.{Components}
 use Rattle.rectangular.proofs.Places.{three}
-use Rattle.rectangular.proofs.Turn.{turned_size}
 use Rattle.direction.specs.Direction.{latitude}
 use Rattle.arith.proofs.Cells.{Cell, cell}
-use Rattle.inner_rules.specs.declared.VectorFigures.{VectorFigures}
 use Rattle.inner_rules.specs.declared.SightFigures.{SightFigures}
-use Rattle.inner_rules.specs.Inner.{held, reach, turn_reach, a_last, b_last, c_last, held_vector, frame_of, vector_figures, shown}
+use Rattle.inner_rules.specs.Inner.{held, reach, a_last, b_last, c_last, held_vector, frame_of, shown}
 
 pub held_in : (last m : ℕ) (x : ℤ) → m ≡ nat_abs x → m ≤ last → (x ≡ held last x) × (nat_abs x ≤ last)
 unfolding held
@@ -92,17 +89,6 @@ vector_held last ca cb cc' ha hb hc cx cy cz = (
 pub vector_told : {v : Vector} (last : ℕ) {x y z : ℤ} → Cell x ≡ x → Cell y ≡ y → Cell z ≡ z → v ≡ held_vector last (Cell x) (Cell y) (Cell z)
     → v ≡ held_vector last x y z
 vector_told last ex ey ez e = e ∙ rw (ex, ey, ez)
-
--- A turned vector comes out as its bits.
-pub turned_told : (v w : Vector) → Components turn_reach v → w ≡ turned v
-    → ◌≡◌ {A = VectorFigures} (record { x = Cell w.x; y = Cell w.y; z = Cell w.z }) (vector_figures (turned v))
-unfolding vector_figures
-turned_told v w h e =
-    let s = subst (Components (grown turn_reach)) (sym e) (turned_size turn_reach v h) in
-    let a = s.x_in in
-    let b = s.y_in in
-    let c = s.z_in in
-    rw (cell w.x (omega arith), cell w.y (omega arith), cell w.z (omega arith), e)
 
 -- A frame, by the test of its number.
 pub frame_theory : (n : ℕ) → n ≡ 0 → Theory ≡ frame_of n

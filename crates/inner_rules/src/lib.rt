@@ -18,12 +18,11 @@ ghost use Rattle.place.specs.Apparent.{light_time};
 ghost use Rattle.inner_rules.specs.Inner.{held, reach, turn_reach, a_last, b_last, c_last, held_vector, frame_of, vector_figures, shown};
 
 use crate::terms::figures_of;
-use arith::signed::abs;
 use cosine::{cosine, sine};
 use direction::{direction_of, latitude_of};
 use nutation::moon::arguments_with_turns;
 use nutation::rows::nutation_at;
-use nutation::{angles_at, mean_obliquity_at};
+use nutation::{Arguments, angles_at, mean_obliquity_at};
 use place::light_time::light;
 use rectangular::frames::turned;
 use rectangular::from_earth::sight;
@@ -100,20 +99,18 @@ pub struct SightFigures {
 fn held(x: i64, last: u64) -> i64
     ensures { (result ≡ held last x) × (nat_abs result ≤ last) }
 {
-    if abs(x) <= last {
-        return x;
-    }
-    0
+    if x.unsigned_abs() <= last { x } else { 0 }
 }
 
 // The vector of three numbers, each so held.
 fn held_vector(x: i64, y: i64, z: i64, last: u64) -> Vector
     ensures { (result ≡ held_vector last x y z) × Components last result }
 {
-    let a = held(x, last);
-    let b = held(y, last);
-    let c = held(z, last);
-    Vector { x: a, y: b, z: c }
+    Vector {
+        x: held(x, last),
+        y: held(y, last),
+        z: held(z, last),
+    }
 }
 
 // The frame of the theory for 0, else that of the catalogues.
@@ -121,36 +118,68 @@ fn frame_of(turned: u64) -> Frame
     ensures { result ≡ frame_of turned }
 {
     if turned == 0 {
-        return Frame::Theory;
+        Frame::Theory
+    } else {
+        Frame::Catalogues
     }
-    Frame::Catalogues
 }
 
 // A sight as numbers.
-fn figures(s: Option<View>) -> SightFigures
-    ensures { result ≡ shown s }
-{
-    match s {
-        None => SightFigures {
-            usable: 0,
-            earth_x: 0,
-            earth_y: 0,
-            earth_z: 0,
-            x: 0,
-            y: 0,
-            z: 0,
-            distance: 0,
-        },
-        Some(v) => SightFigures {
-            usable: 1,
-            earth_x: v.earth.x,
-            earth_y: v.earth.y,
-            earth_z: v.earth.z,
-            x: v.vector.x,
-            y: v.vector.y,
-            z: v.vector.z,
-            distance: v.distance,
-        },
+impl From<Option<View>> for SightFigures {
+    ghost from_gives = { λ s figures. figures ≡ shown s };
+
+    #[tactic(auto, unfolding(crate::specs::Inner::shown))]
+    fn from(s: Option<View>) -> SightFigures {
+        match s {
+            None => SightFigures {
+                usable: 0,
+                earth_x: 0,
+                earth_y: 0,
+                earth_z: 0,
+                x: 0,
+                y: 0,
+                z: 0,
+                distance: 0,
+            },
+            Some(v) => SightFigures {
+                usable: 1,
+                earth_x: v.earth.x,
+                earth_y: v.earth.y,
+                earth_z: v.earth.z,
+                x: v.vector.x,
+                y: v.vector.y,
+                z: v.vector.z,
+                distance: v.distance,
+            },
+        }
+    }
+}
+
+impl From<Vector> for VectorFigures {
+    ghost from_gives = { λ v figures. figures ≡ vector_figures v };
+
+    #[tactic(auto, unfolding(crate::specs::Inner::vector_figures))]
+    fn from(v: Vector) -> VectorFigures {
+        VectorFigures {
+            x: v.x,
+            y: v.y,
+            z: v.z,
+        }
+    }
+}
+
+impl From<Arguments> for ArgumentFigures {
+    ghost from_gives = { λ a figures. (figures.elongation ≡ a.elongation) × (figures.sun ≡ a.sun) × (figures.moon ≡ a.moon)
+        × (figures.latitude ≡ a.latitude) × (figures.node ≡ a.node) };
+
+    fn from(a: Arguments) -> ArgumentFigures {
+        ArgumentFigures {
+            elongation: a.elongation,
+            sun: a.sun,
+            moon: a.moon,
+            latitude: a.latitude,
+            node: a.node,
+        }
     }
 }
 
@@ -180,19 +209,14 @@ pub extern "C" fn stephylax_test_root(x: i64, y: i64, z: i64) -> u64
 pub extern "C" fn stephylax_test_direction(x: i64, y: i64) -> i64
     ensures { result ≡ pos (direction·of (held reach x) (held reach y)) }
 {
-    let a = held(x, REACH);
-    let b = held(y, REACH);
-    direction_of(a, b)
+    direction_of(held(x, REACH), held(y, REACH))
 }
 
 #[unsafe(no_mangle)]
 pub extern "C" fn stephylax_test_latitude(x: i64, y: i64, z: i64) -> i64
     ensures { result ≡ latitude·of (held reach x) (held reach y) (held reach z) }
 {
-    let a = held(x, REACH);
-    let b = held(y, REACH);
-    let c = held(z, REACH);
-    latitude_of(a, b, c)
+    latitude_of(held(x, REACH), held(y, REACH), held(z, REACH))
 }
 
 // b by its magnitude.
@@ -205,7 +229,7 @@ pub extern "C" fn stephylax_test_term(a: i64, b: i64, c: i64, t: i64) -> TermFig
     let b1 = held(b, B_LAST);
     let c1 = held(c, C_LAST);
     let t1 = held(t, T_LIMIT);
-    figures_of(a1, abs(b1), c1, t1)
+    figures_of(a1, b1.unsigned_abs(), c1, t1)
 }
 
 #[unsafe(no_mangle)]
@@ -232,14 +256,7 @@ pub extern "C" fn stephylax_test_arguments(t: i64) -> ArgumentFigures
     ensures { (result.elongation ≡ mean_elongation (held t_limit t)) × (result.sun ≡ sun_anomaly (held t_limit t))
         × (result.moon ≡ moon_anomaly (held t_limit t)) × (result.latitude ≡ latitude_argument (held t_limit t)) × (result.node ≡ moon_node (held t_limit t)) }
 {
-    let a = arguments_with_turns(held(t, T_LIMIT));
-    ArgumentFigures {
-        elongation: a.elongation,
-        sun: a.sun,
-        moon: a.moon,
-        latitude: a.latitude,
-        node: a.node,
-    }
+    ArgumentFigures::from(arguments_with_turns(held(t, T_LIMIT)))
 }
 
 // The light time of a distance in parts, by its magnitude, in milliseconds.
@@ -248,7 +265,7 @@ pub extern "C" fn stephylax_test_light(distance: i64) -> i64
     ensures { result ≡ light_time (nat_abs (held reach distance)) }
 {
     let d = held(distance, REACH);
-    light(abs(d))
+    light(d.unsigned_abs())
 }
 
 // A vector in the frame of the catalogues.
@@ -256,12 +273,7 @@ pub extern "C" fn stephylax_test_light(distance: i64) -> i64
 pub extern "C" fn stephylax_test_turned(x: i64, y: i64, z: i64) -> VectorFigures
     ensures { result ≡ vector_figures (turned·of (held_vector turn_reach x y z)) }
 {
-    let v = turned(held_vector(x, y, z, TURN_REACH));
-    VectorFigures {
-        x: v.x,
-        y: v.y,
-        z: v.z,
-    }
+    VectorFigures::from(turned(held_vector(x, y, z, TURN_REACH)))
 }
 
 // From L, B and R of the planet, then of Earth: the sight of the Sun list where `turned` is 0, else that of a place.
@@ -288,5 +300,5 @@ pub extern "C" fn stephylax_test_sight(
         latitude: earth_b,
         radius: earth_r,
     };
-    figures(sight(frame_of(turned), planet, earth))
+    SightFigures::from(sight(frame_of(turned), planet, earth))
 }

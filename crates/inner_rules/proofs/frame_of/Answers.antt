@@ -5,5 +5,5 @@ use Rattle.inner_rules.proofs.frame_of.Goals as goal
 pub returns-then-turned-eq0 : goal.returns-then-turned-eq0
 returns-then-turned-eq0 c = frame_theory c.args.turned c.if-turned-eq0.true
 
-pub returns : goal.returns
-returns c = frame_catalogues c.args.turned c.if-turned-eq0.false
+pub returns-else-turned-eq0 : goal.returns-else-turned-eq0
+returns-else-turned-eq0 c = frame_catalogues c.args.turned c.if-turned-eq0.false

@@ -5,5 +5,5 @@ use Rattle.inner_rules.proofs.held_vector.Goals as goal
 
 pub returns : goal.returns
 returns c =
-    vector_held c.args.last (back _ (ok c.held-a.type_inv)) (back _ (ok c.held-b.type_inv)) (back _ (ok c.held-c.type_inv)) c.held-a.ensures c.held-b.ensures
-    c.held-c.ensures (back _ c.ranges.x) (back _ c.ranges.y) (back _ c.ranges.z)
+    vector_held c.args.last (back _ (ok c.held.type_inv)) (back _ (ok c.held-2.type_inv)) (back _ (ok c.held-3.type_inv)) c.held.ensures c.held-2.ensures
+    c.held-3.ensures (back _ c.ranges.x) (back _ c.ranges.y) (back _ c.ranges.z)

@@ -5,11 +5,11 @@ use Rattle.inner_rules.proofs.Ranges.{latitude_asks, latitude_told}
 use Rattle.inner_rules.proofs.stephylax_test_latitude.Goals as goal
 
 pub latitude_of-requires : goal.latitude_of-requires
-latitude_of-requires c = latitude_asks c.held-a.result c.held-b.result c.held-c.result c.held-a.ensures.1 c.held-b.ensures.1 c.held-c.ensures.1
+latitude_of-requires c = latitude_asks c.held.result c.held-2.result c.held-3.result c.held.ensures.1 c.held-2.ensures.1 c.held-3.ensures.1
 
 pub returns : goal.returns
 returns c =
-    let x = back c.held-a.result (ok c.held-a.type_inv) ∙ (rw (back c.args.x c.ranges.x) at c.held-a.ensures.0) in
-    let y = back c.held-b.result (ok c.held-b.type_inv) ∙ (rw (back c.args.y c.ranges.y) at c.held-b.ensures.0) in
-    let z = back c.held-c.result (ok c.held-c.type_inv) ∙ (rw (back c.args.z c.ranges.z) at c.held-c.ensures.0) in
+    let x = back c.held.result (ok c.held.type_inv) ∙ (rw (back c.args.x c.ranges.x) at c.held.ensures.0) in
+    let y = back c.held-2.result (ok c.held-2.type_inv) ∙ (rw (back c.args.y c.ranges.y) at c.held-2.ensures.0) in
+    let z = back c.held-3.result (ok c.held-3.type_inv) ∙ (rw (back c.args.z c.ranges.z) at c.held-3.ensures.0) in
     back c.latitude_of.result (ok c.latitude_of.type_inv) ∙ latitude_told _ _ _ _ _ _ _ x y z c.latitude_of.ensures

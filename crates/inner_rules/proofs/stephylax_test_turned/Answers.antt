@@ -4,11 +4,10 @@ use Rattle.arith.proofs.Signs.{back}
 use Rattle.rectangular.specs.declared.Vector.{Vector}
 use Rattle.rectangular.specs.Frames.{turned}
 use Rattle.inner_rules.specs.Inner.{turn_reach, vector_figures}
-use Rattle.inner_rules.proofs.Ranges.{vector_told, turned_told}
+use Rattle.inner_rules.proofs.Ranges.{vector_told}
 use Rattle.inner_rules.proofs.stephylax_test_turned.Goals as goal
 
 pub returns : goal.returns
 returns c =
     let e = vector_told turn_reach (back _ c.ranges.x) (back _ c.ranges.y) (back _ c.ranges.z) c.held_vector.ensures.0 in
-    turned_told c.held_vector.result c.turned-v.result c.held_vector.ensures.1 c.turned-v.ensures
-    ∙ ap (λ (w : Vector). vector_figures (turned w)) e
+    c.from.ensures ∙ ap vector_figures c.turned.ensures ∙ ap (λ (w : Vector). vector_figures (turned w)) e
