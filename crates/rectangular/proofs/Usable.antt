@@ -9,7 +9,8 @@ use lib.Dec.{leb}
 use lib.IntN.{ℤ, pos, nat_abs, ◌+ℤ◌}
 use lib.Signed.{le_z}
 use mir.Syntax.{w64}
-use mir.Val.{SFits}
+use mir.Val.{SFits, to_z}
+use Rattle.std.proofs.lemmas.Int.{to_z_pos}
 use Rattle.integers.specs.Order.{◌≼◌}
 use Rattle.integers.proofs.Tests.{both, at_most}
 use Rattle.integers.proofs.Auto.{polys, cert!, gap}
@@ -49,10 +50,9 @@ module _ (p e : ℤ) (hp : radius_usable p ≡ true) (he : radius_usable e ≡ t
   pub sum_fits : SFits w64 (Cell p +ℤ Cell e)
   sum_fits = rw sum_is (fits (p +ℤ e) sum_in)
 
-  pub far_enough : (d : ℕ) (w : ℤ) → least_distance ≤ d → d < 2 ^ 46 → w ≡ pos (distance_factor * d)
-      → le_z (Cell (Cell p +ℤ Cell e)) (Cell w) ≡ usable p e d
+  pub far_enough : (d : ℕ) → least_distance ≤ d → d < 2 ^ 46 → le_z (Cell (Cell p +ℤ Cell e)) (to_z w64 (distance_factor * d)) ≡ usable p e d
   unfolding usable
-  far_enough d w h l pw = rw (sum_is, cell (p +ℤ e) sum_in, pw, cell (pos (distance_factor * d)) (omega arith), hp, he, le-leb least_distance d h)
+  far_enough d h l = rw (sum_is, cell (p +ℤ e) sum_in, to_z_pos w64 (distance_factor * d) (omega arith), hp, he, le-leb least_distance d h)
 
 -- ---- Usable places: what each of the four checks has shown.
 

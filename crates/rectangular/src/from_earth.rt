@@ -5,7 +5,6 @@ ghost use Rattle.rectangular.specs.Machine.Components.{Components};
 
 use crate::frames::place_in;
 use crate::{Frame, Vector, View, geocentric, length};
-use arith::signed::wide;
 use units::{Coordinates, PARTS};
 
 // specs/Sight.antt has the same constants under the same names.
@@ -34,12 +33,12 @@ fn usable_radii(planet: i64, earth: i64) -> bool
     usable_radius(planet) && usable_radius(earth)
 }
 
-// For two R that are usable.
+// For two R that are usable. Here and in `seen` a contract says that they are, and no type: they are fields of `Coordinates`, which may be any numbers.
 fn usable_distance(planet: i64, earth: i64, distance: u64) -> bool
     requires { (radius_usable planet ≡ true) × (radius_usable earth ≡ true) × (distance < 2 ^ 46) }
     ensures { result ≡ usable_of planet earth distance }
 {
-    LEAST_DISTANCE <= distance && planet + earth <= wide(DISTANCE_FACTOR * distance)
+    LEAST_DISTANCE <= distance && planet + earth <= (DISTANCE_FACTOR * distance) as i64
 }
 
 // For two R that are usable, and both vectors in one frame: the geocentric vector and D, if D is usable.

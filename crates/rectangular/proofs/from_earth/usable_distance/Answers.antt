@@ -7,8 +7,7 @@ overflow_add-result c = sum_fits c.args.planet c.args.earth c.requires.0 c.requi
 
 pub returns-then-distance-ge-LEAST_DISTANCE : goal.returns-then-distance-ge-LEAST_DISTANCE
 returns-then-distance-ge-LEAST_DISTANCE c =
-    far_enough c.args.planet c.args.earth c.requires.0 c.requires.1 c.args.distance c.wide.result c.if-distance-ge-LEAST_DISTANCE.true c.requires.2
-    c.wide.ensures
+    far_enough c.args.planet c.args.earth c.requires.0 c.requires.1 c.args.distance c.if-distance-ge-LEAST_DISTANCE.true c.requires.2
 
 pub returns-else-distance-ge-LEAST_DISTANCE : goal.returns-else-distance-ge-LEAST_DISTANCE
 returns-else-distance-ge-LEAST_DISTANCE c =
