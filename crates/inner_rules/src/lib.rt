@@ -96,6 +96,7 @@ pub struct SightFigures {
 }
 
 // x, or 0 where its magnitude is past the last allowed.
+#[tactic(auto, unfolding(crate::specs::Inner::held))]
 fn held(x: i64, last: u64) -> i64
     ensures { (result ≡ held last x) × (nat_abs result ≤ last) }
 {
