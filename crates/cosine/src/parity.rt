@@ -9,7 +9,7 @@ use crate::working::{HALF_UNIT, first, step};
 use units::U;
 
 // The divisors of a series, but for the last, whose step is the first.
-pub const FURTHER: usize = 5;
+const FURTHER: usize = 5;
 
 pub trait Parity {
     ghost DIVISORS: { List ℕ };

@@ -1,35 +1,19 @@
-// Two angles at a time, in step: neither lane waits for the other, so the processor works both at once. For the crates above.
+// Two angles at a time: neither lane waits for the other, so the processor works both at once. For the crates above.
 #![tactic(auto)]
 
 ghost use Rattle.std.specs.Prelude.{◌≡◌, ◌*◌, ◌<◌, ◌≤◌, pos, nat_abs, ◌+ℤ◌, ◌-ℤ◌};
 ghost use Rattle.units.specs.Units.{U, a_limit};
-ghost use Rattle.cosine.specs.Cosine.{horner};
-ghost use Rattle.cosine.specs.Machine.Parity.{InRange, y_limit};
+ghost use Rattle.cosine.specs.Machine.Parity.{InRange};
 
-use cosine::parity::{FURTHER, Parity};
+use cosine::parity::{Parity, horner};
 use cosine::term::times_cosine;
-use cosine::working::{first, square, step};
+use cosine::working::square;
 
 // A number for each lane.
 #[derive(Clone, Copy)]
 pub struct Pair {
     pub one: u64,
     pub two: u64,
-}
-
-// A series at each y, from its last divisor to its first.
-fn horner_pair<P: Parity>(y: Pair) -> Pair
-    requires { (y.one ≤ y_limit) × (y.two ≤ y_limit) }
-    ensures { (pos result.one ≡ horner (pos y.one) P.DIVISORS) × (pos result.two ≡ horner (pos y.two) P.DIVISORS) × (result.one ≤ U) × (result.two ≤ U) }
-{
-    let divisors = P::DIVISORS;
-    let mut one = first(y.one, divisors[FURTHER]);
-    let mut two = first(y.two, divisors[FURTHER]);
-    for k in (0..FURTHER).rev() {
-        one = step(y.one, one, divisors[k]);
-        two = step(y.two, two, divisors[k]);
-    }
-    Pair { one, two }
 }
 
 // U more than the cosines at quarter 0 or 1; the sign of quarters 2 and 3 is on the amplitude.
@@ -42,7 +26,10 @@ fn lifted_pair<P: Parity>(v: Pair) -> Pair
         one: square(v.one),
         two: square(v.two),
     };
-    let h = horner_pair::<P>(y);
+    let h = Pair {
+        one: horner::<P>(y.one),
+        two: horner::<P>(y.two),
+    };
     Pair {
         one: P::lift(v.one, h.one),
         two: P::lift(v.two, h.two),

@@ -63,7 +63,7 @@ fn worked_at(p: Prepared, table: &Table, i: usize) -> ReducedTerm
     p.reduced_term(unfold_number(row[0]), row[1], unfold_number(row[2]))
 }
 
-// Parts the terms from place from up to place to.
+// Parts the terms from place from up to place to. Two places and not a slice: contracts tell the terms of a table by their places in it.
 fn part_terms(
     p: Prepared,
     table: &Table,
