@@ -4,11 +4,12 @@ use mathlib.Core.Bool.{Bool, true, false}
 use mathlib.Core.List.{List, [], ◌∷◌}
 use Prim.Native.Nat.{ℕ, zero, suc, ◌+◌, ◌-◌, ◌≤◌, ◌<◌}
 use native.Mathlib.Omega.{arith}
-use borrow.Author.Tests.{ne_eqb, lt-ltb, le-ltb, lt-leb, leb-true, leb-false, eqb-false}
+use borrow.Author.Tests.{leb-false, eqb-false}
 use lib.Dec.{leb, eqb}
 use lib.ListN.{length, take, drop, length-drop}
 use Rattle.std.specs.List.{position_or_len}
 use Rattle.std.proofs.lemmas.List.{length-take, length-take-le, take-take}
+use Rattle.std.proofs.lemmas.Bool.Decides.{nat_tests}
 use Rattle.integers.proofs.Tests.{by_cases}
 use Rattle.series_lines.specs.Grammar.{feed}
 use Rattle.series_lines.specs.Lexer.{spot_bad}
@@ -61,26 +62,19 @@ clear false c n p h = clear_term c n p h
 
 heading_free : (c : ℕ) → (c ≡ version_column → ⊥) → (c ≡ coordinate_column → ⊥) → (c ≡ power_column → ⊥) → c < count_first → heading_column c ≡ Filler
 unfolding heading_column
-heading_free c p q s h = rw (ne_eqb _ _ p, ne_eqb _ _ q, ne_eqb _ _ s, lt-ltb _ _ h)
+heading_free c p q s h = grind (arith, nat_tests)
 
 heading_after : (c : ℕ) → count_last < c → heading_column c ≡ Filler
 unfolding heading_column
-heading_after c h =
-    rw (
-      ne_eqb c version_column (λ e. omega (arith, e)),
-      ne_eqb c coordinate_column (λ e. omega (arith, e)),
-      ne_eqb c power_column (λ e. omega (arith, e)),
-      le-ltb c count_first (omega arith),
-      lt-leb c count_last h,
-    )
+heading_after c h = grind (arith, nat_tests)
 
 term_free : (c : ℕ) → c < number_first → term_column c ≡ Filler
 unfolding term_column
-term_free c h = rw (lt-ltb _ _ h)
+term_free c h = grind (arith, nat_tests)
 
 term_before_a : (c : ℕ) → number_last < c → c < a_first → term_column c ≡ Filler
 unfolding term_column
-term_before_a c p h = rw (le-ltb c number_first (omega arith), lt-leb _ _ p, lt-ltb _ _ h)
+term_before_a c p h = grind (arith, nat_tests)
 
 heading_step : (r : Row) (byte : ℕ) → heading_column r.column ≡ Filler → lex_row true r byte ≡ moved r r.line
 unfolding lex_row lex_heading in_column
@@ -103,14 +97,10 @@ step_free false r byte n (before_a p h) = term_step r byte (omega arith) (term_b
 
 -- ---- The column.
 
-next_limit : (c : ℕ) → column_limit ≤ c → next_column c ≡ column_limit
-unfolding next_column
-next_limit c h = rw (le-ltb _ _ h)
-
 -- The columns after the next one are free too.
 next_late : (c : ℕ) → count_last < c → count_last < next_column c
-next_late c h =
-    by_cases (leb column_limit c) (λ p. rw (next_limit c (leb-true _ _ p)) (omega arith)) (λ p. rw (next_one c (leb-false _ _ p)) (omega arith))
+unfolding next_column
+next_late c h = grind (arith, nat_tests)
 
 clear_next : (heading : Bool) (c n : ℕ) → Clear heading c (suc n) → Clear heading (next_column c) n
 clear_next true c n (before_version h) = rw (next_one c (omega arith)) (before_version {c = c + 1} {n = n} (omega arith))
@@ -125,47 +115,21 @@ unfoldable on : ℕ → ℕ → ℕ
 on c zero = c
 on c (suc n) = on (next_column c) n
 
-held_small : (c n : ℕ) → c + n < column_limit → held c n ≡ c + n
-unfolding held
-held_small c n h = rw (lt-ltb _ _ h)
-
-held_large : (c n : ℕ) → column_limit ≤ c + n → held c n ≡ column_limit
-unfolding held
-held_large c n h = rw (le-ltb _ _ h)
-
 pub held_one : (c : ℕ) → held c 1 ≡ next_column c
-held_one c =
-    by_cases (leb column_limit c)
-    (λ p. let h : column_limit ≤ c = leb-true _ _ p in held_large c 1 (omega arith) ∙ sym (next_limit c h))
-    (λ p. let h : c < column_limit = leb-false _ _ p in
-    by_cases (leb column_limit (c + 1))
-    (λ q. let g : column_limit ≤ c + 1 = leb-true _ _ q in let e : column_limit ≡ c + 1 = omega arith in held_large c 1 g ∙ e ∙ sym (next_one c h))
-    (λ q. let g : c + 1 < column_limit = leb-false _ _ q in held_small c 1 g ∙ sym (next_one c h)))
+unfolding held next_column
+held_one c = grind (arith, nat_tests)
 
 held_next : (c n : ℕ) → held (next_column c) n ≡ held c (suc n)
-held_next c n =
-    by_cases (leb column_limit c)
-    (λ p. let h = leb-true _ _ p in rw (next_limit c h) (held_large column_limit n (omega arith) ∙ sym (held_large c (suc n) (omega (arith, h)))))
-    (λ p. let h = leb-false _ _ p in
-    rw (next_one c h)
-    (by_cases (leb column_limit (c + suc n))
-    (λ q. let g = leb-true _ _ q in held_large (c + 1) n (omega (arith, g)) ∙ sym (held_large c (suc n) g))
-    (λ q.
-    let g = leb-false _ _ q in
-    let e : c + 1 + n ≡ c + suc n = omega arith in
-    held_small (c + 1) n (omega (arith, g)) ∙ e ∙ sym (held_small c (suc n) g))))
+unfolding held next_column
+held_next c n = grind (arith, nat_tests)
 
 next_most : (c : ℕ) → next_column c ≤ column_limit
-next_most c =
-    by_cases (leb column_limit c)
-    (λ p. rw (next_limit c (leb-true _ _ p)) (omega arith))
-    (λ p. let h = leb-false _ _ p in rw (next_one c h) (omega (arith, h)))
+unfolding next_column
+next_most c = grind (arith, nat_tests)
 
 held_none : (c : ℕ) → c ≤ column_limit → c ≡ held c 0
-held_none c h =
-    by_cases (leb column_limit c)
-    (λ p. let g : column_limit ≤ c = leb-true _ _ p in let e : c ≡ column_limit = omega arith in e ∙ sym (held_large c 0 (omega arith)))
-    (λ p. let g : c < column_limit = leb-false _ _ p in let e : c ≡ c + 0 = omega arith in e ∙ sym (held_small c 0 (omega arith)))
+unfolding held
+held_none c h = grind (arith, nat_tests)
 
 on_held : (c n : ℕ) → c ≤ column_limit → on c n ≡ held c n
 unfolding on

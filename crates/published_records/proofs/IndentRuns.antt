@@ -5,16 +5,17 @@ use mathlib.Core.List.{List}
 use Prim.Native.Nat.{ℕ, zero, suc, ◌+◌, ◌-◌, ◌≤◌, ◌<◌}
 use Rattle.std.proofs.Common.{add-zero}
 use native.Mathlib.Omega.{arith}
-use borrow.Author.Tests.{eqb-true, lt-ltb, le-ltb, le-leb, leb-false}
+use borrow.Author.Tests.{eqb-true, leb-false}
 use lib.Dec.{leb, eqb}
 use lib.ListN.{length, take, drop, get_or}
 use Rattle.std.specs.List.{prefix_len}
 use Rattle.std.proofs.lemmas.List.{get_or-take, get_or-drop}
 use Rattle.std.proofs.lemmas.List.Sums.{prefix_len_passes}
+use Rattle.std.proofs.lemmas.Bool.Decides.{nat_tests}
 use Rattle.integers.proofs.Tests.{by_cases}
 use Rattle.series_lines.specs.declared.Line.{Line}
 use Rattle.series_lines.specs.Grammar.{space, part_digits, count_digits, whole_digits}
-use Rattle.series_lines.specs.Lexer.{spot_decimal, spot_count, spot_bad}
+use Rattle.series_lines.specs.Lexer.{spot_bad}
 use Rattle.published_records.specs.declared.Row.{Row}
 use Rattle.published_records.specs.declared.Column.TheVariants.{Count, Whole}
 use Rattle.published_records.specs.Layout.{number_first, number_last, a_first, a_last, c_first, c_last}
@@ -47,11 +48,11 @@ indent c k f on h =
 
 kind_number : (k : ℕ) → number_first ≤ k → k < number_last → term_column k ≡ Count (number_last - k)
 unfolding term_column
-kind_number k p h = rw (le-ltb k number_first p, le-leb k number_last (omega arith))
+kind_number k p h = grind (arith, nat_tests)
 
 decimal_whole : (m : ℕ) → part_digits < m → decimal_column m ≡ Whole (m - part_digits - 1)
 unfolding decimal_column
-decimal_whole m h = rw (lt-ltb part_digits m h)
+decimal_whole m h = grind (arith, nat_tests)
 
 kind_a : (k : ℕ) → a_first < k → k < a_whole → term_column k ≡ Whole (a_last - k - part_digits - 1)
 kind_a k p h = column_a k (omega arith) (omega arith) ∙ decimal_whole (a_last - k) (omega arith)
@@ -63,7 +64,7 @@ kind_c k p h = column_c k (omega arith) (omega arith) ∙ decimal_whole (c_last 
 
 stays : (w most : ℕ) (l : Line) → 1 ≤ w → unbegun l ≡ true → in_whole w most l space ≡ l
 unfolding in_whole
-stays w most l h u = rw (u, le-leb 1 w h)
+stays w most l h u = grind (arith, nat_tests)
 
 in_count : (r : Row) (w : ℕ) → term_column r.column ≡ Count w → entered r ≡ r → 1 ≤ w → unbegun r.line ≡ true
     → lex_row false r space ≡ moved r r.line
@@ -93,9 +94,7 @@ below k (in_c p h) = omega arith
 
 good : (l : Line) → unbegun l ≡ true → l.spot ≡ spot_bad → ⊥
 unfolding unbegun
-good l u e =
-    by_cases (eqb l.spot spot_decimal) (λ p. omega (arith, e, eqb-true l.spot spot_decimal p))
-    (λ p. let q : eqb l.spot spot_count ≡ true = rw p at u in omega (arith, e, eqb-true l.spot spot_count q))
+good l u e = grind (arith, nat_tests)
 
 -- ---- Runs.
 

@@ -4,9 +4,10 @@ use mathlib.Core.Bool.{false}
 use mathlib.Core.List.{List}
 use Prim.Native.Nat.{ℕ, ◌+◌, ◌*◌, ◌-◌, ◌≤◌, ◌<◌}
 use native.Mathlib.Omega.{arith}
-use borrow.Author.Tests.{ne_eqb, le-ltb, ltb-true, ltb-false, leb-true, leb-false}
+use borrow.Author.Tests.{ltb-true, ltb-false, leb-true, leb-false}
 use lib.Dec.{leb, ltb}
 use lib.ListN.{length, get_or}
+use Rattle.std.proofs.lemmas.Bool.Decides.{nat_tests}
 use Rattle.integers.proofs.Tests.{by_cases}
 use Rattle.series_lines.specs.declared.Line.{Line}
 use Rattle.series_lines.specs.Grammar.{digit_0, part_digits}
@@ -33,7 +34,7 @@ pub record PartColumn (k : ℕ) : Type 0 where
 
 decimal_part : (m : ℕ) → m < part_digits → decimal_column m ≡ Part
 unfolding decimal_column
-decimal_part m h = rw (le-ltb part_digits m (omega arith), ne_eqb m part_digits (λ e. omega (arith, e)))
+decimal_part m h = grind (arith, nat_tests)
 
 kind_a : (k : ℕ) → a_last < k + part_digits → k ≤ a_last → term_column k ≡ Part
 kind_a k p h = column_a k (omega arith) h ∙ decimal_part (a_last - k) (omega arith)
