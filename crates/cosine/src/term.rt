@@ -193,7 +193,8 @@ impl Prepared {
     // A term with its angle reduced. Nothing here jumps on the quarter, which is as good as random from term to term.
     pub fn reduced_term(self, a: i64, b: u64, c: i64) -> ReducedTerm
         requires { (nat_abs a < a_limit) × (b < b_limit) × (nat_abs c < c_limit) }
-        ensures { (value_by_parity result.odd result.a result.v ≡ term_value a b c self.t) × (nat_abs result.a ≡ nat_abs a) × (result.odd ≤ 1) × InRange result.v }
+        ensures { (value_by_parity result.odd result.a result.v ≡ term_value a b c self.t) × (nat_abs result.a ≡ nat_abs a)
+            × (result.odd ≤ 1) × InRange result.v }
     {
         let x = self.angle(b, c);
         let q = quarters(x);

@@ -26,5 +26,7 @@ returns g c =
     let law = g.met.P.Parity.value_is in
     back _ (overflow_add-result g c)
     ∙ ap₂ ◌+ℤ◌
-    (value_back x.result c.args.a1 v.result.one (ok x.type_inv) c.ranges.a1 x.ensures ∙ value_of p.part p.value law c.args.a1 v.result.one c.args.v.one v.ensures.0)
-    (value_back y.result c.args.a2 v.result.two (ok y.type_inv) c.ranges.a2 y.ensures ∙ value_of p.part p.value law c.args.a2 v.result.two c.args.v.two v.ensures.1)
+    (value_back x.result c.args.a1 v.result.one (ok x.type_inv) c.ranges.a1 x.ensures
+    ∙ value_of p.part p.value law c.args.a1 v.result.one c.args.v.one v.ensures.0)
+    (value_back y.result c.args.a2 v.result.two (ok y.type_inv) c.ranges.a2 y.ensures
+    ∙ value_of p.part p.value law c.args.a2 v.result.two c.args.v.two v.ensures.1)

@@ -28,7 +28,8 @@ pub overflow_add-sum : goal.overflow_add-sum
 overflow_add-sum c =
     let e = c.min-end.ensures in
     add_fits _ c.sum_piece-sum.result
-    (sum_small (summed_at c.loop-at-test.true c.loop-at.invariant.0) c.min-end.result (omega arith) (omega arith) c.sum_piece-sum.result c.sum_piece-sum.ensures.0)
+    (sum_small (summed_at c.loop-at-test.true c.loop-at.invariant.0) c.min-end.result (omega arith) (omega arith)
+    c.sum_piece-sum.result c.sum_piece-sum.ensures.0)
 
 pub loop-at-preserved : goal.loop-at-preserved
 loop-at-preserved c =

@@ -36,7 +36,8 @@ combined-r-requires c =
 pub returns : goal.returns
 returns c =
     let raised : pos c.biased-d.result ≡ c.args.c +ℤ pos c_bias = rw (back c.args.c c.ranges.c) at c.biased-d.ensures in (
-      angle_is c.args.self.t c.args.self.place_0 c.args.self.place_1 c.args.self.rest c.args.self.ready c.args.b c.args.c c.biased-d.result c.combined-h.result c.combined-l.result c.combined-r.result
+      angle_is c.args.self.t c.args.self.place_0 c.args.self.place_1 c.args.self.rest c.args.self.ready c.args.b c.args.c
+          c.biased-d.result c.combined-h.result c.combined-l.result c.combined-r.result
           (raised) c.combined-h.ensures.0 c.combined-l.ensures.0 c.combined-r.ensures.0,
       omega (arith, c.combined-l.ensures.1, c.combined-r.ensures.1, c.requires.0),
     )
