@@ -8,6 +8,7 @@ use series_lines::passed::Passed;
 use series_lines::{LAST_OFFSET, Line, READING, Reader};
 
 // The reader stands after a point and can count all the parts.
+#[inline(always)]
 fn after_point(r: Reader) -> bool
     ensures { result ≡ true → AfterPoint r }
 {
@@ -18,6 +19,7 @@ fn after_point(r: Reader) -> bool
 }
 
 // The parts that stand from an index on.
+#[inline(always)]
 pub fn take_parts(r: Reader, text: &[u8], from: usize) -> Passed<Reader>
     ensures { GoesOn r text.now from result.state result.next }
 {

@@ -28,6 +28,7 @@ fn end_line<S: Sink>(r: Reader, out: &mut [u8]) -> Reader
 
 // A byte that is no line feed.
 #[tactic(auto, using(std::proofs::lemmas::Bool::Decides::nat_tests), unfolding(crate::specs::Reader::other))]
+#[inline(always)]
 fn take_other(r: Reader, byte: u8) -> Reader
     requires { r.at < last_offset }
     ensures { result ≡ other r byte }
@@ -39,8 +40,9 @@ fn take_other(r: Reader, byte: u8) -> Reader
     r.in_line(line, r.at + 1)
 }
 
-// One byte.
+// One byte. Here and in parts.rt the hints put the steps into the loops over a text, of which there are two.
 #[tactic(auto, unfolding(crate::specs::Machine::Modes::moved, crate::specs::Machine::Modes::moved_out, series_lines::specs::Reader::uncounted))]
+#[inline(always)]
 pub fn take_byte<S: Sink>(r: Reader, byte: u8, out: &mut [u8]) -> Reader
     ensures { (result ≡ moved S.writes r out.old byte) × (out.new ≡ moved_out S.writes r out.old byte) }
 {
