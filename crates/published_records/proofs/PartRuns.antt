@@ -36,14 +36,17 @@ decimal_part : (m : ℕ) → m < part_digits → decimal_column m ≡ Part
 unfolding decimal_column
 decimal_part m h = grind (arith, nat_tests)
 
-kind_a : (k : ℕ) → a_last < k + part_digits → k ≤ a_last → term_column k ≡ Part
-kind_a k p h = column_a k (omega arith) h ∙ decimal_part (a_last - k) (omega arith)
-
-kind_b : (k : ℕ) → b_last < k + part_digits → k ≤ b_last → term_column k ≡ Part
-kind_b k p h = column_b k (omega arith) h ∙ decimal_part (b_last - k) (omega arith)
-
-kind_c : (k : ℕ) → c_last < k + part_digits → k ≤ c_last → term_column k ≡ Part
-kind_c k p h = column_c k (omega arith) h ∙ decimal_part (c_last - k) (omega arith)
+-- The last columns of a field that ends there take parts.
+in_field : (last k : ℕ) → term_column k ≡ decimal_column (last - k) → last < k + part_digits → k ≤ last → a_first + part_digits ≤ last → last ≤ c_last
+    → (b_first ≤ last → b_first + part_digits ≤ last) → (c_first ≤ last → c_first + part_digits ≤ last) → PartColumn k
+in_field last k e p h a m b c =
+    record {
+      kind = e ∙ decimal_part (last - k) (omega arith);
+      not_a = λ q. omega (arith, q);
+      not_b = λ q. let g = b (omega (arith, q)) in omega (arith, q, g);
+      not_c = λ q. let g = c (omega (arith, q)) in omega (arith, q, g);
+      below = omega arith;
+    }
 
 -- Fewer columns on than a field has of them.
 left_small : (m n : ℕ) → n < parts_left m → (m < part_digits) × (n ≤ m)
@@ -57,42 +60,18 @@ unfolding part_columns
 part_column c n h =
     by_cases (ltb c a_first) (λ p. let g : n < 0 = rw p at h in absurd (omega arith))
     (λ p. let after : a_first ≤ c = ltb-false _ _ p in by_cases (leb c a_last)
-    (λ q. let before : c ≤ a_last = leb-true _ _ q in let few = left_small (a_last - c) n (rw (p, q) at h) in in_a after before few)
+    (λ q. let before : c ≤ a_last = leb-true _ _ q in let few = left_small (a_last - c) n (rw (p, q) at h) in
+    in_field a_last (c + n) (column_a (c + n) (omega arith) (omega (arith, few)))
+    (omega (arith, few)) (omega (arith, few)) (omega arith) (omega arith) (λ g. omega (arith, g)) (λ g. omega (arith, g)))
     (λ q. let past_a : a_last < c = leb-false _ _ q in by_cases (leb c b_last)
-    (λ s. let before : c ≤ b_last = leb-true _ _ s in let few = left_small (b_last - c) n (rw (p, q, s) at h) in in_b past_a before few)
+    (λ s. let before : c ≤ b_last = leb-true _ _ s in let few = left_small (b_last - c) n (rw (p, q, s) at h) in
+    in_field b_last (c + n) (column_b (c + n) (omega arith) (omega (arith, few)))
+    (omega (arith, few)) (omega (arith, few)) (omega arith) (omega arith) (λ g. omega arith) (λ g. omega (arith, g)))
     (λ s. let past_b : b_last < c = leb-false _ _ s in by_cases (leb c c_last)
-    (λ t. let before : c ≤ c_last = leb-true _ _ t in let few = left_small (c_last - c) n (rw (p, q, s, t) at h) in in_c past_b before few)
+    (λ t. let before : c ≤ c_last = leb-true _ _ t in let few = left_small (c_last - c) n (rw (p, q, s, t) at h) in
+    in_field c_last (c + n) (column_c (c + n) (omega arith) (omega (arith, few)))
+    (omega (arith, few)) (omega (arith, few)) (omega arith) (omega arith) (λ g. omega arith) (λ g. omega arith))
     (λ t. let g : n < 0 = rw (p, q, s, t) at h in absurd (omega arith)))))
-  where
-    in_a : a_first ≤ c → c ≤ a_last → (a_last - c < part_digits) × (n ≤ a_last - c) → PartColumn (c + n)
-    in_a p q f =
-        record {
-          kind = kind_a (c + n) (omega arith) (omega arith);
-          not_a = λ e. omega (arith, e);
-          not_b = λ e. omega (arith, e);
-          not_c = λ e. omega (arith, e);
-          below = omega arith;
-        }
-
-    in_b : a_last < c → c ≤ b_last → (b_last - c < part_digits) × (n ≤ b_last - c) → PartColumn (c + n)
-    in_b p q f =
-        record {
-          kind = kind_b (c + n) (omega arith) (omega arith);
-          not_a = λ e. omega (arith, e);
-          not_b = λ e. omega (arith, e);
-          not_c = λ e. omega (arith, e);
-          below = omega arith;
-        }
-
-    in_c : b_last < c → c ≤ c_last → (c_last - c < part_digits) × (n ≤ c_last - c) → PartColumn (c + n)
-    in_c p q f =
-        record {
-          kind = kind_c (c + n) (omega arith) (omega arith);
-          not_a = λ e. omega (arith, e);
-          not_b = λ e. omega (arith, e);
-          not_c = λ e. omega (arith, e);
-          below = omega arith;
-        }
 
 -- ---- A digit.
 

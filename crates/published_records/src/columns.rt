@@ -17,7 +17,7 @@ pub const COUNT_FIRST: u64 = 61;
 
 pub const COUNT_LAST: u64 = 67;
 
-// The columns of a term; specs/Layout.antt has the same names.
+// The columns of a term; specs/Layout.antt has the same names. They are constants and no table of fields: a range in a pattern names constants.
 pub const NUMBER_FIRST: u64 = 6;
 
 pub const NUMBER_LAST: u64 = 10;
