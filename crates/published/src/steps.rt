@@ -128,12 +128,9 @@ impl Published {
         ensures { (result ≡ judged self out.old)
             × (out.new ≡ wrote_out self.reader out.old (verdict self)) }
     {
-        let reader = match self.end_row(out) {
-            Ok(reader) => reader,
-            Err(fault) => self.reader.refused(fault),
-        };
+        let r = self.reader;
         Published {
-            reader,
+            reader: self.end_row(out).unwrap_or_else(|fault| r.refused(fault)),
             row: Row::fresh(),
             last: self.next_last(),
         }
