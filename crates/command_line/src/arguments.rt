@@ -24,13 +24,11 @@ const SECOND_MS: u64 = MINUTE_MS / SECONDS;
 // The bytes that the argument of a number may have; one that is longer is no number.
 const ARGUMENT_MOST: usize = 16;
 
-// Argument i. One that is missing or too long is read as an empty one, which is no number.
+// Argument i. One that is missing or too long is no number.
 pub fn number_argument(rt: &impl Env, i: usize) -> Option<i64> {
     let mut text = [0u8; ARGUMENT_MOST];
-    match rt.arg(i, &mut text) {
-        Ok(n) => number_of(&text[..n]),
-        Err(_) => number_of(b""),
-    }
+    let n = rt.arg(i, &mut text).ok()?;
+    number_of(&text[..n])
 }
 
 // Three numbers in a row.
@@ -45,36 +43,21 @@ pub struct Triple {
 pub fn three_arguments(rt: &impl Env, i: usize) -> Option<Triple>
     requires { i ≤ argument_limit }
 {
-    let Some(first) = number_argument(rt, i) else {
-        return None;
-    };
-    let Some(second) = number_argument(rt, i + 1) else {
-        return None;
-    };
-    let Some(third) = number_argument(rt, i + 2) else {
-        return None;
-    };
     Some(Triple {
-        first,
-        second,
-        third,
+        first: number_argument(rt, i)?,
+        second: number_argument(rt, i + 1)?,
+        third: number_argument(rt, i + 2)?,
     })
 }
 
-// The milliseconds of a clock time, or -1, which no day has.
+// The milliseconds of a clock time, or -1, which no day has: a number and not an Option, since the calendar takes any and refuses this one.
 fn ms_of_day(hour: i64, minute: i64, second: i64) -> i64
     ensures { result ≡ ms_of_day hour minute second }
 {
     let h = natural_or(hour, HOURS);
     let m = natural_or(minute, MINUTES);
     let s = natural_or(second, SECONDS);
-    if HOURS <= h {
-        return -1;
-    }
-    if MINUTES <= m {
-        return -1;
-    }
-    if SECONDS <= s {
+    if HOURS <= h || MINUTES <= m || SECONDS <= s {
         return -1;
     }
     wide(HOUR_MS * h + MINUTE_MS * m + SECOND_MS * s)

@@ -30,6 +30,7 @@ pub fn read_piece<R: Read>(from: &mut R, into: &mut [u8]) -> usize
 pub fn read_full<R: Read>(from: &mut R, into: &mut [u8]) -> usize
     ensures { result ≤ length into.new }
 {
+    // A `while` and not a `for`: a turn reads as many bytes as come.
     let mut done = 0;
     while done < into.len() {
         let n = read_piece(from, &mut into[done..]);
@@ -41,27 +42,21 @@ pub fn read_full<R: Read>(from: &mut R, into: &mut [u8]) -> usize
     done
 }
 
-// How many bytes a file had; or that it was not read, which is then told on standard output.
-#[derive(Drop)]
-enum Contents {
-    Bytes(usize),
-    Unread,
-}
-
-fn no_file(rt: &impl Print, whose: &[u8]) -> io::Result<Contents> {
+fn no_file(rt: &impl Print, whose: &[u8]) -> io::Result<Option<usize>> {
     rt.write_all(b"no file for ")?;
     rt.write_all(whose)?;
     rt.write_all(b"\n")?;
-    Ok(Contents::Unread)
+    Ok(None)
 }
 
-// Reads the file that argument i names, the series of this body, into a buffer that is longer than any file that is taken.
+// Reads the file that argument i names, the series of this body, into a buffer that is longer than any file that is taken, and answers how many
+// bytes it had; or that it was not read, which is then told on standard output.
 fn read_series<R: Env + Files + Print>(
     rt: &R,
     i: usize,
     whose: &[u8],
     into: &mut [u8],
-) -> io::Result<Contents> {
+) -> io::Result<Option<usize>> {
     let mut name = [0u8; NAME_MOST];
     let Ok(n) = rt.arg(i, &mut name) else {
         return no_file(rt, whose);
@@ -75,35 +70,28 @@ fn read_series<R: Env + Files + Print>(
     let got = read_full(&mut file, into);
     if into.len() <= got {
         rt.write_all(b"too long\n")?;
-        return Ok(Contents::Unread);
+        return Ok(None);
     }
-    Ok(Contents::Bytes(got))
+    Ok(Some(got))
 }
 
-// How many bytes the two files of a program had; or that one was not read.
-#[derive(Drop)]
-pub enum Both {
-    Bytes(usize, usize),
-    Unread,
-}
-
-// Reads the files that argument `first` and the next one name, the planet's series and Earth's. It fails only where what is told cannot be
-// written.
+// Reads the files that argument `first` and the next one name, the planet's series and Earth's, and answers how many bytes each had; or that one
+// was not read. It fails only where what is told cannot be written.
 pub fn read_both<R: Env + Files + Print>(
     rt: &R,
     first: usize,
     planet: &mut [u8],
     earth: &mut [u8],
-) -> io::Result<Both>
+) -> io::Result<Option<(usize, usize)>>
     requires { first ≤ argument_limit }
 {
-    let Contents::Bytes(m) = read_series(rt, first, b"the planet", planet)? else {
-        return Ok(Both::Unread);
+    let Some(m) = read_series(rt, first, b"the planet", planet)? else {
+        return Ok(None);
     };
-    let Contents::Bytes(n) = read_series(rt, first + 1, b"Earth", earth)? else {
-        return Ok(Both::Unread);
+    let Some(n) = read_series(rt, first + 1, b"Earth", earth)? else {
+        return Ok(None);
     };
-    Ok(Both::Bytes(m, n))
+    Ok(Some((m, n)))
 }
 
 // The first n bytes; all, where there are no more.

@@ -1,6 +1,4 @@
 -- The laws of decimals, in reading order; Theorems has what is published.
--- What the functions that write leave in the output.
-pub mod Puts
 -- The digits that are written, and a sign before them.
 pub mod Digits
 -- The loop that reads digits, and the sign.

@@ -18,7 +18,7 @@ unfolding value
 grows v [] = omega arith
 grows v (b ∷ ds) = omega (arith, grows (10 * v + (b - zero_digit)) ds)
 
-digits_read : (v : ℕ) (ds : List ℕ) → Digits ds → value v ds < too_great → digits_after v ds ≡ value v ds
+digits_read : (v : ℕ) (ds : List ℕ) → Digits ds → value v ds < too_great → digits_after v ds ≡ Some (value v ds)
 unfolding value digits_after
 digits_read v [] d h = refl
 digits_read v (b ∷ ds) d h =
@@ -27,31 +27,31 @@ digits_read v (b ∷ ds) d h =
     rw (le-ltb b zero_digit d.0, le-ltb nine_digit b d.1, lt-leb (too_great / 10) v k) (digits_read (10 * v + (b - zero_digit)) ds d.2 h)
 
 -- Bytes that are read are digits, and their value is what they are.
-record AreDigits (v : ℕ) (bs : List ℕ) : Type 0 where
+record AreDigits (v : ℕ) (bs : List ℕ) (w : ℕ) : Type 0 where
   digits : Digits bs
   small : value v bs < too_great
-  is : digits_after v bs ≡ value v bs
+  is : w ≡ value v bs
 
-only_digits : (v : ℕ) (bs : List ℕ) → v < too_great → (digits_after v bs ≡ too_great → ⊥) → AreDigits v bs
+only_digits : (v : ℕ) (bs : List ℕ) (w : ℕ) → v < too_great → digits_after v bs ≡ Some w → AreDigits v bs w
 unfolding value digits_after
-only_digits v [] h n = record { digits = tt; small = h; is = refl }
-only_digits v (b ∷ bs) h n = go (dec_le zero_digit b) (dec_le b nine_digit) (dec_le (too_great / 10) v) (only_digits (10 * v + (b - zero_digit)) bs)
+only_digits v [] w h e = let is : v ≡ w = cc in record { digits = tt; small = h; is = sym is }
+only_digits v (b ∷ bs) w h e = go (dec_le zero_digit b) (dec_le b nine_digit) (dec_le (too_great / 10) v) (only_digits (10 * v + (b - zero_digit)) bs w)
   where
-    u : ℕ
-    u = 10 * v + (b - zero_digit)
+    none : ◌≡◌ {A = Option ℕ} None (Some w) → AreDigits v (b ∷ bs) w
+    none q = absurd (cc)
 
     go : Dec (zero_digit ≤ b) → Dec (b ≤ nine_digit) → Dec (too_great / 10 ≤ v)
-        → (10 * v + (b - zero_digit) < too_great → (digits_after (10 * v + (b - zero_digit)) bs ≡ too_great → ⊥) → AreDigits (10 * v + (b - zero_digit)) bs)
-        → AreDigits v (b ∷ bs)
-    go (no l) m k r = let x : b < zero_digit = omega (arith, l) in absurd (n (rw (lt-ltb b zero_digit x)))
-    go (yes l) (no m) k r = let x : nine_digit < b = omega (arith, m) in absurd (n (rw (le-ltb b zero_digit l, lt-ltb nine_digit b x)))
-    go (yes l) (yes m) (yes k) r = absurd (n (rw (le-ltb b zero_digit l, le-ltb nine_digit b m, le-leb (too_great / 10) v k)))
+        → (10 * v + (b - zero_digit) < too_great → digits_after (10 * v + (b - zero_digit)) bs ≡ Some w → AreDigits (10 * v + (b - zero_digit)) bs w)
+        → AreDigits v (b ∷ bs) w
+    go (no l) m k r = let x : b < zero_digit = omega (arith, l) in none (rw (lt-ltb b zero_digit x) at e)
+    go (yes l) (no m) k r = let x : nine_digit < b = omega (arith, m) in none (rw (le-ltb b zero_digit l, lt-ltb nine_digit b x) at e)
+    go (yes l) (yes m) (yes k) r = none (rw (le-ltb b zero_digit l, le-ltb nine_digit b m, le-leb (too_great / 10) v k) at e)
     go (yes l) (yes m) (no k) r =
         let x : v < too_great / 10 = omega (arith, k) in
-        let s : digits_after v (b ∷ bs) ≡ digits_after (10 * v + (b - zero_digit)) bs =
-        rw (le-ltb b zero_digit l, le-ltb nine_digit b m, lt-leb (too_great / 10) v x) in
-        let a = r (omega arith) (λ q. n (s ∙ q)) in
-        record { digits = (l, m, a.digits); small = a.small; is = s ∙ a.is }
+        let s : digits_after (10 * v + (b - zero_digit)) bs ≡ Some w =
+        rw (le-ltb b zero_digit l, le-ltb nine_digit b m, lt-leb (too_great / 10) v x) at e in
+        let a = r (omega arith) s in
+        record { digits = (l, m, a.digits); small = a.small; is = a.is }
 
 -- A text that is a number is read as this.
 pub numeral_taken : (bytes : List ℕ) (n : ℤ) → Numeral nine_digits bytes n → number_of bytes ≡ Some n
@@ -63,7 +63,7 @@ numeral_taken bytes n t = rw (t.bytes_are, t.is) (go t.minus t.first t.more t.de
     size minus b ds d =
         let l = d.small in
         let k : value 0 (b ∷ ds) < too_great = omega arith in
-        rw (digits_read 0 (b ∷ ds) d.digits k, ne_eqb (value 0 (b ∷ ds)) too_great (λ q. omega (arith, q)))
+        rw (digits_read 0 (b ∷ ds) d.digits k)
 
     go : (minus : Bool) (b : ℕ) (ds : List ℕ) → Decimal nine_digits minus b ds
         → number_of (written minus (b ∷ ds)) ≡ Some (sgn minus (value 0 (b ∷ ds)))
@@ -75,22 +75,19 @@ numeral_taken bytes n t = rw (t.bytes_are, t.is) (go t.minus t.first t.more t.de
 -- And only such a text.
 pub taken_numeral : (bytes : List ℕ) (n : ℤ) → number_of bytes ≡ Some n → Numeral nine_digits bytes n
 unfolding number_of signed_read all_digits
-taken_numeral [] n e = let z : ◌≡◌ {A = ℕ} 0 1 = cc in absurd (omega arith)
+taken_numeral [] n e = absurd (cc)
 taken_numeral (b ∷ bs) n e = go (ℕ_discrete b minus_sign)
   where
     sized : (minus : Bool) (ds : List ℕ) → signed_read minus (all_digits ds) ≡ Some n → Numeral nine_digits (written minus ds) n
-    sized minus [] e = let z : ◌≡◌ {A = ℕ} 0 1 = cc in absurd (omega arith)
-    sized minus (d ∷ ds) e = at (ℕ_discrete (digits_after 0 (d ∷ ds)) too_great)
+    sized minus [] e = absurd (cc)
+    sized minus (d ∷ ds) e = at (digits_after 0 (d ∷ ds)) refl
       where
-        at : Dec (digits_after 0 (d ∷ ds) ≡ too_great) → Numeral nine_digits (written minus (d ∷ ds)) n
-        at (yes q) =
-            let f : None ≡ Some n = rw (eq-eqb (digits_after 0 (d ∷ ds)) too_great q) at e in
-            let z : ◌≡◌ {A = ℕ} 0 1 = cc in
-            absurd (omega arith)
-        at (no q) =
-            let a = only_digits 0 (d ∷ ds) (omega arith) q in
-            let f : Some (sgn minus (digits_after 0 (d ∷ ds))) ≡ Some n = rw (ne_eqb (digits_after 0 (d ∷ ds)) too_great q) at e in
-            let g : sgn minus (digits_after 0 (d ∷ ds)) ≡ n = cc in
+        at : (r : Option ℕ) → digits_after 0 (d ∷ ds) ≡ r → Numeral nine_digits (written minus (d ∷ ds)) n
+        at None q = let f : ◌≡◌ {A = Option ℤ} None (Some n) = rw q at e in absurd (cc)
+        at (Some w) q =
+            let a = only_digits 0 (d ∷ ds) w (omega arith) q in
+            let f : Some (sgn minus w) ≡ Some n = rw q at e in
+            let g : sgn minus w ≡ n = cc in
             record {
               minus = minus;
               first = d;

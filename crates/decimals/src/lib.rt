@@ -1,4 +1,4 @@
-// Whole numbers as decimals: written into a lent buffer, and read. All of this is for crates above, which lend room enough.
+// A buffer for what is printed; whole numbers as decimals, written into it, and read. All of this is for crates above.
 #![tactic(auto)]
 
 pub mod buffer;

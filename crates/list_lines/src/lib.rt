@@ -12,7 +12,7 @@ ghost use Rattle.command_line.specs.Machine.Arguments.{first_limit};
 
 use crate::answer::{LIST_MOST, put_list};
 use command_line::arguments::{Triple, number_argument, three_arguments};
-use command_line::files::{Both, first_bytes, read_both};
+use command_line::files::{first_bytes, read_both};
 use decimals::buffer::Buffer;
 use std::env::Env;
 use std::fs::Files;
@@ -71,7 +71,7 @@ fn list_of_files<R: Env + Files + Print>(
 ) -> io::Result<()>
     requires { first ≤ first_limit }
 {
-    let Both::Bytes(m, n) = read_both(rt, first, planet, earth)? else {
+    let Some((m, n)) = read_both(rt, first, planet, earth)? else {
         return Ok(());
     };
     print_list(

@@ -14,82 +14,41 @@ use units::Refusal;
 // How much is read at once.
 const PIECE: usize = 16384;
 
-// Both readers, and whether there may be more input.
-#[derive(Drop)]
-struct State {
-    reader: Reader,
-    file: Published,
-    more: bool,
-}
-
-// Reads once and hands what came to both readers, each with a buffer of its own.
-fn step<R: Read>(
+// Reads to the end and hands each piece to both readers, each with a buffer of its own. A proved loop has to end, and nothing says that the input
+// does: so it has more turns than any input uses up.
+fn read_all<R: Read>(
     input: &mut R,
-    reader: Reader,
-    file: Published,
     text_out: &mut [u8],
     file_out: &mut [u8],
-) -> State {
+) -> (Reader, Published) {
     let mut piece = [0u8; PIECE];
-    let n = read_piece(input, &mut piece);
-    if n == 0 {
-        return State {
-            reader,
-            file,
-            more: false,
-        };
+    let mut reader = text::start();
+    let mut file = published::start();
+    for _ in 0..u64::MAX {
+        let n = read_piece(input, &mut piece);
+        if n == 0 {
+            break;
+        }
+        reader = text::piece(reader, &piece[..n], text_out);
+        file = published::piece(file, &piece[..n], file_out);
     }
-    let next = text::piece(reader, &piece[..n], text_out);
-    let further = published::piece(file, &piece[..n], file_out);
-    State {
-        reader: next,
-        file: further,
-        more: true,
-    }
-}
-
-// A proved loop has to end, and nothing says that the input does: the turns are counted down from a number that no input uses up.
-fn read_all<R: Read>(input: &mut R, text_out: &mut [u8], file_out: &mut [u8]) -> State {
-    let mut state = State {
-        reader: text::start(),
-        file: published::start(),
-        more: true,
-    };
-    let mut turns = u64::MAX;
-    while turns > 0 && state.more {
-        let reader = state.reader;
-        let file = state.file;
-        state = step(input, reader, file, text_out, file_out);
-        turns -= 1;
-    }
-    state
+    (reader, file)
 }
 
 // Refused at its line feed: out of order, or with a count over its limit.
 fn judged(refusal: Refusal) -> bool {
-    match refusal {
-        Refusal::BadHeading(_) => true,
-        Refusal::OverLimit(_) => true,
-        _ => false,
-    }
+    matches!(refusal, Refusal::BadHeading(_) | Refusal::OverLimit(_))
 }
 
 // The first line has the digits of a heading in their columns, up to its count: it was judged as one, or the count comes next. (No line of a
 // text is so long.)
 fn heading_came(p: Published) -> bool {
-    let reader = p.reader;
-    if 0 < reader.blocks {
+    if 0 < p.reader.blocks || COUNT_FIRST <= p.row.column {
         return true;
     }
-    let row = p.row;
-    if COUNT_FIRST <= row.column {
-        return true;
-    }
-    let outcome = published::answer(p);
-    match outcome {
+    match published::answer(p) {
         Outcome::Refused(refusal) => judged(refusal),
-        Outcome::More(_) => false,
-        Outcome::Accepted(_) => false,
+        _ => false,
     }
 }
 
@@ -115,19 +74,15 @@ fn convert<R: Read, W: Write, E: Write>(
     text_out: &mut [u8],
     file_out: &mut [u8],
 ) -> io::Result<()> {
-    let state = read_all(input, text_out, file_out);
-    let file = state.file;
+    let (reader, file) = read_all(input, text_out, file_out);
     if heading_came(file) {
         // A remark that cannot be told does not keep the packed form from coming.
-        match errors.write_all(b"read as a published file\n") {
-            Ok(()) => {}
-            Err(_) => {}
-        }
+        let _ = errors.write_all(b"read as a published file\n");
         let ended = published::end(file, file_out);
         return write_outcome(output, errors, published::answer(ended), file_out);
     }
-    let reader = text::end(state.reader, text_out);
-    write_outcome(output, errors, series_lines::answer(reader), text_out)
+    let ended = text::end(reader, text_out);
+    write_outcome(output, errors, series_lines::answer(ended), text_out)
 }
 
 // There is room for every series: the theorems of proofs/Room.antt.

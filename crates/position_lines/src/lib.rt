@@ -13,7 +13,7 @@ ghost use Rattle.command_line.specs.Machine.Arguments.{first_limit};
 use crate::answer::put_position;
 use crate::lines::PLACE_MOST;
 use command_line::arguments::{Triple, three_arguments};
-use command_line::files::{Both, PACKED_ROOM, first_bytes, read_both};
+use command_line::files::{PACKED_ROOM, first_bytes, read_both};
 use decimals::buffer::Buffer;
 use std::env::Env;
 use std::fs::Files;
@@ -62,7 +62,7 @@ fn position_of_files<R: Env + Files + Print>(
 ) -> io::Result<()>
     requires { first ≤ first_limit }
 {
-    let Both::Bytes(m, n) = read_both(rt, first, planet, earth)? else {
+    let Some((m, n)) = read_both(rt, first, planet, earth)? else {
         return Ok(());
     };
     print_position(

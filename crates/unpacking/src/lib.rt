@@ -13,6 +13,7 @@ use units::Refusal;
 
 // The text of the input, of which the first n packed bytes are all or, where they fill the buffer, the beginning: whatever follows,
 // the whole input is then refused as they are, by the theorem `decided` of packed_promises/proofs/Theorems.antt.
+// The buffer with n, and not its first n bytes alone: only where these fill it may more have come.
 fn text_of(packed: &[u8], n: usize, text: &mut [u8]) -> Result<usize, Refusal>
     requires { Roomy n packed.now text.old }
     ensures { AnswersAny n packed.now text.old result text.new }
@@ -30,8 +31,7 @@ fn convert<W: Write, E: Write>(
 ) -> io::Result<()>
     requires { Roomy n packed.now text.old }
 {
-    let printed = text_of(packed, n, text);
-    match printed {
+    match text_of(packed, n, text) {
         Ok(k) => write_first(output, text, k),
         Err(refusal) => write_refusal(errors, refusal),
     }

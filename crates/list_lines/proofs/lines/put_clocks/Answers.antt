@@ -1,27 +1,18 @@
 -- `put_clocks` meets its contract. Assumes nothing.
-use Rattle.std.proofs.Common.{◌+◌, ◌%◌, arith, rules}
+use Rattle.std.proofs.Common.{arith, rules}
 use Rattle.std.proofs.lemmas.Grind.{common_steps}
 use Rattle.decimals.specs.Texts.{text}
 use Rattle.list_lines.proofs.WrittenRuns.{clock_length, same_minute, clocks_put}
 use Rattle.list_lines.proofs.lines.put_clocks.Goals as goal
 
 pub put-requires : goal.put-requires
-put-requires g c = (search rules, grind (arith, common_steps, clock_length ((c.args.start % 1440 + c.args.first % 1440) % 1440)))
+put-requires g c = (search rules, grind (arith, common_steps, clock_length))
 
 pub put_clock-requires-2 : goal.put_clock-requires-2
-put_clock-requires-2 g c =
-    (search rules, (omega arith, grind (arith, common_steps, clock_length ((c.args.start % 1440 + c.args.first % 1440) % 1440))))
+put_clock-requires-2 g c = (search rules, (omega arith, grind (arith, common_steps, clock_length)))
 
 pub put-requires-2 : goal.put-requires-2
-put-requires-2 g c = (
-  search rules,
-  grind (
-    arith,
-    common_steps,
-    clock_length ((c.args.start % 1440 + c.args.first % 1440) % 1440),
-    clock_length ((c.args.start % 1440 + c.args.last % 1440) % 1440),
-  ),
-)
+put-requires-2 g c = (search rules, grind (arith, common_steps, clock_length))
 
 pub returns : goal.returns
 unfolding text

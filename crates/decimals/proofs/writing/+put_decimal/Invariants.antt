@@ -1,5 +1,0 @@
--- `put_decimal` calls itself with one place less.
-use Rattle.decimals.proofs.writing.+put_decimal.Given as goal
-
-abbrev pub decreases-put_decimal : goal.decreases-put_decimal
-decreases-put_decimal l = l.places
