@@ -362,6 +362,7 @@ pub fn of_list(a: Result<u64, Refusal>) -> One
     }
 }
 
+// Two answers of three numbers: each names its own fields.
 pub fn of_coordinates(a: Result<Coordinates, Refusal>) -> Three
     ensures { result ≡ coordinates_shown a }
 {

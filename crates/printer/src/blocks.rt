@@ -1,4 +1,5 @@
 // Blocks: the lengths of their texts, and writing them into a buffer with room. For this crate alone.
+// Here and in lines.rt and digits.rt a length is worked apart from writing, and first: a text that does not fit leaves the buffer as it was.
 ghost use Rattle.std.specs.Prelude.{◌≡◌, length, ◌+◌, ◌-◌, ◌*◌, ◌≤◌};
 ghost use Rattle.units.specs.Units.{series_limit};
 ghost use Rattle.packed.specs.Machine.Table.{ends, table_blocks};

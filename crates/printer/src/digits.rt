@@ -1,4 +1,5 @@
 // Digits and decimals: their lengths, and writing them into a buffer with room. For this crate alone.
+// The buffer is lent by the caller and of any length, so it is a slice with the place in it beside: decimals::Buffer has its room in its type.
 ghost use Rattle.std.specs.Prelude.{◌≡◌, [], ◌∷◌, length, ◌+◌, ◌≤◌};
 ghost use Rattle.series_lines.specs.Grammar.{sign, digits, decimal};
 ghost use Rattle.printer.specs.Printer.{last_digits, further_digits, plain_decimal};
@@ -19,6 +20,7 @@ fn further_digits(v: u64) -> usize
 {
     let mut x = v;
     let mut n = 0;
+    // No `for`: the number tells where its digits end. packed_numbers::groups_of is like it, but its groups are another written form.
     while 10 <= x {
         x /= 10;
         n += 1;
