@@ -63,7 +63,8 @@ fn ms_of_day(hour: i64, minute: i64, second: i64) -> i64
     wide(HOUR_MS * h + MINUTE_MS * m + SECOND_MS * s)
 }
 
-// The instant of a date and a clock time.
+// The instant of a date and a clock time. Six numbers and not two structs, as the calendar's calls have them: they are whatever the arguments say,
+// and need not be a date or a time.
 pub fn instant_of_clock(
     year: i64,
     month: i64,
