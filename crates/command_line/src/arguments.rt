@@ -31,23 +31,15 @@ pub fn number_argument(rt: &impl Env, i: usize) -> Option<i64> {
     number_of(&text[..n])
 }
 
-// Three numbers in a row.
-#[derive(Clone, Copy)]
-pub struct Triple {
-    pub first: i64,
-    pub second: i64,
-    pub third: i64,
-}
-
 // Arguments i, i + 1 and i + 2.
-pub fn three_arguments(rt: &impl Env, i: usize) -> Option<Triple>
+pub fn three_arguments(rt: &impl Env, i: usize) -> Option<[i64; 3]>
     requires { i ≤ argument_limit }
 {
-    Some(Triple {
-        first: number_argument(rt, i)?,
-        second: number_argument(rt, i + 1)?,
-        third: number_argument(rt, i + 2)?,
-    })
+    Some([
+        number_argument(rt, i)?,
+        number_argument(rt, i + 1)?,
+        number_argument(rt, i + 2)?,
+    ])
 }
 
 // The milliseconds of a clock time, or -1, which no day has: a number and not an Option, since the calendar takes any and refuses this one.

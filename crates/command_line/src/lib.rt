@@ -3,4 +3,5 @@
 
 pub mod arguments;
 pub mod files;
+pub mod moments;
 pub mod words;

@@ -8,7 +8,7 @@ use lib.IntN.{ℤ}
 use lib.ListN.{length, length-append}
 use Rattle.units.specs.declared.Instant.{Instant}
 use Rattle.units.specs.declared.Refusal.{Refusal}
-use Rattle.std.specs.Prelude.{Err, Ok, Result}
+use Rattle.std.specs.Prelude.{Err, IfOk, Ok, Result}
 use Rattle.decimals.specs.Texts.{text}
 use Rattle.refusal_words.specs.Words.{refusal_text}
 use Rattle.sunlist.specs.Demand.{first_minute, last_minute}
@@ -60,32 +60,29 @@ module _ (old new : List ℕ) where
   some_runs start numbers zero e h = absurd (e refl)
   some_runs start numbers (suc n) e h = h
 
-  -- The call's answer a and output n are the definitions' b and m.
-  pub runs_answered : (start : ℕ) (n m : List ℕ) (a b : Result ℕ Refusal) (count : ℕ) → n ≡ m → a ≡ b → a ≡ Ok count
-      → new ≡ old ++ (runs_text start n (count / 2)) → new ≡ old ++ answer_text start m b
+  pub runs_told : (start : ℕ) (numbers x : List ℕ) (a : Result ℕ Refusal) (count : ℕ) → answer_text start numbers a ≡ x → a ≡ Ok count
+      → new ≡ old ++ runs_text start numbers (count / 2) → new ≡ old ++ x
   unfolding answer_text
-  runs_answered start n m a b count d e f h = rw (← d, ← e, f) h
+  runs_told start numbers x a count e f h = rw (← e, f) h
 
-  pub refusal_answered : (start : ℕ) (m : List ℕ) (a b : Result ℕ Refusal) (r : Refusal) → a ≡ b → a ≡ Err r
-      → new ≡ old ++ refusal_text r → new ≡ old ++ answer_text start m b
+  pub refusal_told : (start : ℕ) (numbers x : List ℕ) (a : Result ℕ Refusal) (r : Refusal) → answer_text start numbers a ≡ x → a ≡ Err r
+      → new ≡ old ++ refusal_text r → new ≡ old ++ x
   unfolding answer_text
-  refusal_answered start m a b r e f h = rw (← e, f) h
+  refusal_told start numbers x a r e f h = rw (← e, f) h
 
-  module _ (planet earth : List ℕ) (from : Result Instant Refusal) (start : ℕ) (minutes keep_out : ℤ) where
-    pub at_instant : (t0 : Instant) → from ≡ Ok t0
-        → new ≡ old ++ (answer_text start (sun_list_out planet earth t0 minutes keep_out lent_numbers)
-        (sun_list planet earth t0 minutes keep_out (length lent_numbers)))
-        → new ≡ old ++ list_text planet earth from start minutes keep_out
-    unfolding list_text
-    at_instant t0 e h = rw e h
+-- ---- the list from an instant on, and the refusal of one
+module _ (planet earth : List ℕ) (from : Result Instant Refusal) (start : ℕ) (minutes keep_out : ℤ) where
+  pub at_instant : (t0 : Instant) (numbers : List ℕ) (a : Result ℕ Refusal) → from ≡ Ok t0 → numbers ≡ sun_list_out planet earth t0 minutes keep_out lent_numbers
+      → a ≡ sun_list planet earth t0 minutes keep_out (length lent_numbers)
+      → answer_text start numbers a ≡ list_text planet earth from start minutes keep_out
+  unfolding list_text
+  at_instant t0 numbers a e f h = rw (e, f, h)
 
-    pub no_instant : (r : Refusal) → from ≡ Err r → new ≡ old ++ refusal_text r
-        → new ≡ old ++ list_text planet earth from start minutes keep_out
-    unfolding list_text
-    no_instant r e h = rw e h
+  pub no_instant : (numbers : List ℕ) (r : Refusal) → from ≡ Err r → answer_text start numbers (Err r) ≡ list_text planet earth from start minutes keep_out
+  unfolding list_text answer_text
+  no_instant numbers r e = rw e
 
-  -- What stands in the machine is what was asked for.
-  pub same_window : (planet earth : List ℕ) (from asked : Result Instant Refusal) (start begin : ℕ) (m minutes k keep_out : ℤ)
-      → new ≡ old ++ list_text planet earth from start m k → from ≡ asked → start ≡ begin → m ≡ minutes → k ≡ keep_out
-      → new ≡ old ++ list_text planet earth asked begin minutes keep_out
-  same_window planet earth from asked start begin m minutes k keep_out h d e f g = rw (← d, ← e, ← f, ← g) h
+-- ---- what holds of each count that is answered
+pub if_answered : (a : Result ℕ Refusal) (P : ℕ → Type 0) → ((n : ℕ) → a ≡ Ok n → P n) → IfOk a P
+if_answered (Ok n) P h = h n refl
+if_answered (Err r) P h = tt

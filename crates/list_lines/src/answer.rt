@@ -1,17 +1,17 @@
 // What the program prints for two series, a time, how many minutes, and a keep-out, written into a buffer. All of this is for lib.rt.
-ghost use Rattle.std.specs.Prelude.{◌≡◌, ◌+◌, ◌*◌, ◌≤◌, ◌++◌, pos, length};
+ghost use Rattle.std.specs.Prelude.{◌≡◌, ℕ, ◌+◌, ◌*◌, ◌≤◌, ◌++◌, length, IfOk};
 ghost use Rattle.command_line.specs.Clock.{instant_of_clock, minute_of_day};
-ghost use Rattle.sunlist.specs.SunList.{sun_list, sun_list_out};
+ghost use Rattle.runs.specs.Runs.{most_minutes};
 ghost use Rattle.list_lines.specs.Lines.{run_most};
 ghost use Rattle.list_lines.specs.List.{run_lines, runs_text, answer_text, lent_numbers, list_text, most_runs, list_most};
 
 use crate::lines::{RUN_MOST, put_run};
-use command_line::arguments::{Triple, instant_of_clock, minute_of_day};
+use command_line::moments::Moment;
 use decimals::buffer::Buffer;
 use refusal_words::put_refusal;
 use runs::MOST_MINUTES;
 use sunlist::sun_list;
-use units::{Instant, Refusal};
+use units::Refusal;
 
 // No window has more runs; specs/List.antt has the same name.
 const MOST_RUNS: usize = MOST_MINUTES as usize / 2;
@@ -44,79 +44,46 @@ fn put_runs<const N: usize>(start: u64, numbers: &[u64], runs: usize, out: &mut 
     }
 }
 
-// The list from an instant on, or its refusal.
-fn put_answer<const N: usize>(
-    planet: &[u8],
-    earth: &[u8],
-    t0: Instant,
-    start: u64,
-    minutes: i64,
-    keep_out: i64,
-    out: &mut Buffer<N>,
-)
-    requires { length out.old + list_most ≤ N }
-    ensures { out.new ≡ out.old
-        ++ answer_text start
-        (sun_list_out planet.now earth.now t0 minutes keep_out lent_numbers)
-        (sun_list planet.now earth.now t0 minutes keep_out (length lent_numbers)) }
-{
-    let mut numbers = [0u64; MOST_MINUTES as usize];
-    let a = sun_list(planet, earth, t0, minutes, keep_out, &mut numbers);
-    match a {
-        Err(r) => put_refusal(r, out),
-        Ok(count) => put_runs(start, &numbers, (count / 2) as usize, out),
-    }
+// What is asked for: the moment at which the window begins, how many minutes it has, and the keep-out in arcminutes.
+#[derive(Clone, Copy)]
+pub struct Asked {
+    pub from: Moment,
+    pub minutes: i64,
+    pub keep_out: i64,
 }
 
-// The same where the instant may be refused.
-fn put_at<const N: usize>(
+// The list that is asked for, its numbers written into the room lent for them, and their count; or the refusal of the moment, or of the list.
+fn list_asked(
     planet: &[u8],
     earth: &[u8],
-    from: Result<Instant, Refusal>,
-    start: u64,
-    minutes: i64,
-    keep_out: i64,
-    out: &mut Buffer<N>,
-)
-    requires { length out.old + list_most ≤ N }
-    ensures { out.new ≡ out.old ++ list_text planet.now earth.now from start minutes keep_out }
+    asked: Asked,
+    numbers: &mut [u64],
+) -> Result<u64, Refusal>
+    requires { numbers.old ≡ lent_numbers }
+    ensures told { (start : ℕ) → answer_text start numbers.new result
+        ≡ list_text planet.now earth.now
+        (instant_of_clock asked.from.year asked.from.month asked.from.day asked.from.hour asked.from.minute asked.from.second)
+        start asked.minutes asked.keep_out }
+    ensures few { IfOk result (λ count. (count ≤ most_minutes) × (count ≤ length numbers.new)) }
 {
-    match from {
-        Err(r) => put_refusal(r, out),
-        Ok(t0) => put_answer(planet, earth, t0, start, minutes, keep_out, out),
-    }
+    let t0 = asked.from.instant()?;
+    sun_list(planet, earth, t0, asked.minutes, asked.keep_out, numbers)
 }
 
-// The instant of year, month and day, and hour and minute.
-fn instant_of(date: Triple, window: Triple) -> Result<Instant, Refusal>
-    ensures { result ≡ instant_of_clock date.first date.second date.third window.first window.second (pos 0) }
-{
-    instant_of_clock(
-        date.first,
-        date.second,
-        date.third,
-        window.first,
-        window.second,
-        0,
-    )
-}
-
-// All that is printed for two series, a date, a window (the hour and minute at which it begins, how many minutes it has) and a keep-out.
-pub fn put_list<const N: usize>(
-    planet: &[u8],
-    earth: &[u8],
-    date: Triple,
-    window: Triple,
-    keep_out: i64,
-    out: &mut Buffer<N>,
-)
+// All that is printed for two series and what is asked for.
+pub fn put_list<const N: usize>(planet: &[u8], earth: &[u8], asked: Asked, out: &mut Buffer<N>)
     requires { length out.old + list_most ≤ N }
     ensures { out.new ≡ out.old
         ++ list_text planet.now earth.now
-        (instant_of_clock date.first date.second date.third window.first window.second (pos 0))
-        (minute_of_day window.first window.second) window.third keep_out }
+        (instant_of_clock asked.from.year asked.from.month asked.from.day asked.from.hour asked.from.minute asked.from.second)
+        (minute_of_day asked.from.hour asked.from.minute) asked.minutes asked.keep_out }
 {
-    let from = instant_of(date, window);
-    let start = minute_of_day(window.first, window.second);
-    put_at(planet, earth, from, start, window.third, keep_out, out);
+    let mut numbers = [0u64; MOST_MINUTES as usize];
+    match list_asked(planet, earth, asked, &mut numbers) {
+        Err(r) => put_refusal(r, out),
+        Ok(count) => {
+            let start = asked.from.minute_of_day();
+            put_runs(start, &numbers, (count / 2) as usize, out);
+        }
+    }
 }

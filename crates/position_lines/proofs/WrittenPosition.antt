@@ -1,10 +1,10 @@
 -- What is printed for two series and a time is what the functions that write it leave in the output. Assumes nothing.
-use mathlib.Core.Path.{◌≡◌}
+use mathlib.Core.Path.{◌≡◌, refl}
 use mathlib.Core.List.{List, ◌++◌}
 use Prim.Native.Nat.{ℕ}
 use Rattle.units.specs.declared.Instant.{Instant}
 use Rattle.units.specs.declared.Refusal.{Refusal}
-use Rattle.std.specs.Prelude.{Err, Ok, Result}
+use Rattle.std.specs.Prelude.{Err, IfOk, Ok, Result}
 use Rattle.refusal_words.specs.Words.{refusal_text}
 use Rattle.place.specs.Place.{place_answer}
 use Rattle.place.specs.declared.Equatorial.{Equatorial}
@@ -13,20 +13,26 @@ use Rattle.position_lines.specs.Position.{answer_text, position_text}
 
 -- ---- what is written
 module _ (old new : List ℕ) where
-  pub place_answered : (a b : Result Equatorial Refusal) (p : Equatorial) → a ≡ b → a ≡ Ok p → new ≡ old ++ place_text p → new ≡ old ++ answer_text b
+  pub place_told : (a : Result Equatorial Refusal) (x : List ℕ) (p : Equatorial) → answer_text a ≡ x → a ≡ Ok p → new ≡ old ++ place_text p → new ≡ old ++ x
   unfolding answer_text
-  place_answered a b p e f h = rw (← e, f) h
+  place_told a x p e f h = rw (← e, f) h
 
-  pub refusal_answered : (a b : Result Equatorial Refusal) (r : Refusal) → a ≡ b → a ≡ Err r → new ≡ old ++ refusal_text r → new ≡ old ++ answer_text b
+  pub refusal_told : (a : Result Equatorial Refusal) (x : List ℕ) (r : Refusal) → answer_text a ≡ x → a ≡ Err r → new ≡ old ++ refusal_text r → new ≡ old ++ x
   unfolding answer_text
-  refusal_answered a b r e f h = rw (← e, f) h
+  refusal_told a x r e f h = rw (← e, f) h
 
-  pub at_instant : (planet earth : List ℕ) (when : Result Instant Refusal) (t : Instant) → when ≡ Ok t
-      → new ≡ old ++ answer_text (place_answer planet earth t) → new ≡ old ++ position_text planet earth when
+-- ---- the place at an instant, and the refusal of one
+module _ (planet earth : List ℕ) (when : Result Instant Refusal) where
+  pub at_instant : (t : Instant) (a : Result Equatorial Refusal) → when ≡ Ok t → a ≡ place_answer planet earth t
+      → answer_text a ≡ position_text planet earth when
   unfolding position_text
-  at_instant planet earth when t e h = rw e h
+  at_instant t a e f = rw (e, f)
 
-  pub no_instant : (planet earth : List ℕ) (when : Result Instant Refusal) (r : Refusal) → when ≡ Err r → new ≡ old ++ refusal_text r
-      → new ≡ old ++ position_text planet earth when
-  unfolding position_text
-  no_instant planet earth when r e h = rw e h
+  pub no_instant : (r : Refusal) → when ≡ Err r → answer_text (Err r) ≡ position_text planet earth when
+  unfolding position_text answer_text
+  no_instant r e = rw e
+
+-- ---- what holds of each place that is answered
+pub if_answered : (a : Result Equatorial Refusal) (P : Equatorial → Type 0) → ((p : Equatorial) → a ≡ Ok p → P p) → IfOk a P
+if_answered (Ok p) P h = h p refl
+if_answered (Err r) P h = tt
