@@ -8,7 +8,6 @@ ghost use Rattle.separation.specs.Listed.{squared_separation, threshold as thres
 ghost use Rattle.sunlist.specs.Minute.{figures as figures_of, decide as decide_of};
 
 use crate::{Decision, Figures};
-use arith::signed::{add, mul};
 use cosine::working::sine_at;
 use rectangular::from_earth::sight;
 use rectangular::{Frame, Vector, View, geocentric, length, sun, unit};
@@ -31,8 +30,7 @@ fn threshold(k: u64) -> i64
 {
     let n = k + 1;
     let s = sine_at(n * ANGLES_A_HALF + (n * ANGLES_LEFT + ARCMINUTES) / HALF_ARCMINUTES);
-    let q = mul(s, s);
-    mul(4, q)
+    4 * (s * s)
 }
 
 // The squared difference of two unit vectors.
@@ -41,11 +39,7 @@ fn separation(u: Vector, v: Vector) -> i64
     ensures { result ≡ squared_separation u v }
 {
     let w = geocentric(u, v);
-    let x = mul(w.x, w.x);
-    let y = mul(w.y, w.y);
-    let z = mul(w.z, w.z);
-    let xy = add(x, y);
-    add(xy, z)
+    w.x * w.x + w.y * w.y + w.z * w.z
 }
 
 // The figures of a minute whose view is usable.

@@ -6,7 +6,7 @@ ghost use Rattle.runs.specs.Runs.{run_numbers, most_minutes};
 ghost use Rattle.sunlist.specs.SunList.{window_fits, minute as minute_of, numbers, answered, written};
 ghost use Rattle.sunlist.specs.Machine.Window.{LeftToSeries, RefusedBefore, asked_at, FoundFar};
 
-use arith::signed::{add, wide};
+use arith::signed::wide;
 use runs::MOST_MINUTES;
 use units::{Instant, MINUTE_MS, Refusal, in_limit, near};
 
@@ -31,7 +31,7 @@ pub fn minute(t0: Instant, j: u64) -> Instant
     requires { (nat_abs t0.ms ≤ t_limit) × (j < most_minutes) }
     ensures { result ≡ minute_of t0 j }
 {
-    let ms = add(t0.ms, wide(MINUTE_MS * j));
+    let ms = t0.ms + wide(MINUTE_MS * j);
     Instant { ms }
 }
 
