@@ -117,7 +117,7 @@ pub struct Coordinates {
 // Why a call gives no answer, in the order of its numbers. One more refusal wants (CONTRIBUTING.md has the whole list, with the documents):
 // - its case here, the constant of its number, and an arm in `number` and in `figure` below; a case of `Fault` too where a reader of series gives it;
 // - the same in specs/Refusals.antt, and a line in proofs/Refusals.antt;
-// - its words, in `words` and `put_words` of the crate refusal_words;
+// - its words, in `words` of the crate refusal_words, in specs/ and in src/;
 // - a line in the table of include/stephylax.h, and its name in the enum there;
 // - its line in the host's table, host/src/refusal.rs, its line in the help, and its name and words in python/stephylax.py.
 #[derive(Clone, Copy)]
