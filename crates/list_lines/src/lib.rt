@@ -47,6 +47,8 @@ fn window_asked(rt: &impl Env, first: usize) -> Option<Asked>
 }
 
 // The nine arguments from `first` on, answered on standard output.
+// Not one function with `place_of_arguments`: it would take both rooms, the usage and the work as parameters, and each program would pass
+// as much as it has here.
 pub fn list_of_arguments<R: Env + Files + Print>(rt: &R, first: usize) -> io::Result<()>
     requires { first ≤ first_limit }
 {

@@ -37,6 +37,8 @@ fn time_asked(rt: &impl Env, first: usize) -> Option<Moment>
 }
 
 // The eight arguments from `first` on, answered on standard output.
+// Not one function with `list_of_arguments`: it would take both rooms, the usage and the work as parameters, and each program would pass
+// as much as it has here.
 pub fn place_of_arguments<R: Env + Files + Print>(rt: &R, first: usize) -> io::Result<()>
     requires { first ≤ first_limit }
 {
