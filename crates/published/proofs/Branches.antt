@@ -13,14 +13,14 @@ use Rattle.std.proofs.Common.{Result, Ok, Err}
 use Rattle.packed_numbers.specs.declared.NoRoom.{NoRoom}
 use Rattle.packed_numbers.specs.Numbers.{encode}
 use Rattle.limits.specs.declared.Tally.{Tally}
-use Rattle.limits.specs.Limits.{opened, factor}
+use Rattle.limits.specs.Limits.{opened}
 use Rattle.series_lines.specs.declared.Reader.{Reader}
 use Rattle.series_lines.specs.Grammar.{feed}
 use Rattle.series_lines.specs.Lexer.{spot_bad}
-use Rattle.series_lines.specs.Judge.{tally, term_on_line, term_line_refusal}
-use Rattle.series_lines.specs.Reader.{reading, last_offset, stopped, advanced, fits, put_bytes, wrote, wrote_out, uncounted}
+use Rattle.series_lines.specs.Judge.{tally, term_end}
+use Rattle.series_lines.specs.Reader.{reading, last_offset, stopped, in_line, advanced, fits, put_bytes, wrote, wrote_out, uncounted}
 use Rattle.series_lines.specs.Machine.Writer.{put_bytes_answer}
-use Rattle.series_lines.proofs.Branches.{fit, wrote_full, wrote_next}
+use Rattle.series_lines.proofs.Branches.{fit, wrote_refused, wrote_full, wrote_next}
 use Rattle.published_records.specs.declared.Row.{Row}
 use Rattle.published_records.specs.Rows.{lex_row, whole_row}
 use Rattle.published_headings.specs.Judge.{block_of, record_refusal, skipped, zeros}
@@ -31,12 +31,12 @@ use Rattle.published.specs.Reader.{inside, missing, finished, ended, ended_out}
 
 -- ---- A term record whose running number does not come next, or does: then it is judged as a line of a text.
 
-pub record_wrong : (p : Published) → eqb p.row.number (p.last + 1) ≡ false → (record_end p).refusal ≡ bad_number
+pub record_wrong : (p : Published) (s : Reader) (out : List ℕ) → eqb p.row.number (p.last + 1) ≡ false → s ≡ stopped p.reader bad_number
+    → (s ≡ wrote p.reader out (record_end p)) × (out ≡ wrote_out p.reader out (record_end p))
 unfolding record_refusal
-record_wrong p e = rw e
+record_wrong p s out e f = wrote_refused p.reader s out (record_end p) bad_number (rw e) (λ z. omega (arith, z)) f
 
-pub record_as_line : (p : Published) → eqb p.row.number (p.last + 1) ≡ true
-    → (record_end p).refusal ≡ term_line_refusal (factor (p.reader.blocks - 1)) (tally p.reader) p.row.line.minusb (term_on_line p.row.line)
+pub record_as_line : (p : Published) → eqb p.row.number (p.last + 1) ≡ true → term_end (in_line p.reader p.row.line p.reader.at) ≡ record_end p
 unfolding record_refusal
 record_as_line p e = rw e
 

@@ -8,14 +8,12 @@ ghost use Rattle.published.specs.Machine.Judged.{ruled};
 ghost use Rattle.published.specs.Reader.{complete, other, step, step_out, finished, ended, ended_out};
 
 use crate::Published;
-use limits::block_factor;
 use published_headings::judge::{Heading, follows, missing_blocks, skip_blocks};
 use published_headings::writer::{put_heading, put_missing};
 use published_records::{Kind, Row};
-use series_lines::judge::term_line_refusal;
 use series_lines::lexer::SPOT_AFTER;
-use series_lines::steps::next_spot;
-use series_lines::writer::{Sink, Written};
+use series_lines::steps::{end_term, next_spot};
+use series_lines::writer::Written;
 use series_lines::{ACCEPTED, LAST_OFFSET, READING, Reader};
 use units::Fault;
 
@@ -72,41 +70,33 @@ impl Published {
         Ok(r.advanced(next, k + 1, n, opened))
     }
 
-    // The line feed of a term record: its figures are judged and written as those of a line of a text. It is put together from the parts of
-    // `end_term` and does not call it: with a second caller the compiler would no longer put `end_term` into the loop of the reader of texts.
-    fn end_record(self, out: &mut [u8]) -> Result<Reader, Fault>
+    // The line feed of a term record: its figures are judged and written as those of a line of a text.
+    fn end_record(self, out: &mut [u8]) -> Reader
         requires { self.reader.at < last_offset }
-        ensures { (ruled self.reader result ≡ wrote self.reader out.old (record_end self))
-            × (out.new ≡ wrote_out self.reader out.old (record_end self)) }
+        ensures { (result ≡ wrote self.reader out.old (record_end self)) × (out.new ≡ wrote_out self.reader out.old (record_end self)) }
     {
         let r = self.reader;
         if !follows(self.last, self.row.number) {
-            return Err(Fault::BadNumber);
+            return r.refused(Fault::BadNumber);
         }
-        let line = self.row.line;
-        let s = r.tally();
-        let f = block_factor(r.blocks.saturating_sub(1));
-        term_line_refusal(f, s, line)?;
-        let Ok(next) = Written::put_term(line, out, r.written) else {
-            return Err(Fault::NoRoom);
-        };
-        let more = s.add_term(f, line.sizes());
-        Ok(r.advanced(next, r.blocks, r.left.saturating_sub(1), more))
+        end_term::<Written>(r, self.row.line, out)
     }
 
     // The line feed of a record.
     #[tactic(auto, unfolding(crate::specs::Reader::verdict))]
-    fn end_row(self, out: &mut [u8]) -> Result<Reader, Fault>
+    fn end_row(self, out: &mut [u8]) -> Reader
         requires { self.reader.at < last_offset }
-        ensures { (ruled self.reader result ≡ wrote self.reader out.old (verdict self))
-            × (out.new ≡ wrote_out self.reader out.old (verdict self)) }
+        ensures { (result ≡ wrote self.reader out.old (verdict self)) × (out.new ≡ wrote_out self.reader out.old (verdict self)) }
     {
+        let r = self.reader;
         let kind = self.kind();
         if !self.row.is_whole(kind) {
-            return Err(Fault::BadByte);
+            return r.refused(Fault::BadByte);
         }
         match kind {
-            Kind::Heading => self.end_heading(out),
+            Kind::Heading => self
+                .end_heading(out)
+                .unwrap_or_else(|fault| r.refused(fault)),
             Kind::Term => self.end_record(out),
         }
     }
@@ -128,9 +118,8 @@ impl Published {
         ensures { (result ≡ judged self out.old)
             × (out.new ≡ wrote_out self.reader out.old (verdict self)) }
     {
-        let r = self.reader;
         Published {
-            reader: self.end_row(out).unwrap_or_else(|fault| r.refused(fault)),
+            reader: self.end_row(out),
             row: Row::fresh(),
             last: self.next_last(),
         }

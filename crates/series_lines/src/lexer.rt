@@ -67,8 +67,9 @@ impl Line {
     }
 }
 
-// A digit d goes on.
+// A digit d goes on. Here and below the hints put the steps over a digit into the loops of the readers.
 #[tactic(auto, using(std::proofs::lemmas::Bool::Decides::nat_tests), unfolding(crate::specs::Lexer::takes_digit, crate::specs::Lexer::whole_digit))]
+#[inline(always)]
 fn takes_digit(spot: u64, minus: u64, value: u64, d: u64) -> bool
     requires { d < 10 }
     ensures { result ≡ takes_digit spot minus value d }
@@ -84,6 +85,7 @@ fn takes_digit(spot: u64, minus: u64, value: u64, d: u64) -> bool
 
 // A digit.
 #[tactic(auto, using(crate::proofs::Digits::small, crate::proofs::Digits::early), unfolding(crate::specs::Lexer::with_digit))]
+#[inline(always)]
 pub fn with_digit(l: Line, d: u64) -> Line
     requires { d < 10 }
     ensures { result ≡ with_digit l d }
@@ -146,6 +148,7 @@ pub fn with_minus(l: Line) -> Line
 
 // One byte of a line before its line feed.
 #[tactic(auto, using(std::proofs::lemmas::Bool::Decides::nat_tests), unfolding(crate::specs::Lexer::lex))]
+#[inline(always)]
 pub fn lex(l: Line, byte: u8) -> Line
     ensures { result ≡ Rattle.series_lines.specs.Lexer.lex l byte }
 {

@@ -16,6 +16,7 @@ fn run_end(minus: u64) -> u64
 }
 
 // The digits that stand from an index on, as far as a run of line l goes: the value with them, and the index after them.
+#[inline(always)]
 pub fn take_digits(l: Line, text: &[u8], from: usize) -> Passed<u64>
     ensures { DigitRun text.now from l.spot l.minus l.value result.next result.state }
 {

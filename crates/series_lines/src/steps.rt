@@ -104,12 +104,13 @@ pub fn end_count<S: Sink>(r: Reader, out: &mut [u8]) -> Reader
     }
 }
 
-// The line feed of a term.
-pub fn end_term<S: Sink>(r: Reader, out: &mut [u8]) -> Reader
+// The line feed of a term, whose line a reader of records holds apart. The hint puts it into the loop of each reader.
+#[inline(always)]
+pub fn end_term<S: Sink>(r: Reader, l: Line, out: &mut [u8]) -> Reader
     requires { r.at < last_offset }
-    ensures { (result ≡ line_ended S.writes r out.old (term_end r)) × (out.new ≡ line_left S.writes r out.old (term_end r)) }
+    ensures { (result ≡ line_ended S.writes r out.old (term_end (in_line r l r.at)))
+        × (out.new ≡ line_left S.writes r out.old (term_end (in_line r l r.at))) }
 {
-    let l = r.line;
     let s = r.tally();
     let f = block_factor(r.blocks.saturating_sub(1));
     if let Err(fault) = term_line_refusal(f, s, l) {

@@ -21,7 +21,7 @@ fn end_line<S: Sink>(r: Reader, out: &mut [u8]) -> Reader
         return end_count::<S>(r, out);
     }
     if whole_term(r.line) {
-        return end_term::<S>(r, out);
+        return end_term::<S>(r, r.line, out);
     }
     r.refused(Fault::BadByte)
 }
