@@ -15,57 +15,57 @@ use runs::MOST_MINUTES;
 use series::table::{TABLE_ROWS, Table, coordinates, fill};
 use units::Refusal;
 
-// Minute j of a window decided.
-fn decide_at(window: Window, j: usize, planet: &Table, earth: &Table) -> Decision
-    requires { (j < window.minutes) × Tables planet.now earth.now window.t0 window.minutes }
-    ensures { result ≡ decided_at planet.now earth.now window.t0 window.keep_out j }
-{
-    let t = minute(window.t0, j as u64);
-    let p = coordinates(planet, t);
-    let e = coordinates(earth, t);
-    decide(p, e, window.keep_out)
-}
-
-// Fills the flags of a window's minutes; 11 at the first bad one.
-fn flag_minutes(
-    flags: &mut [bool],
-    window: Window,
-    planet: &Table,
-    earth: &Table,
-) -> Result<(), Refusal>
-    requires { (length flags.old ≡ window.minutes) × Tables planet.now earth.now window.t0 window.minutes }
-    ensures { Flagged (decided_at planet.now earth.now window.t0 window.keep_out) window.minutes result flags.new }
-{
-    for (j, flag) in flags.iter_mut().enumerate() {
-        *flag = match decide_at(window, j, planet, earth) {
-            Decision::Listed(_) => true,
-            Decision::Clear(_) => false,
-            Decision::Unusable => return Err(Refusal::NotUsable(j as u64)),
-        };
-    }
-    Ok(())
-}
-
-// The list of a window from the two tables: 17 at the first far minute, before any minute is worked; then 11 at the first bad one; then 7, or
-// the runs. `wide` tells whether both series are good for the wide range.
-fn list_of(
-    window: Window,
+// The term tables of planet and Earth, and whether both series are good for the wide range.
+// That the tables are such is asked of each method and not a ghost field: `Table` goes by recursion over the terms, and a ghost field takes no such fact.
+#[derive(Clone, Copy)]
+struct Bodies<'a> {
+    planet: &'a Table,
+    earth: &'a Table,
     wide: bool,
-    planet: &Table,
-    earth: &Table,
-    out: &mut [u64],
-) -> Result<u64, Refusal>
-    requires { Table planet.now × Table earth.now × (wide ≡ (good_for_wide (table_blocks planet.now) && good_for_wide (table_blocks earth.now))) }
-    ensures { Answers (of_blocks four_millennia (table_blocks planet.now) (table_blocks earth.now) window.t0 window.minutes window.keep_out)
-        out.old result out.new }
-{
-    if let Some(far) = window.first_far(wide) {
-        return Err(Refusal::TooFar(far));
+    ghost good: { wide ≡ (good_for_wide (table_blocks planet.now) && good_for_wide (table_blocks earth.now)) },
+}
+
+impl Bodies<'_> {
+    // Minute j of a window decided.
+    fn decide_at(self, window: Window, j: usize) -> Decision
+        requires { (j < window.minutes) × Tables self.planet.now self.earth.now window.t0 window.minutes }
+        ensures { result ≡ decided_at self.entry.planet.now self.entry.earth.now window.t0 window.keep_out j }
+    {
+        let t = minute(window.t0, j as u64);
+        let p = coordinates(self.planet, t);
+        let e = coordinates(self.earth, t);
+        decide(p, e, window.keep_out)
     }
-    let mut room = [false; MOST_MINUTES as usize];
-    let flags = &mut room[..window.minutes];
-    flag_minutes(flags, window, planet, earth)?;
-    write_runs(flags, out)
+
+    // Fills the flags of a window's minutes; 11 at the first bad one.
+    fn flag_minutes(self, window: Window, flags: &mut [bool]) -> Result<(), Refusal>
+        requires { (length flags.old ≡ window.minutes) × Tables self.planet.now self.earth.now window.t0 window.minutes }
+        ensures { Flagged (decided_at self.entry.planet.now self.entry.earth.now window.t0 window.keep_out) window.minutes result flags.new }
+    {
+        for (j, flag) in flags.iter_mut().enumerate() {
+            *flag = match self.decide_at(window, j) {
+                Decision::Listed(_) => true,
+                Decision::Clear(_) => false,
+                Decision::Unusable => return Err(Refusal::NotUsable(j as u64)),
+            };
+        }
+        Ok(())
+    }
+
+    // The list of a window: 17 at the first far minute, before any minute is worked; then 11 at the first bad one; then 7, or the runs.
+    fn list_of(self, window: Window, out: &mut [u64]) -> Result<u64, Refusal>
+        requires { Table self.planet.now × Table self.earth.now }
+        ensures { Answers (of_blocks four_millennia (table_blocks self.entry.planet.now) (table_blocks self.entry.earth.now)
+            window.t0 window.minutes window.keep_out) out.old result out.new }
+    {
+        if let Some(far) = window.first_far(self.wide) {
+            return Err(Refusal::TooFar(far));
+        }
+        let mut room = [false; MOST_MINUTES as usize];
+        let flags = &mut room[..window.minutes];
+        self.flag_minutes(window, flags)?;
+        write_runs(flags, out)
+    }
 }
 
 // From the two packed series, each read once into a term table.
@@ -82,11 +82,10 @@ pub fn of_series(
     let of_planet = fill(planet, &mut planet_table)?;
     let mut earth_table: Table = [[0; 3]; TABLE_ROWS];
     let of_earth = fill(earth, &mut earth_table)?;
-    list_of(
-        window,
-        of_planet.wide & of_earth.wide,
-        &planet_table,
-        &earth_table,
-        out,
-    )
+    let bodies = Bodies {
+        planet: &planet_table,
+        earth: &earth_table,
+        wide: of_planet.wide & of_earth.wide,
+    };
+    bodies.list_of(window, out)
 }

@@ -23,13 +23,21 @@ returns-in_err-of_earth c =
     (earth_refused (parse c.args.planet.now) (parse c.args.earth.now) c.args.window.t0 c.args.window.minutes c.args.window.keep_out c.args.out.now _ _
     planet.parsed (refused_of (parse c.args.earth.now) c.fill-2.result _ c.in_err-of_earth.was c.fill-2.ensures.0))
 
+pub invariant_of-bodies : goal.invariant_of-bodies
+invariant_of-bodies c =
+    let planet : SeriesIn c.args.planet.now c.fill.new.table c.in_ok-of_planet.of_planet =
+    series_in _ _ c.fill.result _ c.in_ok-of_planet.was c.fill.ensures.0 c.fill.ensures.1 in
+    let earth : SeriesIn c.args.earth.now c.fill-2.new.table c.in_ok-of_earth.of_earth =
+    series_in _ _ c.fill-2.result _ c.in_ok-of_earth.was c.fill-2.ensures.0 c.fill-2.ensures.1 in
+    record { good = ap₂ ◌&&◌ planet.wide earth.wide }
+
 pub list_of-requires : goal.list_of-requires
 list_of-requires c =
     let planet : SeriesIn c.args.planet.now c.fill.new.table c.in_ok-of_planet.of_planet =
     series_in _ _ c.fill.result _ c.in_ok-of_planet.was c.fill.ensures.0 c.fill.ensures.1 in
     let earth : SeriesIn c.args.earth.now c.fill-2.new.table c.in_ok-of_earth.of_earth =
     series_in _ _ c.fill-2.result _ c.in_ok-of_earth.was c.fill-2.ensures.0 c.fill-2.ensures.1 in
-    (planet.table, earth.table, ap₂ ◌&&◌ planet.wide earth.wide)
+    (planet.table, earth.table)
 
 pub returns : goal.returns
 returns c =

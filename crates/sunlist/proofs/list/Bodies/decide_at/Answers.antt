@@ -1,8 +1,8 @@
--- `sunlist::list::decide_at` meets its contract. Assumes nothing.
+-- `sunlist::list::Bodies::decide_at` meets its contract. Assumes nothing.
 use Rattle.std.proofs.Common.{◌≤◌, nat_abs}
 use Rattle.units.specs.Units.{t_limit}
 use Rattle.sunlist.proofs.Listing.{minute_reached, decided}
-use Rattle.sunlist.proofs.list.decide_at.Goals as goal
+use Rattle.sunlist.proofs.list.Bodies.decide_at.Goals as goal
 
 pub coordinates-p-requires : goal.coordinates-p-requires
 coordinates-p-requires c =

@@ -1,8 +1,8 @@
--- `sunlist::list::flag_minutes` meets its contract. Assumes nothing.
+-- `sunlist::list::Bodies::flag_minutes` meets its contract. Assumes nothing.
 use Rattle.std.proofs.Common.{◌∙◌, sym, arith}
 use Rattle.sunlist.proofs.Filling.{filling_more, filling_bad, filling_all, listed_then, clear_then, unusable_then}
-use Rattle.sunlist.proofs.list.flag_minutes.Goals as goal
-use Rattle.sunlist.proofs.list.flag_minutes.Goals.{in-Listed, in-Clear}
+use Rattle.sunlist.proofs.list.Bodies.flag_minutes.Goals as goal
+use Rattle.sunlist.proofs.list.Bodies.flag_minutes.Goals.{in-Listed, in-Clear}
 
 pub returns-in-Unusable : goal.returns-in-Unusable
 returns-in-Unusable c =
