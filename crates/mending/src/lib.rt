@@ -11,7 +11,7 @@ ghost use Rattle.mending.specs.Rule.{blank};
 ghost use Rattle.mending.specs.Answer.{mending, mending_out, mending_list};
 ghost use Rattle.mending.specs.Machine.Passes.{next_byte};
 
-use counting::count;
+use counting::{Counts, count};
 use series_lines::Outcome;
 use text::judge;
 use units::Refusal;
@@ -51,9 +51,7 @@ pub fn mend(text: &[u8], out: &mut [u8], list: &mut [u64]) -> Result<Clean, Refu
         × (out.new ≡ mending_out text.now out.old list.old)
         × (list.new ≡ mending_list text.now out.old list.old) }
 {
-    let counts = count(text);
-    let length = counts.length;
-    let changes = counts.changes;
+    let Counts { length, changes } = count(text);
     if out.len() < length {
         return Err(Refusal::NoRoom(length));
     }

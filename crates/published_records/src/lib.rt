@@ -32,7 +32,7 @@ pub enum Column {
 }
 
 // A record as far as it is read: the column of the next byte, the figure so far with those before it as a line of a series text has them,
-// the digits of a heading, and a term's running number.
+// the digits of a heading, and a term's running number. Numbers, since C holds a row within stephylax_published.
 #[repr(C)]
 #[derive(Clone, Copy)]
 pub struct Row {

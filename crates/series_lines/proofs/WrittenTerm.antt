@@ -1,12 +1,11 @@
 -- Numbers stored one after the other, a decimal folded, and what the writer of a term answers. Assumes nothing.
 use mathlib.Core.Path.{◌≡◌, refl, sym, ap, ◌∙◌}
-use mathlib.Core.Bool.{Bool, true, false}
+use mathlib.Core.Bool.{true}
 use mathlib.Core.List.{List, [], ◌∷◌, ◌++◌}
-use Prim.Native.Nat.{ℕ, zero, suc, ◌+◌, ◌*◌, ◌-◌, ◌≤◌, ◌<◌}
+use Prim.Native.Nat.{ℕ, zero, suc, ◌+◌, ◌*◌, ◌-◌, ◌≤◌, ◌<◌, min}
 use native.Mathlib.Nat.{add-zero, add_assoc}
 use native.Mathlib.Omega.{arith}
-use borrow.Author.Tests.{le-ltb, lt-ltb, le-leb, lt-leb}
-use lib.Dec.{ltb}
+use borrow.Author.Tests.{lt-ltb, le-leb, lt-leb}
 use lib.ListN.{length, set, length-append}
 use lib.Seq.{sets}
 use Rattle.integers.specs.Signs.{sgn}
@@ -31,27 +30,15 @@ pub sets_three : (x y z out : List ℕ) (at : ℕ)
 sets_three x y z out at =
     sets_append (x ++ y) z out at ∙ (rw (sets_append x y out at, length-append x y, add_assoc at (length x) (length y)))
 
-pub fold_plus : (minus value : ℕ) → minus ≡ 0 → folded (signed minus value) ≡ 2 * value
+below : (v : ℕ) → 2 * v - 1 ≡ folded (sgn true v)
+unfolding sgn folded
+below zero = refl
+below (suc n) = omega arith
+
+pub folded_line : (minus value : ℕ) → 2 * value - min minus 1 ≡ folded (signed minus value)
 unfolding signed sgn folded
-fold_plus minus value e = rw (le-ltb 0 minus (omega arith))
-
-none : (s : Bool) → folded (sgn s 0) ≡ 0
-unfolding sgn folded
-none false = refl
-none true = refl
-
-pub fold_zero : (minus value : ℕ) → value ≡ 0 → folded (signed minus value) ≡ 0
-unfolding signed
-fold_zero minus value e = ap (λ (v : ℕ). folded (sgn (ltb 0 minus) v)) e ∙ none (ltb 0 minus)
-
-below : (v : ℕ) → 0 < v → folded (sgn true v) ≡ 2 * v - 1
-unfolding sgn folded
-below zero q = absurd (omega arith)
-below (suc n) q = omega arith
-
-pub fold_minus : (minus value : ℕ) → 0 < minus → 0 < value → folded (signed minus value) ≡ 2 * value - 1
-unfolding signed
-fold_minus minus value h k = rw (lt-ltb 0 minus h) (below value k)
+folded_line zero value = omega arith
+folded_line (suc m) value = rw (lt-ltb 0 (suc m) (omega arith), ← below value) (omega arith)
 
 -- Three numbers, written one after the other.
 module _ (a b c : ℕ) where

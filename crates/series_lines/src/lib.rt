@@ -14,7 +14,8 @@ ghost use Rattle.series_lines.specs.Reader.{begun, told};
 
 use units::{COARSE_BASE, Refusal};
 
-// The status of a reader: it reads on, or has accepted the text; after a refusal it is the refusal's number.
+// The status of a reader: it reads on, or has accepted the text; after a refusal it is the refusal's number. A number and not an enum, as the
+// other states in `Line` and `Reader`: C holds a reader in the layout of stephylax_text.
 pub const READING: u64 = 0;
 
 pub const ACCEPTED: u64 = 1;
@@ -23,7 +24,7 @@ pub const ACCEPTED: u64 = 1;
 pub const LAST_OFFSET: usize = 18446744073709551615;
 
 // A line as far as it is read: where the next byte stands (specs/Lexer.antt), how many decimals stand before this one, the decimal or
-// count so far, with 1 for a minus, and the two decimals before it, in parts.
+// count so far, with 1 for a minus, and the two decimals before it, in parts. Numbers, since C holds a line within stephylax_text.
 #[repr(C)]
 #[derive(Clone, Copy)]
 pub struct Line {
@@ -38,7 +39,7 @@ pub struct Line {
 }
 
 // What a reader has of the text so far: the line, the bytes read and written, the counts that have come, the terms that are left of the
-// block, the tally so far (limits::Tally), and the status with its place.
+// block, the tally so far (limits::Tally), and the status with its place. C holds it as stephylax_text.
 #[repr(C)]
 #[derive(Clone, Copy)]
 pub struct Reader {

@@ -18,13 +18,7 @@ fn fold(minus: u64, value: u64) -> u64
     requires { value < c_limit }
     ensures { result ≡ folded (signed minus value) }
 {
-    if minus == 0 {
-        return 2 * value;
-    }
-    if value == 0 {
-        return 0;
-    }
-    2 * value - 1
+    (2 * value).saturating_sub(minus.min(1))
 }
 
 // The three numbers of a term as its packed form has them.
