@@ -72,7 +72,8 @@ fn put_plain(text: &[u8], i: usize, out: &mut [u8], at: usize) -> usize
 }
 
 impl Place {
-    // After a blank that stays: a tab becomes a space, and that is a change.
+    // After a blank that stays: a tab becomes a space, and that is a change. Here and below out and list are no struct that holds both: each
+    // function would have to promise as well that both fields still are the references that were lent, and would name each through it.
     fn put_blank(self, byte: u8, offset: usize, out: &mut [u8], list: &mut [u64]) -> Place
         requires { Room (left (spared byte) byte) self.at out.old × Room (numbers (listed offset (spared byte))) self.slot list.old }
         ensures { Wrote (left (spared byte) byte) self.at out.old result.at out.new
