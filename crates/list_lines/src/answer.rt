@@ -25,8 +25,8 @@ fn put_lines<const N: usize>(start: u64, numbers: &[u64], runs: usize, out: &mut
     requires room { length out.old + runs * run_most ≤ N }
     ensures { out.new ≡ out.old ++ run_lines start numbers.now 0 runs }
 {
-    for i in 0..runs {
-        put_run(start, numbers[2 * i], numbers[2 * i + 1], out);
+    for run in numbers[..2 * runs].chunks_exact(2) {
+        put_run(start, run[0], run[1], out);
     }
 }
 
