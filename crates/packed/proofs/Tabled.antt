@@ -1,26 +1,21 @@
 -- What a caller finds in a table that holds a series: each block between its ends, the ends rising. Assumes nothing.
-use mathlib.Core.Path.{◌≡◌, refl, sym, ap, ◌∙◌}
+use mathlib.Core.Path.{◌≡◌, refl, ap, ◌∙◌}
 use mathlib.Core.List.{List, [], ◌∷◌}
 use Prim.Native.Nat.{ℕ, zero, suc, ◌+◌, ◌-◌, ◌≤◌, ◌<◌}
 use native.Mathlib.Omega.{arith}
-use lib.ListN.{length, get_or, drop, get_or-map}
-use lib.Seq.{get_or-drop}
+use lib.ListN.{length, get_or}
 use Rattle.limits.specs.declared.Term.{Term}
 use Rattle.units.specs.Units.{series_limit, block_count}
 use Rattle.limits.specs.Allowed.{term_count, Allowed}
-use Rattle.packed.specs.Machine.Table.{first, number_at, terms_at, blocks_at, ends, table_blocks, block_ends, Holds}
+use Rattle.packed.specs.declared.table.Table.{Table}
+use Rattle.packed.specs.Machine.Table.{terms_at, blocks_at, ends, table_blocks, block_ends, Holds}
 
 -- Where block j starts, which is where the one before it ends, and where it ends.
-abbrev pub block_start : List (List ℕ) → ℕ → ℕ
+abbrev pub block_start : Table → ℕ → ℕ
 block_start rows j = get_or (0 ∷ ends rows) j 0
 
-abbrev pub block_end : List (List ℕ) → ℕ → ℕ
+abbrev pub block_end : Table → ℕ → ℕ
 block_end rows j = get_or (ends rows) j 0
-
--- Block j ends where its row in the table says.
-pub end_row : (rows : List (List ℕ)) (j : ℕ) → number_at rows (series_limit + j) 0 ≡ block_end rows j
-unfolding ends
-end_row rows j = rw (← get_or-drop series_limit rows j []) (sym (get_or-map first (drop series_limit rows) j []))
 
 -- The ends, from row k on.
 ends_length : (k : ℕ) (blocks : List (List Term)) → length (block_ends k blocks) ≡ length blocks
@@ -40,14 +35,14 @@ ends_below k [] j h = absurd (omega arith)
 ends_below k (ts ∷ blocks) zero h = omega arith
 ends_below k (ts ∷ blocks) (suc j) h = let l = ends_below (k + length ts) blocks j (omega arith) in omega arith
 
-block_is : (rows : List (List ℕ)) (k : ℕ) (es : List ℕ) (j : ℕ) → j < length es
+block_is : (rows : Table) (k : ℕ) (es : List ℕ) (j : ℕ) → j < length es
     → get_or (blocks_at rows k es) j [] ≡ terms_at rows (get_or (k ∷ es) j 0) (get_or es j 0 - get_or (k ∷ es) j 0)
 unfolding blocks_at
 block_is rows k [] j h = absurd (omega arith)
 block_is rows k (e ∷ es) zero h = refl
 block_is rows k (e ∷ es) (suc j) h = block_is rows e es j (omega arith)
 
-module _ (rows : List (List ℕ)) (blocks : List (List Term)) (holds : Holds rows blocks) (allowed : Allowed blocks) (j : ℕ) (h : j < block_count) where
+module _ (rows : Table) (blocks : List (List Term)) (holds : Holds rows blocks) (allowed : Allowed blocks) (j : ℕ) (h : j < block_count) where
   -- Block j ends at or after its start, within the table.
   pub rising : block_start rows j ≤ block_end rows j
   rising = rw holds.places (ends_rise 0 blocks j (rw allowed.eighteen h))

@@ -1,30 +1,31 @@
--- A table whose rows begin with those of the blocks' terms holds the blocks. Assumes nothing.
+-- A table whose terms begin with those of the blocks holds the blocks. Assumes nothing.
 use mathlib.Core.Path.{◌≡◌, refl, sym, ap, ◌∙◌}
 use mathlib.Core.List.{List, [], ◌∷◌, ◌++◌, map, append_assoc, append-nil}
 use Prim.Native.Nat.{ℕ, zero, suc, ◌+◌, ◌-◌, ◌≤◌}
 use native.Mathlib.Numerals.{add-one}
 use native.Mathlib.Omega.{arith}
-use lib.ListN.{length, get_or, take, drop, set, take-append-drop, length-append, length-map, length-drop}
-use lib.Seq.{sets, sets-eq, take_at, length-take-le, drop-set-lt, drop-set-add}
-use Rattle.units.specs.Units.{series_limit, block_count}
+use lib.ListN.{length, get_or, take, drop, take-append-drop, length-append, length-map}
+use lib.Seq.{sets, sets-eq, take_at, length-take-le}
+use Rattle.packed_numbers.specs.declared.quick.PackedTerm.{PackedTerm}
 use Rattle.packed_numbers.proofs.Folding.{unfolded_folded}
 use Rattle.limits.specs.declared.Term.{Term}
 use Rattle.limits.specs.declared.Tally.{Tally}
 use Rattle.limits.specs.Limits.{after_block}
 use Rattle.limits.specs.Allowed.{term_count}
-use Rattle.packed.specs.Machine.Table.{Sized, first, term_at, terms_at, blocks_at, ends, block_ends, table_blocks}
+use Rattle.packed.specs.declared.table.Table.{Table}
+use Rattle.packed.specs.Machine.Table.{term_at, terms_at, blocks_at, ends, block_ends, table_blocks}
 use Rattle.packed.specs.Machine.Tallies.{tally_rows}
-use Rattle.packed.specs.Machine.Answers.{row_of}
+use Rattle.packed.specs.Machine.Answers.{packed_term}
 
--- The rows of all terms, in order.
-unfoldable pub all_rows : List (List Term) → List (List ℕ)
+-- All terms as they are packed, in order.
+unfoldable pub all_rows : List (List Term) → List PackedTerm
 all_rows [] = []
-all_rows (ts ∷ blocks) = map row_of ts ++ all_rows blocks
+all_rows (ts ∷ blocks) = map packed_term ts ++ all_rows blocks
 
-pub rows_more : (done : List (List Term)) (ts : List Term) → all_rows (done ++ ts ∷ []) ≡ all_rows done ++ map row_of ts
+pub rows_more : (done : List (List Term)) (ts : List Term) → all_rows (done ++ ts ∷ []) ≡ all_rows done ++ map packed_term ts
 unfolding all_rows
-rows_more [] ts = append-nil (map row_of ts)
-rows_more (x ∷ done) ts = rw (rows_more done ts) (sym (append_assoc (map row_of x) (all_rows done) (map row_of ts)))
+rows_more [] ts = append-nil (map packed_term ts)
+rows_more (x ∷ done) ts = rw (rows_more done ts) (sym (append_assoc (map packed_term x) (all_rows done) (map packed_term ts)))
 
 pub count_more : (done : List (List Term)) (ts : List Term) → term_count (done ++ ts ∷ []) ≡ term_count done + length ts
 unfolding term_count
@@ -73,58 +74,39 @@ tail_is (suc k) (y ∷ l) x m e = tail_is k l x m e
 pub tail_one : {X : Type 0} (k : ℕ) (l : List X) (x : X) (m : List X) → drop k l ≡ x ∷ m → drop (k + 1) l ≡ m
 tail_one k l x m e = rw add-one (tail_is k l x m e)
 
-past : (k : ℕ) (rows : List (List ℕ)) (ts : List Term) (q : List (List ℕ)) → drop k rows ≡ map row_of ts ++ q → drop (k + length ts) rows ≡ q
+past : (k : ℕ) (rows : List PackedTerm) (ts : List Term) (q : List PackedTerm) → drop k rows ≡ map packed_term ts ++ q → drop (k + length ts) rows ≡ q
 past k rows [] q e = let z : k + 0 ≡ k = omega arith in rw z e
 past k rows (t ∷ ts) q e =
     let z : k + suc (length ts) ≡ k + 1 + length ts = omega arith in
-    rw z (past (k + 1) rows ts q (tail_one k rows (row_of t) (map row_of ts ++ q) e))
+    rw z (past (k + 1) rows ts q (tail_one k rows (packed_term t) (map packed_term ts ++ q) e))
 
-module _ (rows : List (List ℕ)) where
-  terms_law : (ts : List Term) (k : ℕ) (q : List (List ℕ)) → drop k rows ≡ map row_of ts ++ q → terms_at rows k (length ts) ≡ ts
-  unfolding terms_at term_at row_of
+module _ (rows : Table) where
+  terms_law : (ts : List Term) (k : ℕ) (q : List PackedTerm) → drop k rows.terms ≡ map packed_term ts ++ q → terms_at rows k (length ts) ≡ ts
+  unfolding terms_at term_at
   terms_law [] k q e = refl
   terms_law (t ∷ ts) k q e =
-      rw (head_is k rows (row_of t) [] _ e, unfolded_folded t.a, unfolded_folded t.c)
-      (ap (λ (l : List Term). t ∷ l) (terms_law ts (k + 1) q (tail_one k rows (row_of t) _ e)))
+      rw (head_is k rows.terms (packed_term t) (record { a = 0; b = 0; c = 0 }) _ e, unfolded_folded t.a, unfolded_folded t.c)
+      (ap (λ (l : List Term). t ∷ l) (terms_law ts (k + 1) q (tail_one k rows.terms (packed_term t) _ e)))
 
-  blocks_law : (blocks : List (List Term)) (k : ℕ) (q : List (List ℕ)) → drop k rows ≡ all_rows blocks ++ q → blocks_at rows k (block_ends k blocks) ≡ blocks
+  blocks_law : (blocks : List (List Term)) (k : ℕ) (q : List PackedTerm) → drop k rows.terms ≡ all_rows blocks ++ q
+      → blocks_at rows k (block_ends k blocks) ≡ blocks
   unfolding blocks_at block_ends all_rows
   blocks_law [] k q e = refl
   blocks_law (ts ∷ blocks) k q e =
-      let f = e ∙ append_assoc (map row_of ts) (all_rows blocks) q in
+      let f = e ∙ append_assoc (map packed_term ts) (all_rows blocks) q in
       let n : k + length ts - k ≡ length ts = omega arith in
-      rw (n, terms_law ts k _ f) (ap (λ (l : List (List Term)). ts ∷ l) (blocks_law blocks (k + length ts) q (past k rows ts _ f)))
+      rw (n, terms_law ts k _ f) (ap (λ (l : List (List Term)). ts ∷ l) (blocks_law blocks (k + length ts) q (past k rows.terms ts _ f)))
 
-  pub table_law : (blocks : List (List Term)) (n : ℕ) → take n rows ≡ all_rows blocks → ends rows ≡ block_ends 0 blocks → table_blocks rows ≡ blocks
+  pub table_law : (blocks : List (List Term)) (n : ℕ) → take n rows.terms ≡ all_rows blocks → ends rows ≡ block_ends 0 blocks → table_blocks rows ≡ blocks
   unfolding table_blocks
-  table_law blocks n e p = rw p (blocks_law blocks 0 (drop n rows) (rw (← e) (sym (take-append-drop n rows))))
+  table_law blocks n e p =
+      ap (λ (es : List ℕ). blocks_at rows 0 es) p ∙ blocks_law blocks 0 (drop n rows.terms) (rw (← e) (sym (take-append-drop n rows.terms)))
 
-  -- The ends stand after the terms.
-  pub ends_length : Sized rows → length (ends rows) ≡ block_count
-  unfolding ends
-  ends_length z = length-map (drop series_limit rows) first ∙ length-drop series_limit rows ∙ rw z.size
-
--- A block's rows and its end are stored: the terms so far have one block more, and the ends one end.
-map_set : (l : List (List ℕ)) (k : ℕ) (row : List ℕ) → map first (set l k row) ≡ set (map first l) k (first row)
-map_set [] k row = refl
-map_set (x ∷ l) zero row = refl
-map_set (x ∷ l) (suc k) row = ap (λ (m : List ℕ). first x ∷ m) (map_set l k row)
-
-pub ends_set : (rows : List (List ℕ)) (k : ℕ) (row : List ℕ) → ends (set rows (series_limit + k) row) ≡ set (ends rows) k (first row)
-unfolding ends
-ends_set rows k row = rw (drop-set-add series_limit rows k row) (map_set (drop series_limit rows) k row)
-
-drop_sets : (n : ℕ) (new rows : List (List ℕ)) (i : ℕ) → i + length new ≤ n → drop n (sets rows i new) ≡ drop n rows
-drop_sets n [] rows i h = refl
-drop_sets n (row ∷ new) rows i h = drop_sets n new (set rows i row) (suc i) (omega arith) ∙ drop-set-lt n rows i row (omega arith)
-
-pub ends_stay : (rows : List (List ℕ)) (k : ℕ) (ts : List Term) → k + length ts ≤ series_limit → ends (sets rows k (map row_of ts)) ≡ ends rows
-unfolding ends
-ends_stay rows k ts h = ap (map first) (drop_sets series_limit (map row_of ts) rows k (rw (length-map ts row_of) h))
-
-pub rows_stored : (rows : List (List ℕ)) (k : ℕ) (ts : List Term) → k + length ts ≤ length rows
-    → take (k + length ts) (sets rows k (map row_of ts)) ≡ take k rows ++ map row_of ts
+-- A block's terms are stored: the terms so far have one block more.
+pub rows_stored : (rows : List PackedTerm) (k : ℕ) (ts : List Term) → k + length ts ≤ length rows
+    → take (k + length ts) (sets rows k (map packed_term ts)) ≡ take k rows ++ map packed_term ts
 rows_stored rows k ts h =
-    let n : length (map row_of ts) ≡ length ts = length-map ts row_of in
-    let m : length (take k rows ++ map row_of ts) ≡ k + length ts = rw (length-append (take k rows) (map row_of ts), n, length-take-le k rows (omega arith)) in
-    rw (sets-eq (map row_of ts) rows k (rw n h)) (take_at (take k rows ++ map row_of ts) _ (k + length ts) m)
+    let n : length (map packed_term ts) ≡ length ts = length-map ts packed_term in
+    let m : length (take k rows ++ map packed_term ts) ≡ k + length ts =
+    rw (length-append (take k rows) (map packed_term ts), n, length-take-le k rows (omega arith)) in
+    rw (sets-eq (map packed_term ts) rows k (rw n h)) (take_at (take k rows ++ map packed_term ts) _ (k + length ts) m)

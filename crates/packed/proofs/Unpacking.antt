@@ -6,7 +6,7 @@ use Prim.Native.Nat.{ℕ, suc, ◌+◌, ◌-◌, ◌≤◌, ◌<◌}
 use native.Mathlib.Numerals.{add-one}
 use native.Mathlib.Omega.{arith}
 use lib.ListN.{length, take, drop, set, length-append, length-set, drop_of_length-le}
-use lib.Seq.{sets, length-sets, take-suc-set, take-set-le, take_all, drop-cons}
+use lib.Seq.{sets, length-sets, take-suc-set, take_all, drop-cons}
 use Rattle.units.specs.declared.Refusal.{Refusal}
 use Rattle.units.specs.declared.Refusal.TheVariants.{ByteAfterEnd}
 use Rattle.packed_numbers.specs.Numbers.{Read, got, bad, next}
@@ -20,33 +20,37 @@ use Rattle.limits.specs.Allowed.{term_count}
 use Rattle.limits.specs.Machine.Widened.{no_wide}
 use Rattle.limits.specs.Wide.{good_for_wide}
 use Rattle.limits.proofs.Series.{good_allowed}
-use Rattle.packed.specs.Machine.Table.{Sized, Holds, ends, block_ends, unpacked}
+use Rattle.packed.specs.declared.table.Table.{Table}
+use Rattle.packed.specs.Machine.Table.{Holds, ends, block_ends, unpacked}
 use Rattle.packed.specs.Machine.Tallies.{tally_rows, wide_rows, Tallied}
-use Rattle.packed.specs.Machine.Answers.{row_of, filled}
+use Rattle.packed_numbers.specs.declared.quick.PackedTerm.{PackedTerm}
+use Rattle.packed.specs.Machine.Answers.{packed_term, filled}
 use Rattle.packed_numbers.specs.declared.Found.{Found}
 use Rattle.packed.proofs.Walking.{Stepped, joined, joined_none, joined_more}
 use Rattle.packed.proofs.Blocks.{block_accepted, block_sums, blocks_are_good}
 use Rattle.packed.proofs.Widening.{tallies_say}
-use Rattle.packed.proofs.Tabling.{all_rows, rows_more, count_more, ends_more, table_law, ends_length, ends_set, ends_stay, rows_stored}
+use Rattle.packed.proofs.Tabling.{all_rows, rows_more, count_more, ends_more, table_law, rows_stored}
 use Rattle.packed.proofs.Tabling.{tally_upto, upto_more, tallies_more}
 
 -- The loop's invariant, with the blocks that are done.
-pub record Unpacking (s : List ℕ) (rows : List (List ℕ)) (sums : List Tally) (tally : Tally) (i k : ℕ) : Type 0 where
+pub record Unpacking (s : List ℕ) (rows : List PackedTerm) (places : List ℕ) (sums : List Tally) (tally : Tally) (i k : ℕ) : Type 0 where
   pub done : List (List Term)
   pub place : k ≡ length done
   pub bound : k ≤ block_count
   pub whole : read_series 0 s ≡ joined done (read_blocks (block_count - k) k tally i (drop i s))
   pub terms : tally.terms ≡ term_count done
   pub held : take tally.terms rows ≡ all_rows done
-  pub held_ends : take k (ends rows) ≡ block_ends 0 done
+  pub held_ends : take k places ≡ block_ends 0 done
   pub tally_is : tally ≡ tally_upto 0 no_tally done
   pub tallies : take k sums ≡ tally_rows 0 no_tally done
   pub sums_many : length sums ≡ block_count
-  pub sized : Sized rows
+  pub terms_many : length rows ≡ series_limit
+  pub ends_many : length places ≡ block_count
 
-pub unpacking_none : (s : List ℕ) (rows : List (List ℕ)) (sums : List Tally) → Sized rows → length sums ≡ block_count → Unpacking s rows sums no_tally 0 0
+pub unpacking_none : (s : List ℕ) (rows : List PackedTerm) (places : List ℕ) (sums : List Tally) → length rows ≡ series_limit
+    → length places ≡ block_count → length sums ≡ block_count → Unpacking s rows places sums no_tally 0 0
 unfolding read_series term_count block_ends all_rows tally_upto tally_rows
-unpacking_none s rows sums z m =
+unpacking_none s rows places sums z e m =
     record {
       done = [];
       place = refl;
@@ -58,35 +62,32 @@ unpacking_none s rows sums z m =
       tally_is = refl;
       tallies = refl;
       sums_many = m;
-      sized = z;
+      terms_many = z;
+      ends_many = e;
     }
 
--- The rows of the table after a block.
-block_rows : (n : ℕ) (r : Read (List Term)) (rows after : List (List ℕ)) {ts : List Term} {to : ℕ} {rest : List ℕ} → r ≡ got ts to rest → filled n r rows after
-    → after ≡ sets rows n (map row_of ts)
+-- The terms of the table after a block.
+block_rows : (n : ℕ) (r : Read (List Term)) (rows after : List PackedTerm) {ts : List Term} {to : ℕ} {rest : List ℕ} → r ≡ got ts to rest
+    → filled n r rows after → after ≡ sets rows n (map packed_term ts)
 unfolding filled
 block_rows n r rows after e f = rw e at f
 
--- Its terms are there, and then its end is too.
-module _ (rows after : List (List ℕ)) (n m k : ℕ) (done : List (List Term)) (ts : List Term) (f : m ≤ series_limit) (p : m ≡ n + length ts)
-    (z : Sized rows) where
-  rows_block : after ≡ sets rows n (map row_of ts) → take n rows ≡ all_rows done
-      → take m (set after (series_limit + k) (m ∷ 0 ∷ 0 ∷ [])) ≡ all_rows (done ++ ts ∷ [])
-  rows_block stored w =
-      let h : m ≤ series_limit + k = omega arith in
-      rw (take-set-le m after (series_limit + k) (m ∷ 0 ∷ 0 ∷ []) h, stored, p, rows_stored rows n ts (omega (arith, z.size)), w) (sym (rows_more done ts))
+-- Its terms are there.
+rows_block : (rows after : List PackedTerm) (n m : ℕ) (done : List (List Term)) (ts : List Term) → m ≤ series_limit → m ≡ n + length ts
+    → length rows ≡ series_limit → after ≡ sets rows n (map packed_term ts) → take n rows ≡ all_rows done
+    → take m after ≡ all_rows (done ++ ts ∷ [])
+rows_block rows after n m done ts f p z stored w = rw (stored, p, rows_stored rows n ts (omega arith), w) (sym (rows_more done ts))
 
-  ends_block : after ≡ sets rows n (map row_of ts) → k < block_count → m ≡ 0 + term_count done + length ts → take k (ends rows) ≡ block_ends 0 done
-      → take (k + 1) (ends (set after (series_limit + k) (m ∷ 0 ∷ 0 ∷ []))) ≡ block_ends 0 (done ++ ts ∷ [])
-  ends_block stored b c w =
-      let h : ends after ≡ ends rows = ap ends stored ∙ ends_stay rows n ts (omega arith) in
-      let l : k < length (ends rows) = rw (ends_length rows z) b in
-      rw (ends_set after k (m ∷ 0 ∷ 0 ∷ []), h, add-one, take-suc-set (ends rows) k m l, w, ends_more 0 done ts, c)
+-- And then its end is too.
+ends_block : (places : List ℕ) (m k : ℕ) (done : List (List Term)) (ts : List Term) → length places ≡ block_count → k < block_count
+    → m ≡ 0 + term_count done + length ts → take k places ≡ block_ends 0 done → take (k + 1) (set places k m) ≡ block_ends 0 (done ++ ts ∷ [])
+ends_block places m k done ts z b c w = rw (add-one, take-suc-set places k m (omega arith), w, ends_more 0 done ts, c)
 
 at_k : {k n : ℕ} → k ≡ n → 0 + n ≡ k
 at_k e = omega arith
 
-module _ (s : List ℕ) (rows : List (List ℕ)) (sums : List Tally) (tally : Tally) (i k : ℕ) (l : Unpacking s rows sums tally i k) where
+module _ (s : List ℕ) (rows : List PackedTerm) (places : List ℕ) (sums : List Tally) (tally : Tally) (i k : ℕ)
+    (l : Unpacking s rows places sums tally i k) where
   some : (n : ℕ) → k < block_count → n ≡ block_count - (k + 1) → block_count - k ≡ suc n
   some n h e = omega arith
 
@@ -116,10 +117,10 @@ module _ (s : List ℕ) (rows : List (List ℕ)) (sums : List Tally) (tally : Ta
   unfolding parse ended
   unpacking_done h b = rw (unpacking_last h, drop_of_length-le s b)
 
-  pub unpacking_more : (read : Found Tally) (after : List (List ℕ)) → k < block_count
+  pub unpacking_more : (read : Found Tally) (after : List PackedTerm) → k < block_count
       → Stepped (after_block k tally) s (read_block k tally i (drop i s)) read
       → filled tally.terms (read_block k tally i (drop i s)) rows after
-      → Unpacking s (set after (series_limit + k) (read.value.terms ∷ 0 ∷ 0 ∷ [])) (set sums k read.value) read.value read.next (k + 1)
+      → Unpacking s after (set places k read.value.terms) (set sums k read.value) read.value read.next (k + 1)
   unpacking_more read after h w f =
       let to = read.next in
       let more = read.value in
@@ -135,12 +136,13 @@ module _ (s : List ℕ) (rows : List (List ℕ)) (sums : List Tally) (tally : Ta
         bound = omega arith;
         whole = left_got ts to h w.is ∙ rw w.with;
         terms = n ∙ rw (count_more l.done ts, l.terms);
-        held = rows_block rows after tally.terms more.terms k l.done ts few n l.sized new l.held;
-        held_ends = ends_block rows after tally.terms more.terms k l.done ts few n l.sized new h m l.held_ends;
+        held = rows_block rows after tally.terms more.terms l.done ts few n l.terms_many new l.held;
+        held_ends = ends_block places more.terms k l.done ts l.ends_many h m l.held_ends;
         tally_is = w.with ∙ here ts;
         tallies = rw (add-one, take-suc-set sums k more (rw l.sums_many h), l.tallies, w.with) (sym (here_rows ts));
         sums_many = length-set sums k more ∙ l.sums_many;
-        sized = record { size = length-set after (series_limit + k) _ ∙ ap length new ∙ length-sets rows tally.terms (map row_of ts) ∙ l.sized.size };
+        terms_many = ap length new ∙ length-sets rows tally.terms (map packed_term ts) ∙ l.terms_many;
+        ends_many = length-set places k more.terms ∙ l.ends_many;
       }
     where
       here : (ts : List Term) → after_block k tally ts ≡ tally_upto 0 no_tally (l.done ++ ts ∷ [])
@@ -152,11 +154,11 @@ module _ (s : List ℕ) (rows : List (List ℕ)) (sums : List Tally) (tally : Ta
           ∙ ap₂ (λ (j : ℕ) (s : Tally). tally_rows 0 no_tally l.done ++ after_block j s ts ∷ []) (at_k l.place) (sym l.tally_is)
 
   -- The table, when all blocks are done.
-  pub unpacking_holds : k ≡ block_count → Holds rows l.done
-  unpacking_holds e =
-      let t : take k (ends rows) ≡ ends rows = take_all k (ends rows) (omega (arith, ends_length rows l.sized, e)) in
-      let p : ends rows ≡ block_ends 0 l.done = sym t ∙ l.held_ends in
-      record { table = table_law rows l.done tally.terms l.held p; places = p }
+  pub unpacking_holds : (table : Table) → table.terms ≡ rows → table.ends ≡ places → k ≡ block_count → Holds table l.done
+  unpacking_holds table a b e =
+      let t : take k places ≡ places = take_all k places (omega (arith, l.ends_many, e)) in
+      let p : ends table ≡ block_ends 0 l.done = b ∙ sym t ∙ l.held_ends in
+      record { table = table_law table l.done tally.terms (ap (take tally.terms) a ∙ l.held) p; places = p }
 
   all_tallies : k ≡ block_count → sums ≡ tally_rows 0 no_tally l.done
   all_tallies e = sym (take_all k sums (omega (arith, l.sums_many, e))) ∙ l.tallies
@@ -172,12 +174,12 @@ module _ (s : List ℕ) (rows : List (List ℕ)) (sums : List Tally) (tally : Ta
   unpacking_wide e wide f = f ∙ tallies_say sums l.done (all_tallies e) (sym l.place ∙ e)
 
 -- The answers.
-pub answer_refused : (s : List ℕ) (q : Refusal) (rows : List (List ℕ)) → parse s ≡ refused q → (Err q ≡ checked (parse s)) × unpacked (parse s) rows
+pub answer_refused : (s : List ℕ) (q : Refusal) (table : Table) → parse s ≡ refused q → (Err q ≡ checked (parse s)) × unpacked (parse s) table
 unfolding checked unpacked
-answer_refused s q rows e = (rw e, rw e tt)
+answer_refused s q table e = (rw e, rw e tt)
 
-pub answer_series : (s : List ℕ) (blocks : List (List Term)) (n : ℕ) (wide : Bool) (rows : List (List ℕ)) → parse s ≡ accepted blocks → n ≡ term_count blocks
-    → wide ≡ good_for_wide blocks → Holds rows blocks
-    → (Ok (record { terms = n; wide = wide }) ≡ checked (parse s)) × unpacked (parse s) rows
+pub answer_series : (s : List ℕ) (blocks : List (List Term)) (n : ℕ) (wide : Bool) (table : Table) → parse s ≡ accepted blocks → n ≡ term_count blocks
+    → wide ≡ good_for_wide blocks → Holds table blocks
+    → (Ok (record { terms = n; wide = wide }) ≡ checked (parse s)) × unpacked (parse s) table
 unfolding checked unpacked
-answer_series s blocks n wide rows e p q h = (rw (e, p, q), rw e h)
+answer_series s blocks n wide table e p q h = (rw (e, p, q), rw e h)

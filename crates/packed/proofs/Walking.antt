@@ -7,6 +7,7 @@ use native.Mathlib.Omega.{arith}
 use lib.ListN.{length, drop, set, length-append}
 use lib.Seq.{sets}
 use Rattle.units.specs.declared.Refusal.{Refusal}
+use Rattle.packed_numbers.specs.declared.quick.PackedTerm.{PackedTerm}
 use Rattle.packed_numbers.specs.Numbers.{Read, got, bad, next}
 use Rattle.packed_numbers.proofs.Folding.{folded_unfolded}
 use Rattle.packed_numbers.proofs.Reading.{After, moved}
@@ -17,7 +18,7 @@ use Rattle.packed_numbers.specs.declared.Found.{Found}
 use Rattle.packed_numbers.specs.Machine.Answers.{shown}
 use Rattle.limits.specs.Limits.{added, summed}
 use Rattle.packed.specs.Series.{read_term, read_terms}
-use Rattle.packed.specs.Machine.Answers.{term_of, row_of, stored, filled}
+use Rattle.packed.specs.Machine.Answers.{packed_term, term_of, stored, filled}
 
 -- What was read, from the tally with it.
 pub record Stepped {A : Type 0} (tally : A → Tally) (s : List ℕ) (r : Read A) (read : Found Tally) : Type 0 where
@@ -34,18 +35,18 @@ stepped g (got x end rest) read (moved e h) q =
 stepped g (bad r) read h q = let n : ◌≡◌ {A = ℕ} 0 1 = cc in absurd (omega arith)
 
 -- One term is stored, as it was packed.
-pub store_none : (k : ℕ) (r : Read Term) (q : Refusal) (rows : List (List ℕ)) → r ≡ bad q → rows ≡ stored k r rows
+pub store_none : (k : ℕ) (r : Read Term) (q : Refusal) (rows : List PackedTerm) → r ≡ bad q → rows ≡ stored k r rows
 unfolding stored
 store_none k r q rows e = rw e
 
-pub store : (k : ℕ) (r : Read Term) (t : Term) (to : ℕ) (rest : List ℕ) (rows : List (List ℕ)) → r ≡ got t to rest → stored k r rows ≡ set rows k (row_of t)
+pub store : (k : ℕ) (r : Read Term) (t : Term) (to : ℕ) (rest : List ℕ) (rows : List PackedTerm) → r ≡ got t to rest
+    → stored k r rows ≡ set rows k (packed_term t)
 unfolding stored
 store k r t to rest rows e = rw e
 
-pub store_row : (k : ℕ) (r : Read Term) (a b c to : ℕ) (rest : List ℕ) (rows : List (List ℕ)) → r ≡ got (term_of a b c) to rest
-    → set rows k (a ∷ b ∷ c ∷ []) ≡ stored k r rows
-unfolding row_of
-store_row k r a b c to rest rows e = rw (store k r (term_of a b c) to rest rows e, folded_unfolded a, folded_unfolded c)
+pub store_term : (k : ℕ) (r : Read Term) (p : PackedTerm) (to : ℕ) (rest : List ℕ) (rows : List PackedTerm) → r ≡ got (term_of p.a p.b p.c) to rest
+    → set rows k p ≡ stored k r rows
+store_term k r p to rest rows e = rw (store k r (term_of p.a p.b p.c) to rest rows e, folded_unfolded p.a, folded_unfolded p.c)
 
 -- Terms in front of those that a reader reads.
 unfoldable pub joined : {A : Type 0} → List A → Read (List A) → Read (List A)
@@ -67,29 +68,29 @@ unfolding summed
 summed_more f s [] t = refl
 summed_more f s (x ∷ done) t = summed_more f (added f s x) done t
 
--- One row more after those that were stored.
-put_more : (done : List Term) (t : Term) (from : ℕ) (rows : List (List ℕ))
-    → set (sets rows from (map row_of done)) (from + length done) (row_of t) ≡ sets rows from (map row_of (done ++ t ∷ []))
+-- One term more after those that were stored.
+put_more : (done : List Term) (t : Term) (from : ℕ) (rows : List PackedTerm)
+    → set (sets rows from (map packed_term done)) (from + length done) (packed_term t) ≡ sets rows from (map packed_term (done ++ t ∷ []))
 put_more [] t from rows = rw (add-zero from)
 put_more (x ∷ done) t from rows =
     let e : from + suc (length done) ≡ suc from + length done = omega arith in
-    rw e (put_more done t (suc from) (set rows from (row_of x)))
+    rw e (put_more done t (suc from) (set rows from (packed_term x)))
 
 -- After a refusal nothing is said.
-pub filled_bad : (k : ℕ) (r : Read (List Term)) (q : Refusal) (before after : List (List ℕ)) → r ≡ bad q → filled k r before after
+pub filled_bad : (k : ℕ) (r : Read (List Term)) (q : Refusal) (before after : List PackedTerm) → r ≡ bad q → filled k r before after
 unfolding filled
 filled_bad k r q before after e = rw e tt
 
 -- The loop's invariant, with the terms that are done.
-pub record Taken (s : List ℕ) (at f from end : ℕ) (first : Tally) (rows₀ rows : List (List ℕ)) (tally : Tally) (i k : ℕ) : Type 0 where
+pub record Taken (s : List ℕ) (at f from end : ℕ) (first : Tally) (rows₀ rows : List PackedTerm) (tally : Tally) (i k : ℕ) : Type 0 where
   pub done : List Term
   pub place : k ≡ from + length done
   pub bound : k ≤ end
   pub whole : read_terms (end - from) f first at (drop at s) ≡ joined done (read_terms (end - k) f tally i (drop i s))
   pub with : tally ≡ summed f first done
-  pub held : rows ≡ sets rows₀ from (map row_of done)
+  pub held : rows ≡ sets rows₀ from (map packed_term done)
 
-module _ (s : List ℕ) (at f from end : ℕ) (first : Tally) (rows₀ : List (List ℕ)) where
+module _ (s : List ℕ) (at f from end : ℕ) (first : Tally) (rows₀ : List PackedTerm) where
   pub taken_none : from ≤ end → Taken s at f from end first rows₀ rows₀ first at from
   unfolding summed
   taken_none h =
@@ -102,7 +103,7 @@ module _ (s : List ℕ) (at f from end : ℕ) (first : Tally) (rows₀ : List (L
         held = refl;
       }
 
-  module _ (rows : List (List ℕ)) (tally : Tally) (i k : ℕ) (l : Taken s at f from end first rows₀ rows tally i k) where
+  module _ (rows : List PackedTerm) (tally : Tally) (i k : ℕ) (l : Taken s at f from end first rows₀ rows tally i k) where
     -- One term of those that are left.
     some : (n : ℕ) → k < end → n ≡ end - (k + 1) → end - k ≡ suc n
     some n h e = omega arith
@@ -121,7 +122,7 @@ module _ (s : List ℕ) (at f from end : ℕ) (first : Tally) (rows₀ : List (L
     unfolding read_terms next joined
     taken_last h = let z : end - k ≡ 0 = omega arith in l.whole ∙ rw z (ap (λ (d : List Term). got d i (drop i s)) (append-nil l.done))
 
-    pub taken_more : (read : Found Tally) (rows' : List (List ℕ)) → k < end → Stepped (added f tally) s (read_term f tally i (drop i s)) read
+    pub taken_more : (read : Found Tally) (rows' : List PackedTerm) → k < end → Stepped (added f tally) s (read_term f tally i (drop i s)) read
         → rows' ≡ stored k (read_term f tally i (drop i s)) rows → Taken s at f from end first rows₀ rows' read.value read.next (k + 1)
     unfolding added
     taken_more read rows' h w e =
@@ -141,6 +142,6 @@ module _ (s : List ℕ) (at f from end : ℕ) (first : Tally) (rows₀ : List (L
     unfolding filled
     filled_last h = rw (taken_last h) l.held
 
-    pub filled_stop : (q : Refusal) (after : List (List ℕ)) → k < end → read_term f tally i (drop i s) ≡ bad q
+    pub filled_stop : (q : Refusal) (after : List PackedTerm) → k < end → read_term f tally i (drop i s) ≡ bad q
         → filled from (read_terms (end - from) f first at (drop at s)) rows₀ after
     filled_stop q after h e = filled_bad from _ q rows₀ after (taken_stop q h e)

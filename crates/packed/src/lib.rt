@@ -8,7 +8,7 @@ mod wide;
 ghost use Rattle.std.specs.Prelude.{◌≡◌};
 ghost use Rattle.packed.specs.Series.{parse, checked};
 
-use table::{TABLE_ROWS, Table, unpack};
+use table::Table;
 use units::Refusal;
 
 // What the walk over a packed series tells of it: the number of its terms, and whether it is good for the wide range.
@@ -22,6 +22,6 @@ pub struct Content {
 pub fn check(bytes: &[u8]) -> Result<Content, Refusal>
     ensures { result ≡ checked (parse bytes.now) }
 {
-    let mut table: Table = [[0; 3]; TABLE_ROWS];
-    unpack(bytes, &mut table)
+    let mut table = Table::new();
+    table.unpack(bytes)
 }

@@ -13,6 +13,7 @@ use Rattle.cosine.specs.Cosine.{even_part, odd_part}
 use Rattle.cosine.specs.Machine.Parity.{even_value, odd_value, value_by_parity}
 use Rattle.cosine.specs.declared.term.ReducedTerm.{ReducedTerm}
 use Rattle.limits.specs.declared.Term.{Term}
+use Rattle.packed.specs.declared.table.Table.{Table}
 use Rattle.packed.specs.Machine.Table.{term_at, terms_at}
 use Rattle.pieces.specs.declared.Counts.{Counts}
 use Rattle.pieces.specs.declared.Placed.{Placed}
@@ -94,14 +95,14 @@ small_none f e = record {
 -- ---- the loop over a piece's terms
 
 -- x, the sum of the terms before place i, is what the tables hold
-pub record Partly (t : ℤ) (rows : List (List ℕ)) (from to : ℕ) (es os : List Placed) (n : Counts) (i : ℕ) : Type 0 where
+pub record Partly (t : ℤ) (rows : Table) (from to : ℕ) (es os : List Placed) (n : Counts) (i : ℕ) : Type 0 where
   pub x : ℤ
   pub holding : Holding es os n.evens n.odds x
   pub summed : Summed t rows from to x i
   pub many : from + (n.evens + n.odds) ≡ i
   pub short : to ≤ from + piece_limit
 
-pub partly_none : {t : ℤ} {rows : List (List ℕ)} {from to : ℕ} {es os : List Placed}
+pub partly_none : {t : ℤ} {rows : Table} {from to : ℕ} {es os : List Placed}
     → Piece rows from to → Rooms es os
     → Partly t rows from to es os (record { evens = 0; odds = 0 }) from
 partly_none {es} {os} q h = record {
@@ -112,7 +113,7 @@ partly_none {es} {os} q h = record {
   short = q.short;
 }
 
-module _ {t : ℤ} {rows : List (List ℕ)} {from to : ℕ} {es os : List Placed} where
+module _ {t : ℤ} {rows : Table} {from to : ℕ} {es os : List Placed} where
   module _ {n : Counts} {i : ℕ} (p : Partly t rows from to es os n i) where
     pub evens_free : n.evens < room
     evens_free = let m = p.many in let s = p.short in let w = p.summed.within in omega arith

@@ -10,6 +10,7 @@ use Rattle.units.specs.Units.{a_limit, total_limit, series_limit}
 use Rattle.cosine.specs.Terms.{term_value}
 use Rattle.limits.specs.declared.Term.{Term}
 use Rattle.limits.specs.Allowed.{TermFits, AllFit, none, more, BlockFits, total_of}
+use Rattle.packed.specs.declared.table.Table.{Table}
 use Rattle.packed.specs.Machine.Table.{term_at, terms_at}
 use Rattle.pieces.specs.Sums.{block_sum}
 use Rattle.pieces.specs.Machine.Parted.{piece_limit}
@@ -37,7 +38,7 @@ rest_fit : (xs ys : List Term) → AllFit (xs ++ ys) → AllFit ys
 rest_fit [] ys h = h
 rest_fit (x ∷ xs) ys (more h k) = rest_fit xs ys k
 
-module _ (rows : List (List ℕ)) where
+module _ (rows : Table) where
   terms_append : (m n i : ℕ) → terms_at rows i (m + n) ≡ terms_at rows i m ++ terms_at rows (i + m) n
   unfolding terms_at
   terms_append zero n i = let e : 0 + n ≡ n = omega arith in let f : i + 0 ≡ i = omega arith in rw (e, f)
@@ -58,14 +59,14 @@ module _ (rows : List (List ℕ)) where
 -- ---- the pieces
 
 -- sum is the sum of the terms before place i
-pub record Summed (t : ℤ) (rows : List (List ℕ)) (from to : ℕ) (sum : ℤ) (i : ℕ) : Type 0 where
+pub record Summed (t : ℤ) (rows : Table) (from to : ℕ) (sum : ℤ) (i : ℕ) : Type 0 where
   pub within : i ≤ to
   pub space : to ≤ series_limit
   pub limits : AllFit (terms_at rows i (to - i))
   pub small : nat_abs sum + total_of (terms_at rows i (to - i)) ≤ total_limit
   pub left : sum +ℤ block_sum t (terms_at rows i (to - i)) ≡ block_sum t (terms_at rows from (to - from))
 
-module _ {t : ℤ} {rows : List (List ℕ)} {from to : ℕ} where
+module _ {t : ℤ} {rows : Table} {from to : ℕ} where
   pub summed_none : from ≤ to → to ≤ series_limit → BlockFits (terms_at rows from (to - from)) → Summed t rows from to (pos 0) from
   summed_none h k b = record {
     within = h;

@@ -14,6 +14,7 @@ ghost use Rattle.pieces.specs.Machine.Parted.{piece_limit, room, half_sum, Worke
 use cosine::parity::{Even, Odd, Parity};
 use cosine::term::{Prepared, ReducedTerm};
 use packed::table::Table;
+use packed_numbers::quick::PackedTerm;
 use packed_numbers::unfold_number;
 use pairs::{Pair, values};
 use units::U;
@@ -59,8 +60,8 @@ fn worked_at(p: Prepared, table: &Table, i: usize) -> ReducedTerm
     requires { (i < series_limit) × TermFits (term_at table.now i) }
     ensures { WorkedFor p.t (term_at table.now i) result }
 {
-    let row = table[i];
-    p.reduced_term(unfold_number(row[0]), row[1], unfold_number(row[2]))
+    let PackedTerm { a, b, c } = table.term(i);
+    p.reduced_term(unfold_number(a), b, unfold_number(c))
 }
 
 // Parts the terms from place from up to place to. Two places and not a slice: contracts tell the terms of a table by their places in it.

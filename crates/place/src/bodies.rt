@@ -12,7 +12,7 @@ use crate::steps::earlier;
 use limits::wide::may_ask;
 use rectangular::from_earth::sight;
 use rectangular::{Frame, View};
-use series::table::{TABLE_ROWS, Table, coordinates, fill};
+use series::table::{Table, coordinates, fill};
 use units::{Instant, Refusal, in_limit};
 
 // The sight at the earlier instant, with D at t.
@@ -79,7 +79,7 @@ pub fn sighting(planet: &[u8], earth: &[u8], t: Instant) -> Result<Geocentric, R
     if !in_limit(t) {
         return Err(Refusal::PastLimit(t));
     }
-    let mut table: Table = [[0; 3]; TABLE_ROWS];
+    let mut table = Table::new();
     let content = fill(planet, &mut table)?;
     with_earth(&table, content.wide, earth, t)
 }
@@ -89,7 +89,7 @@ fn with_earth(planet: &Table, wide: bool, earth: &[u8], t: Instant) -> Result<Ge
     requires { (nat_abs t.ms ≤ t_limit) × Table planet.now × (wide ≡ good_for_wide (table_blocks planet.now)) }
     ensures { result ≡ of_series four_millennia (accepted (table_blocks planet.now)) (parse earth.now) t }
 {
-    let mut table: Table = [[0; 3]; TABLE_ROWS];
+    let mut table = Table::new();
     let content = fill(earth, &mut table)?;
     let good = content.wide;
     let bodies = Bodies {

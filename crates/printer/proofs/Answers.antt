@@ -12,6 +12,7 @@ use Rattle.std.specs.Prelude.{Err, Ok}
 use Rattle.units.specs.Units.{series_limit}
 use Rattle.packed.specs.Series.{Parsed, accepted, refused, parse, checked}
 use Rattle.limits.specs.Allowed.{term_count}
+use Rattle.packed.specs.declared.table.Table.{Table}
 use Rattle.packed.specs.Machine.Table.{ends, table_blocks, unpacked}
 use Rattle.packed_promises.proofs.Theorems.{accepted_allowed}
 use Rattle.printer.specs.Printer.{plain_text, text_fits, printed, printed_out}
@@ -39,11 +40,11 @@ print_refused s out q e = go (parse s) e
     go (refused r) e = let p : r ≡ q = cc in (rw p, refl)
 
 -- An accepted series, and its table.
-pub record Opened (s : List ℕ) (rows : List (List ℕ)) : Type 0 where
+pub record Opened (s : List ℕ) (rows : Table) : Type 0 where
   pub is : parse s ≡ accepted (table_blocks rows)
   pub ordered : Ordered 0 (ends rows)
 
-pub opened : (s : List ℕ) (rows : List (List ℕ)) → ((q : Refusal) → checked (parse s) ≡ Err q → ⊥) → unpacked (parse s) rows → Opened s rows
+pub opened : (s : List ℕ) (rows : Table) → ((q : Refusal) → checked (parse s) ≡ Err q → ⊥) → unpacked (parse s) rows → Opened s rows
 unfolding checked unpacked
 opened s rows n u = go (parse s) refl n u
   where

@@ -11,9 +11,12 @@ use lib.IntN.{ℤ, nat_abs}
 use lib.ListN.{length}
 use Rattle.integers.specs.Signs.{negative}
 use Rattle.units.specs.Units.{parts}
+use Rattle.packed_numbers.specs.declared.quick.PackedTerm.{PackedTerm}
 use Rattle.packed_numbers.specs.Numbers.{unfolded}
 use Rattle.packed_numbers.proofs.Folding.{even, odd}
 use Rattle.limits.specs.declared.Term.{Term}
+use Rattle.packed.specs.declared.table.Table.{Table}
+use Rattle.packed.specs.Machine.Table.{packed_at, term_at}
 use Rattle.series_lines.specs.Grammar.{feed, spaces, sign, point, part_digits, digits, decimal, term_bytes}
 use Rattle.printer.specs.Printer.{last_digits, plain_decimal, plain_term}
 use Rattle.printer.specs.Machine.Writing.{Room, Wrote, whole_text, line_text, whole_most, decimal_most}
@@ -83,6 +86,22 @@ pub record Signed (z : ℤ) (minus : Bool) (size : ℕ) : Type 0 where
 
 pub signed : (z : ℤ) (minus : Bool) (size : ℕ) → minus ≡ negative z → size ≡ nat_abs z → Signed z minus size
 signed z minus size e f = record { is_minus = e; is_size = f }
+
+-- The numbers of the term at place k of a table, from those that are packed there.
+module _ (p : PackedTerm) (table : Table) (k : ℕ) (is : p ≡ packed_at table k) where
+  pub packed_a : {minus : Bool} {size : ℕ} → minus ≡ negative (unfolded p.a) → size ≡ nat_abs (unfolded p.a) → Signed (term_at table k).a minus size
+  unfolding term_at
+  packed_a e f =
+      signed _ _ _ (e ∙ ap (λ (q : PackedTerm). negative (unfolded q.a)) is) (f ∙ ap (λ (q : PackedTerm). nat_abs (unfolded q.a)) is)
+
+  pub packed_b : p.b ≡ (term_at table k).b
+  unfolding term_at
+  packed_b = ap (λ (q : PackedTerm). q.b) is
+
+  pub packed_c : {minus : Bool} {size : ℕ} → minus ≡ negative (unfolded p.c) → size ≡ nat_abs (unfolded p.c) → Signed (term_at table k).c minus size
+  unfolding term_at
+  packed_c e f =
+      signed _ _ _ (e ∙ ap (λ (q : PackedTerm). negative (unfolded q.c)) is) (f ∙ ap (λ (q : PackedTerm). nat_abs (unfolded q.c)) is)
 
 -- A term's line: its decimals, two spaces and the line feed.
 abbrev pub line_parts : List ℕ → List ℕ → List ℕ → List (List ℕ)

@@ -8,9 +8,9 @@ ghost use Rattle.printer.specs.Machine.Writing.{Room, Wrote, block_of, Ordered, 
 
 use crate::digits::{put_byte, put_whole, whole_length};
 use crate::lines::{lines_length, put_lines};
-use packed::table::{END_ROWS, Table, block_end};
+use packed::table::Table;
 
-// A block: its count line, and the lines of its terms, which stand in the rows from from to end.
+// A block: its count line, and the lines of its terms, which stand at the places from from to end.
 fn block_length(table: &Table, from: usize, end: usize) -> usize
     requires { (from ≤ end) × (end ≤ series_limit) }
     ensures { (result ≡ length (block_of table.now from end)) × (result ≤ line_most * (end - from) + (whole_most + 1)) }
@@ -35,8 +35,8 @@ pub fn text_length(table: &Table) -> usize
 {
     let mut n = 0;
     let mut from = 0;
-    for k in 0..END_ROWS {
-        let end = block_end(table, k) as usize;
+    for place in table.ends() {
+        let end = *place as usize;
         n += block_length(table, from, end);
         from = end;
     }
@@ -49,8 +49,8 @@ pub fn put_blocks(table: &Table, out: &mut [u8]) -> usize
 {
     let mut p = 0;
     let mut from = 0;
-    for k in 0..END_ROWS {
-        let end = block_end(table, k) as usize;
+    for place in table.ends() {
+        let end = *place as usize;
         p = put_block(table, from, end, out, p);
         from = end;
     }

@@ -12,7 +12,7 @@ ghost use Rattle.printer.specs.Printer.{printed, printed_out};
 ghost use Rattle.printer.specs.Machine.Writing.{Ordered};
 
 use blocks::{put_blocks, text_length};
-use packed::table::{TABLE_ROWS, Table, unpack};
+use packed::table::Table;
 use series_lines::lexer::{COUNT_DIGITS, PART_DIGITS};
 use units::{BLOCK_COUNT, Refusal, SERIES_LIMIT};
 
@@ -46,7 +46,7 @@ pub fn print(packed: &[u8], out: &mut [u8]) -> Result<usize, Refusal>
     ensures { (result ≡ printed (parse packed.now) out.old)
         × (out.new ≡ printed_out (parse packed.now) out.old) }
 {
-    let mut table: Table = [[0; 3]; TABLE_ROWS];
-    let _content = unpack(packed, &mut table)?;
+    let mut table = Table::new();
+    let _content = table.unpack(packed)?;
     print_table(&table, out)
 }

@@ -13,6 +13,7 @@ use Rattle.limits.specs.Wide.{reaches, four_millennia}
 use Rattle.packed.specs.declared.Content.{Content}
 use Rattle.std.specs.Prelude.{Err, Ok, Result}
 use Rattle.packed.specs.Series.{Parsed, accepted, refused, parse, checked}
+use Rattle.packed.specs.declared.table.Table.{Table as Terms}
 use Rattle.packed.specs.Machine.Table.{table_blocks}
 use Rattle.series.specs.Sums.{coordinates, of_parsed, coordinates_by, coordinates_answer}
 use Rattle.series.proofs.Filled.{SeriesIn, refused_of}
@@ -33,7 +34,7 @@ module _ (bytes : List ℕ) (t : Instant) (b : Bool) (e : b ≡ in_limit t.ms) (
   unfolding of_parsed
   answers_refused k r g h = answers_parsed bytes t (refused r) (told_within t_limit t.ms b e f) (refused_of (parse bytes) k r g h)
 
-  module _ (rows : List (List ℕ)) (c : Content) (u : SeriesIn bytes rows c) where
+  module _ (rows : Terms) (c : Content) (u : SeriesIn bytes rows c) where
     answers_asked : (a : Bool) → reaches (table_blocks rows) t.ms ≡ a
         → cond a (Ok (coordinates t.ms (table_blocks rows))) (Err (TooFar t)) ≡ coordinates_answer bytes t
     unfolding of_parsed

@@ -14,6 +14,7 @@ use Rattle.arith.proofs.Cells.{Cell, cell, held_le}
 use Rattle.units.specs.Units.{millennium, tau_limit, t_limit, total_limit, wide_total, series_limit, block_count}
 use Rattle.limits.specs.declared.Term.{Term}
 use Rattle.limits.specs.Allowed.{BlockFits}
+use Rattle.packed.specs.declared.table.Table.{Table as Terms}
 use Rattle.packed.specs.Machine.Table.{terms_at, table_blocks}
 use Rattle.packed.proofs.Tabled.{block_start, block_end, rising, within_table, block_there}
 use Rattle.pieces.specs.Sums.{block_sum}
@@ -22,7 +23,7 @@ use Rattle.pieces.proofs.Sizes.{block_size}
 use Rattle.series.specs.Machine.Table.{Table}
 use Rattle.series.proofs.Sizes.{carried_size}
 
-module _ (rows : List (List ℕ)) (h : Table rows) (j : ℕ) (hj : j < block_count) where
+module _ (rows : Terms) (h : Table rows) (j : ℕ) (hj : j < block_count) where
   abbrev block : List Term
   block = get_or (table_blocks rows) j []
 

@@ -6,7 +6,7 @@ ghost use Rattle.series.specs.Call.{CoordinatesPromised};
 mod sums;
 pub mod table;
 
-use crate::table::{TABLE_ROWS, Table, coordinates, fill};
+use crate::table::{Table, coordinates, fill};
 use limits::wide::may_ask;
 use units::{Coordinates, Instant, Refusal, in_limit};
 
@@ -17,7 +17,7 @@ pub fn coordinates_at(packed: &[u8], t: Instant) -> Result<Coordinates, Refusal>
     if !in_limit(t) {
         return Err(Refusal::PastLimit(t));
     }
-    let mut table: Table = [[0; 3]; TABLE_ROWS];
+    let mut table = Table::new();
     let content = fill(packed, &mut table)?;
     if !may_ask(content.wide, t) {
         return Err(Refusal::TooFar(t));

@@ -8,9 +8,9 @@ ghost use Rattle.pieces.specs.Sums.{block_sum};
 ghost use Rattle.series.specs.Sums.{running_sum};
 ghost use Rattle.series.specs.Machine.Table.{Table};
 
+use crate::table::Table;
 use arith::muldiv::mul_div_round;
 use cosine::term::Prepared;
-use packed::table::{Table, block_end};
 use pieces::sum_terms;
 use units::{MILLENNIUM, POWERS};
 
@@ -25,7 +25,7 @@ fn block_start(table: &Table, j: usize) -> u64
     if j == 0 {
         return 0;
     }
-    block_end(table, j - 1)
+    table.block_end(j - 1)
 }
 
 // One power of the running sum: V becomes S + V t/T rounded, S the sum of block j. Before power 0, |V| is at most 1 + 4 + 16 + 64 + 256 totals of
@@ -35,7 +35,7 @@ fn with_block(p: Prepared, table: &Table, j: usize, v: i64) -> i64
     ensures { result ≡ block_sum p.t (get_or (table_blocks table.now) j []) +ℤ rounded (v *ℤ p.t) millennium }
 {
     let from = block_start(table, j);
-    let to = block_end(table, j);
+    let to = table.block_end(j);
     let sum = sum_terms(p, table, from as usize, to as usize);
     let carried = mul_div_round(v, p.t, MILLENNIUM);
     sum + carried

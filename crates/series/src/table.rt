@@ -10,18 +10,15 @@ ghost use Rattle.series.specs.Machine.Table.{Table, filled};
 use crate::sums::{COORDINATE_BLOCKS, coordinate};
 use cosine::term::Prepared;
 use packed::Content;
-use packed::table::unpack;
 use units::{Coordinates, Instant, Refusal};
 
 pub type Table = packed::table::Table;
-
-pub const TABLE_ROWS: usize = packed::table::TABLE_ROWS;
 
 // Reads a packed series into the table. The answer is what it holds, or the refusal, after which the table is of no use.
 pub fn fill(packed: &[u8], table: &mut Table) -> Result<Content, Refusal>
     ensures { (result ≡ checked (parse packed.now)) × filled (parse packed.now) table.new }
 {
-    unpack(packed, table)
+    table.unpack(packed)
 }
 
 // L, B and R at an instant at which the series may be asked.

@@ -13,6 +13,7 @@ use Rattle.units.specs.declared.Refusal.TheVariants.{NotUsable, TooFar}
 use Rattle.limits.specs.declared.Term.{Term}
 use Rattle.limits.specs.Wide.{good_for_wide, reaches, four_millennia, both_asked}
 use Rattle.limits.proofs.Reach.{both_is, each_asked}
+use Rattle.packed.specs.declared.table.Table.{Table as Terms}
 use Rattle.packed.specs.Machine.Table.{table_blocks}
 use Rattle.series.specs.Sums.{coordinates}
 use Rattle.runs.specs.Runs.{run_numbers}
@@ -31,7 +32,7 @@ answers_as o p before r after e a = (a.0 ∙ ap (answered (length before)) e, a.
 
 -- ---- decide_at
 
-module _ (planet earth : List (List ℕ)) (t0 : Instant) where
+module _ (planet earth : Terms) (t0 : Instant) where
   pub minute_reached : (n j : ℕ) (t : Instant) → Tables planet earth t0 n → j < n → t ≡ minute t0 j
       → (reaches (table_blocks planet) t.ms ≡ true) × (reaches (table_blocks earth) t.ms ≡ true)
   minute_reached n j t s l e =

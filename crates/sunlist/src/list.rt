@@ -12,7 +12,7 @@ use crate::Decision;
 use crate::one_minute::decide;
 use crate::window::{Window, minute, write_runs};
 use runs::MOST_MINUTES;
-use series::table::{TABLE_ROWS, Table, coordinates, fill};
+use series::table::{Table, coordinates, fill};
 use units::Refusal;
 
 // The term tables of planet and Earth, and whether both series are good for the wide range.
@@ -78,9 +78,9 @@ pub fn of_series(
     ensures { Answers (series_outcome four_millennia (parse planet.now) (parse earth.now) window.t0 window.minutes window.keep_out)
         out.old result out.new }
 {
-    let mut planet_table: Table = [[0; 3]; TABLE_ROWS];
+    let mut planet_table = Table::new();
     let of_planet = fill(planet, &mut planet_table)?;
-    let mut earth_table: Table = [[0; 3]; TABLE_ROWS];
+    let mut earth_table = Table::new();
     let of_earth = fill(earth, &mut earth_table)?;
     let bodies = Bodies {
         planet: &planet_table,

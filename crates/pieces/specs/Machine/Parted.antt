@@ -6,6 +6,7 @@ use Rattle.cosine.specs.Machine.Parity.{even_value, odd_value, value_by_parity, 
 use Rattle.cosine.specs.declared.term.ReducedTerm.{ReducedTerm}
 use Rattle.limits.specs.declared.Term.{Term}
 use Rattle.limits.specs.Allowed.{BlockFits}
+use Rattle.packed.specs.declared.table.Table.{Table}
 use Rattle.packed.specs.Machine.Table.{terms_at}
 use Rattle.pieces.specs.declared.Counts.{Counts}
 use Rattle.pieces.specs.declared.Placed.{Placed}
@@ -19,7 +20,7 @@ abbrev pub room : ℕ
 room = piece_limit + 1
 
 -- What is asked of the terms from place from up to place to of a term table, for them to be summed.
-pub record Piece (rows : List (List ℕ)) (from to : ℕ) : Type 0 where
+pub record Piece (rows : Table) (from to : ℕ) : Type 0 where
   pub order : from ≤ to
   pub space : to ≤ series_limit
   pub short : to ≤ from + piece_limit

@@ -3,6 +3,7 @@ use Rattle.std.specs.Prelude.{◌≡◌, List, [], ◌∷◌, ◌++◌, map, ℕ
 use Rattle.std.proofs.lemmas.List.Edits.{sets}
 use Rattle.limits.specs.declared.Term.{Term}
 use Rattle.units.specs.Units.{series_limit}
+use Rattle.packed.specs.declared.table.Table.{Table}
 use Rattle.packed.specs.Machine.Table.{term_at, terms_at}
 use Rattle.series_lines.specs.Grammar.{feed, part_digits, digits, count_bytes, term_bytes, lines_bytes}
 use Rattle.printer.specs.Printer.{first_digit, rest_digits, plain_count, plain_term}
@@ -44,17 +45,17 @@ lines_text ts = lines_bytes (map plain_term ts)
 unfoldable pub block_text : List Term → List ℕ
 block_text ts = count_bytes (plain_count (length ts)) ++ feed ∷ lines_text ts
 
--- In a table: the line of row k, the lines of the rows from from to end, and the block of those rows.
-abbrev pub line_of : List (List ℕ) → ℕ → List ℕ
+-- In a table: the line of the term at place k, the lines of the terms at the places from from to end, and the block of those.
+abbrev pub line_of : Table → ℕ → List ℕ
 line_of rows k = line_text (term_at rows k)
 
-abbrev pub lines_of : List (List ℕ) → ℕ → ℕ → List ℕ
+abbrev pub lines_of : Table → ℕ → ℕ → List ℕ
 lines_of rows from end = lines_text (terms_at rows from (end - from))
 
-abbrev pub block_of : List (List ℕ) → ℕ → ℕ → List ℕ
+abbrev pub block_of : Table → ℕ → ℕ → List ℕ
 block_of rows from end = block_text (terms_at rows from (end - from))
 
--- The rows where blocks end, the first of which starts at row p: in order, and within the table.
+-- The places where blocks end, the first of which starts at place p: in order, and within the table.
 unfoldable pub Ordered : ℕ → List ℕ → Type 0
 Ordered p [] = p ≤ series_limit
 Ordered p (e ∷ ends) = (p ≤ e) × Ordered e ends

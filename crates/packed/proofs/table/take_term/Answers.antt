@@ -6,7 +6,7 @@ use Rattle.limits.proofs.Passing.{all_pass}
 use Rattle.packed.specs.Machine.Answers.{packed_term, term_of}
 use Rattle.packed.proofs.ReadCases.{term_after}
 use Rattle.packed.proofs.Accepting.{term_accepted, was_found, packed_may_come, packed_added}
-use Rattle.packed.proofs.Walking.{store_row, store_none}
+use Rattle.packed.proofs.Walking.{store_term, store_none}
 use Rattle.packed.proofs.table.take_term.Goals as goal
 
 pub returns-in_err-t : goal.returns-in_err-t
@@ -28,5 +28,5 @@ returns c =
     let a = c.args in
     let found = was_found c.in_ok-t.t (term_after a.bytes.now a.f a.tally a.at) (sym c.in_ok-t.ensures) in (
       show_got (added a.f a.tally) found.is (c.add_term.ensures ∙ packed_added _ _ _ _ c.sizes.ensures),
-      store_row _ _ _ _ _ _ _ _ found.is,
+      store_term _ _ _ _ _ _ found.is,
     )

@@ -8,6 +8,7 @@ use Rattle.printer.proofs.PieceByPiece.{Left}
 use Rattle.printer.proofs.TableText.{blocks_from}
 use Rattle.printer.proofs.blocks.put_blocks.Given as goal
 
-abbrev pub invariant-loop-k : goal.invariant-loop-k
-invariant-loop-k l =
-    Ordered l.from (drop l.k (ends l.table)) × Left (plain_text (table_blocks l.table)) 0 l.initial.out (blocks_from l.table l.from l.k ∷ []) l.p l.out
+abbrev pub invariant-loop-place : goal.invariant-loop-place
+invariant-loop-place l =
+    Ordered l.from (drop l.place-index (ends l.table))
+    × Left (plain_text (table_blocks l.table)) 0 l.initial.out (blocks_from l.table l.from l.place-index ∷ []) l.p l.out

@@ -1,12 +1,12 @@
 -- `series::sums::coordinate` meets its contract. Assumes nothing.
 use mathlib.Core.Path.{sym, subst}
-use mathlib.Core.List.{List}
 use Prim.Native.Nat.{ℕ, ◌+◌, ◌-◌, ◌*◌, ◌≤◌}
 use native.Mathlib.Omega.{arith}
 use lib.IntN.{ℤ}
 use lib.ListN.{length}
 use Rattle.arith.proofs.Signs.{back, ok}
 use Rattle.units.specs.Units.{powers}
+use Rattle.packed.specs.declared.table.Table.{Table as Terms}
 use Rattle.packed.specs.Machine.Table.{table_blocks}
 use Rattle.series.specs.Machine.Table.{Table}
 use Rattle.series.proofs.Blocks.{Running, running_start, running_next, running_whole, running_within}
@@ -14,7 +14,7 @@ use Rattle.series.proofs.Reach.{in_reach}
 use Rattle.series.proofs.sums.coordinate.Goals as goal
 
 -- the blocks of the table, of which there are enough
-enough_blocks : {rows : List (List ℕ)} {first : ℕ} → Table rows → first ≤ 2 * powers → first + 6 ≤ length (table_blocks rows)
+enough_blocks : {rows : Terms} {first : ℕ} → Table rows → first ≤ 2 * powers → first + 6 ≤ length (table_blocks rows)
 enough_blocks h l = let n = h.allowed.eighteen in omega arith
 
 pub loop-k-init : goal.loop-k-init

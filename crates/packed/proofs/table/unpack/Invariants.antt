@@ -1,6 +1,0 @@
--- `unpack` meets its contract. Assumes nothing.
-use Rattle.packed.proofs.Unpacking.{Unpacking}
-use Rattle.packed.proofs.table.unpack.Given as goal
-
-abbrev pub invariant-loop-k : goal.invariant-loop-k
-invariant-loop-k l = Unpacking l.bytes l.table l.tallies l.read.value l.read.next l.k
