@@ -1,39 +1,19 @@
 -- What the functions of window.rt ask and answer. Assumes nothing.
-use mathlib.Core.Path.{◌≡◌, refl, sym, ap, ap₂, ◌∙◌, subst}
+use mathlib.Core.Path.{◌≡◌, refl, sym, ap, ap₂, ◌∙◌}
 use mathlib.Core.Bool.{Bool, true, false, ◌||◌}
 use mathlib.Core.List.{List}
-use Prim.Native.Nat.{ℕ, ◌*◌, ◌^◌, ◌≤◌, ◌<◌}
+use Prim.Native.Nat.{ℕ, ◌≤◌, ◌<◌}
 use native.Mathlib.Omega.{arith}
 use borrow.Author.Tests.{le-leb, lt-leb}
-use lib.IntN.{ℤ, pos, nat_abs, ◌+ℤ◌}
 use lib.ListN.{length}
 use lib.Seq.{sets}
-use mir.Syntax.{w64}
-use mir.Val.{SFits}
-use Rattle.integers.proofs.Order.{nat_abs-+, fits}
-use Rattle.units.specs.Units.{minute_ms, t_limit, near}
+use Rattle.units.specs.Units.{near}
 use Rattle.units.specs.declared.Instant.{Instant}
 use Rattle.units.specs.declared.Refusal.TheVariants.{NoRoom}
-use Rattle.arith.proofs.Cells.{Cell, cell}
 use Rattle.std.specs.Prelude.{Err, Ok}
-use Rattle.runs.specs.Runs.{most_minutes}
 use Rattle.sunlist.specs.SunList.{minute, first_failing, numbers, answered, written}
 use Rattle.sunlist.specs.Machine.Window.{asked_at}
 use Rattle.sunlist.proofs.Failing.{none_fails}
-
--- ---- minute
-module _ (t : ℤ) (j : ℕ) (w : ℤ) (ht : nat_abs t ≤ t_limit) (hj : j < most_minutes) (e : w ≡ pos (minute_ms * j)) where
-  later : Cell t +ℤ Cell w ≡ t +ℤ pos (minute_ms * j)
-  later = ap₂ ◌+ℤ◌ (cell t (omega arith)) (cell w (subst (λ (z : ℤ). nat_abs z < 2 ^ 63) (sym e) (omega arith)) ∙ e)
-
-  small : nat_abs (t +ℤ pos (minute_ms * j)) < 2 ^ 63
-  small = let s = nat_abs-+ t (pos (minute_ms * j)) in omega arith
-
-  pub minute_fits : SFits w64 (Cell t +ℤ Cell w)
-  minute_fits = subst (SFits w64) (sym later) (fits (t +ℤ pos (minute_ms * j)) small)
-
-  pub minute_is : (r : ℤ) → r ≡ Cell t +ℤ Cell w → Cell r ≡ t +ℤ pos (minute_ms * j)
-  minute_is r f = let p = f ∙ later in cell r (subst (λ (z : ℤ). nat_abs z < 2 ^ 63) (sym p) small) ∙ p
 
 -- ---- first_far
 

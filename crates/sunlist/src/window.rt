@@ -6,7 +6,6 @@ ghost use Rattle.runs.specs.Runs.{run_numbers, most_minutes};
 ghost use Rattle.sunlist.specs.SunList.{window_fits, minute as minute_of, numbers, answered, written};
 ghost use Rattle.sunlist.specs.Machine.Window.{LeftToSeries, RefusedBefore, asked_at, FoundFar};
 
-use arith::signed::wide;
 use runs::MOST_MINUTES;
 use units::{Instant, MINUTE_MS, Refusal, in_limit, near};
 
@@ -31,8 +30,9 @@ pub fn minute(t0: Instant, j: u64) -> Instant
     requires { (nat_abs t0.ms ≤ t_limit) × (j < most_minutes) }
     ensures { result ≡ minute_of t0 j }
 {
-    let ms = t0.ms + wide(MINUTE_MS * j);
-    Instant { ms }
+    Instant {
+        ms: t0.ms + (MINUTE_MS * j) as i64,
+    }
 }
 
 // A window whose minutes are all within the limit of time, and a keep-out in arcminutes, both in their ranges.
