@@ -4,7 +4,6 @@ ghost use Rattle.decimals.specs.Numerals.{Decided};
 ghost use Rattle.decimals.specs.Machine.Reading.{too_great, all_digits};
 
 use crate::{MINUS_SIGN, NINE_DIGIT, ZERO_DIGIT};
-use arith::signed::of_parts;
 
 // Past every number that is read; specs/Machine/Reading.antt has the same name.
 const TOO_GREAT: u64 = 1000000000;
@@ -35,7 +34,7 @@ pub fn number_of(text: &[u8]) -> Option<i64>
         return None;
     }
     if text[0] == MINUS_SIGN {
-        return Some(of_parts(true, digits(&text[1..])?));
+        return Some(-(digits(&text[1..])? as i64));
     }
-    Some(of_parts(false, digits(text)?))
+    Some(digits(text)? as i64)
 }

@@ -4,7 +4,6 @@ ghost use Rattle.decimals.specs.Decimals.{zero_digit, most_digits, decimal, last
 
 use crate::buffer::Buffer;
 use crate::{MINUS_SIGN, MOST_DIGITS, POINT, ZERO_DIGIT};
-use arith::signed::{abs, is_neg};
 
 // A digit's byte.
 fn digit(d: u64) -> u8
@@ -44,9 +43,8 @@ impl<const N: usize> Buffer<N> {
         requires { length self.old + (1 + most_digits) ≤ N }
         ensures { self.new ≡ self.old ++ signed_decimal z }
     {
-        let minus = is_neg(z);
-        self.put_sign(minus);
-        self.put_decimal(abs(z), MOST_DIGITS);
+        self.put_sign(z < 0);
+        self.put_decimal(z.unsigned_abs(), MOST_DIGITS);
     }
 
     // Writes the last digits of a number, leading zeros too.
