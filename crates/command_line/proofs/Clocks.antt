@@ -4,6 +4,9 @@ use mathlib.Core.Bool.{true, false}
 use Prim.Native.Nat.{ℕ, ◌+◌, ◌*◌, ◌≤◌, ◌<◌}
 use native.Mathlib.Omega.{arith}
 use lib.IntN.{ℤ, pos, negsuc, ◌+ℤ◌, ◌*ℤ◌}
+use mir.Syntax.{w64}
+use mir.Val.{to_z}
+use mir.ValLaws.{to_z_pos}
 use borrow.Author.Tests.{le-ltb, lt-ltb}
 use Rattle.arith.specs.Naturals.{natural_or}
 use Rattle.units.specs.Units.{minute_ms}
@@ -45,11 +48,11 @@ module _ (h m s : ℤ) {a b d : ℕ} (ea : a ≡ natural_or h hours) (eb : b ≡
   unfolding ms_of_day on_clock
   no_second p q r = rw (in_to h hours (omega arith), in_to m minutes (omega arith), out_of s seconds (omega arith)) refl
 
-  pub at_clock : a < hours → b < minutes → d < seconds → (x : ℤ) → x ≡ pos (hour_ms * a + minute_ms * b + second_ms * d) → x ≡ ms_of_day h m s
+  pub at_clock : a < hours → b < minutes → d < seconds → to_z w64 (hour_ms * a + minute_ms * b + second_ms * d) ≡ ms_of_day h m s
   unfolding ms_of_day on_clock
-  at_clock p q r x e =
+  at_clock p q r =
       rw (in_to h hours (omega arith), in_to m minutes (omega arith), in_to s seconds (omega arith))
-      (e ∙ rw (ea, eb, ed) (sum h m s (omega arith) (omega arith) (omega arith)))
+      (to_z_pos w64 (hour_ms * a + minute_ms * b + second_ms * d) (omega arith) ∙ rw (ea, eb, ed) (sum h m s (omega arith) (omega arith) (omega arith)))
 
 -- A clock time that does not exist, on a date that does, is refused 1 at field 4.
 pub no_such_time : (y mo d h m s : ℤ) → on_clock h m s ≡ false → first_bad y mo d ≡ 0 → instant_of_clock y mo d h m s ≡ Err (NoSuchDate 4)

@@ -3,7 +3,7 @@ ghost use Rattle.std.specs.Prelude.{◌≡◌, ◌≤◌};
 ghost use Rattle.command_line.specs.Machine.Arguments.{argument_limit};
 ghost use Rattle.command_line.specs.Clock.{ms_of_day, instant_of_clock, minute_of_day};
 
-use arith::signed::{natural_or, wide};
+use arith::signed::natural_or;
 use calendar::instant_of_date;
 use decimals::reading::number_of;
 use std::env::Env;
@@ -52,7 +52,7 @@ fn ms_of_day(hour: i64, minute: i64, second: i64) -> i64
     if HOURS <= h || MINUTES <= m || SECONDS <= s {
         return -1;
     }
-    wide(HOUR_MS * h + MINUTE_MS * m + SECOND_MS * s)
+    (HOUR_MS * h + MINUTE_MS * m + SECOND_MS * s) as i64
 }
 
 // The instant of a date and a clock time. Six numbers and not two structs, as the calendar's calls have them: they are whatever the arguments say,

@@ -1,6 +1,6 @@
 -- `command_line::arguments::ms_of_day` meets its contract. Assumes nothing.
 use Rattle.std.proofs.Common.{◌≡◌}
-use Rattle.arith.proofs.Signs.{back, ok}
+use Rattle.arith.proofs.Signs.{back}
 use Rattle.arith.specs.Naturals.{natural_or}
 use Rattle.command_line.specs.Clock.{hours, minutes, seconds}
 use Rattle.command_line.proofs.Clocks.{no_hour, no_minute, no_second, at_clock}
@@ -26,5 +26,4 @@ returns c =
     let h : c.natural_or-h.result ≡ natural_or c.args.hour hours = rw (back _ c.ranges.hour) at c.natural_or-h.ensures in
     let m : c.natural_or-m.result ≡ natural_or c.args.minute minutes = rw (back _ c.ranges.minute) at c.natural_or-m.ensures in
     let s : c.natural_or-s.result ≡ natural_or c.args.second seconds = rw (back _ c.ranges.second) at c.natural_or-s.ensures in
-    rw (back _ (ok c.wide.type_inv))
-    (at_clock _ _ _ h m s c.if-h-ge-HOURS.false c.if-m-ge-MINUTES.false c.if-s-ge-SECONDS.false _ c.wide.ensures)
+    at_clock _ _ _ h m s c.if-h-ge-HOURS.false c.if-m-ge-MINUTES.false c.if-s-ge-SECONDS.false
