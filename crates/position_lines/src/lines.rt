@@ -4,7 +4,6 @@ ghost use Rattle.decimals.specs.Decimals.{most_digits};
 ghost use Rattle.place.specs.Mount.{Small};
 ghost use Rattle.position_lines.specs.Lines.{line_text, angle_text, distance_text, place_text, name_most, numbers_most, line_most, place_most};
 
-use arith::signed::{abs, is_neg};
 use decimals::LINE_FEED;
 use decimals::buffer::Buffer;
 use place::{Equatorial, HUNDREDTHS_PER_DEGREE};
@@ -44,9 +43,8 @@ fn put_line<const N: usize>(
     requires room { length out.old + (length name.now + (numbers_most + places) + length measure.now) ≤ N }
     ensures { out.new ≡ out.old ++ line_text name.now k places n measure.now }
 {
-    let below = is_neg(k);
     out.put(name);
-    out.put_fraction(below, n, places);
+    out.put_fraction(k < 0, n, places);
     out.put(measure);
     out.put_signed(k);
     out.put_byte(LINE_FEED);
@@ -59,7 +57,7 @@ fn put_angle<const N: usize>(name: &[u8], k: i64, out: &mut Buffer<N>)
     requires room { length out.old + line_most ≤ N }
     ensures { out.new ≡ out.old ++ angle_text name.now k }
 {
-    let n = (DECIMALS * abs(k) + HUNDREDTHS / 2) / HUNDREDTHS;
+    let n = (DECIMALS * k.unsigned_abs() + HUNDREDTHS / 2) / HUNDREDTHS;
     put_line(name, k, DEGREE_PLACES, n, b" degrees, ", out);
 }
 
@@ -68,7 +66,14 @@ fn put_distance<const N: usize>(d: i64, out: &mut Buffer<N>)
     requires { length out.old + line_most ≤ N }
     ensures { out.new ≡ out.old ++ distance_text d }
 {
-    put_line(b"distance ", d, DISTANCE_PLACES, abs(d), b" AU, ", out);
+    put_line(
+        b"distance ",
+        d,
+        DISTANCE_PLACES,
+        d.unsigned_abs(),
+        b" AU, ",
+        out,
+    );
 }
 
 // The three lines.

@@ -9,5 +9,5 @@ pub returns : goal.returns
 unfolding text
 returns g c =
     let b = back _ c.ranges.k in
-    let m = rw b at c.abs.ensures in
+    let m = rw b at c.unsigned_abs.ensures.value in
     angle_put _ _ _ _ _ (rw b at c.put_line.ensures) (omega (arith, m))

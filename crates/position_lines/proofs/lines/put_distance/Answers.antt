@@ -8,4 +8,4 @@ pub returns : goal.returns
 unfolding text
 returns g c =
     let b = back _ c.ranges.d in
-    distance_put _ _ _ _ (rw b at c.abs.ensures) (rw b at c.put_line.ensures)
+    distance_put _ _ _ _ (rw b at c.unsigned_abs.ensures.value) (rw b at c.put_line.ensures)
