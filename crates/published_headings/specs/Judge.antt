@@ -1,8 +1,8 @@
 -- RULES, "Published files": the judgement of a record at its line feed. Refusals for a heading and for a running number come before those
 -- that a series text has; then the packed bytes that the writer has to find room for.
-use Rattle.std.specs.Prelude.{Bool, true, cond, ◌&&◌, List, [], ◌∷◌, ◌++◌, ◌≡◌, ℕ, zero, suc, ◌+◌, ◌*◌, ◌-◌, ◌≤◌, ◌<◌, leb, ltb, eqb}
+use Rattle.std.specs.Prelude.{Bool, cond, ◌&&◌, List, [], ◌∷◌, ◌++◌, ℕ, zero, suc, ◌+◌, ◌*◌, ◌-◌, leb, ltb, eqb}
 use Rattle.packed_numbers.specs.Numbers.{encode}
-use Rattle.units.specs.Units.{powers, block_count}
+use Rattle.units.specs.Units.{powers}
 use Rattle.units.specs.Refusals.{over_limit, bad_heading, bad_number}
 use Rattle.limits.specs.declared.Term.{Term}
 use Rattle.limits.specs.declared.Tally.{Tally}
@@ -31,13 +31,6 @@ in_order done version coordinate power =
 unfoldable pub heading_refusal : ℕ → Tally → ℕ → ℕ → ℕ → ℕ → ℕ
 heading_refusal done s version coordinate power n =
     cond (in_order done version coordinate power) (cond (count_fits s n) 0 over_limit) bad_heading
-
--- So much holds of a heading of block k, with the count n, that may come.
-pub record MayCome (done : ℕ) (s : Tally) (coordinate power n k : ℕ) : Type 0 where
-  pub block : k ≡ block_of coordinate power
-  pub onward : done ≤ k
-  pub inside : k < block_count
-  pub fits : count_fits s n ≡ true
 
 -- The number of the refusal of a term whose running number comes after `last`, or 0; minusb is 1 where b has a minus.
 unfoldable pub record_refusal : ℕ → ℕ → ℕ → Tally → ℕ → Term → ℕ

@@ -1,2 +1,3 @@
--- The judgement of a record of a published file.
+-- The judgement of a record of a published file; and what only the code needs (Machine).
 pub mod Judge
+pub mod Machine

@@ -4,7 +4,8 @@ ghost use Rattle.std.specs.Prelude.{◌≡◌, true, ◌+◌, ◌-◌, ◌<◌, 
 ghost use Rattle.units.specs.Units.{powers, block_count};
 ghost use Rattle.units.specs.Refusals.{fault_number};
 ghost use Rattle.limits.specs.Limits.{count_fits};
-ghost use Rattle.published_headings.specs.Judge.{coordinate_count, block_of, in_order, heading_refusal, MayCome, skipped};
+ghost use Rattle.published_headings.specs.Judge.{coordinate_count, block_of, in_order, heading_refusal, skipped};
+ghost use Rattle.published_headings.specs.Machine.Judged.{MayCome};
 
 use limits::Tally;
 use units::{BLOCK_COUNT, Fault, POWERS};
@@ -26,7 +27,7 @@ pub struct Heading {
 impl Heading {
     // The block, counted from 0, of a heading that has both.
     #[tactic(auto, unfolding(crate::specs::Judge::block_of))]
-    fn block(self) -> u64
+    pub fn block(self) -> u64
         requires { (1 ≤ self.coordinate) × (self.coordinate ≤ coordinate_count) × (self.power < powers) }
         ensures { result ≡ block_of self.coordinate self.power }
     {
