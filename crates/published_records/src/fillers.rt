@@ -57,7 +57,7 @@ impl Kind {
 }
 
 // The bytes that stand from an index on, at most so many.
-pub fn bytes_ahead(text: &[u8], from: usize, most: u64) -> &[u8]
+pub(crate) fn bytes_ahead(text: &[u8], from: usize, most: u64) -> &[u8]
     requires { from ≤ length text.now }
     ensures { result.now ≡ take most (drop from text.now) }
 {
@@ -75,7 +75,7 @@ fn feed_before(ahead: &[u8]) -> usize
 }
 
 // The bytes of free columns that stand from an index on, before a line feed.
-pub fn skip_fillers(kind: Kind, row: Row, text: &[u8], from: usize) -> Passed<Row>
+pub(crate) fn skip_fillers(kind: Kind, row: Row, text: &[u8], from: usize) -> Passed<Row>
     requires { from ≤ length text.now }
     ensures { Skips (is_heading kind) row text.now from result.state result.next }
 {

@@ -49,7 +49,7 @@ pub fn indent_ahead(row: Row) -> bool
 }
 
 // The spaces that stand from an index on, before the last whole column.
-pub fn skip_indent(row: Row, text: &[u8], from: usize) -> Passed<Row>
+pub(crate) fn skip_indent(row: Row, text: &[u8], from: usize) -> Passed<Row>
     requires ahead { IndentAhead row }
     requires inside { from ≤ length text.now }
     ensures { Skips false row text.now from result.state result.next }

@@ -69,7 +69,7 @@ impl Bodies<'_> {
 }
 
 // From the two packed series, each read once into a term table.
-pub fn of_series(
+pub(crate) fn of_series(
     planet: &[u8],
     earth: &[u8],
     window: Window,

@@ -72,7 +72,7 @@ impl Window {
 
     // The first minute at which two series may not both be asked. `wide` tells whether both are good for the wide range: then there is none, and
     // otherwise it is the first far one.
-    pub fn first_far(self, wide: bool) -> Option<Instant>
+    pub(crate) fn first_far(self, wide: bool) -> Option<Instant>
         ensures { FoundFar (asked_at self.t0 wide) self.t0 self.minutes result }
     {
         if wide {
