@@ -1,4 +1,4 @@
--- Over naturals, a date's day number exists and gives the date back; what the code of noon_of asks. Assumes nothing.
+-- Over naturals, a date's day number exists and gives the date back; what the code of `Shifted::noon` asks. Assumes nothing.
 use mathlib.Core.Path.{◌≡◌, refl, ap, ◌∙◌, subst}
 use mathlib.Core.Logic.{◌⊎◌, inl, inr}
 use mathlib.Core.Bool.{Bool}
@@ -308,7 +308,7 @@ numbered c m d s = go o.gap
     go (inl h) = old_style c m d q.0 q.1 q.2 o.day_least h
     go (inr h) = new_style c m d q.0 q.1 q.2 o.day_least h
 
--- what the code of noon_of asks
+-- what the code of `Shifted::noon` asks
 pub record Room (c m d : ℕ) : Type 0 where
   pub index : 0 < c
   pub top : c ≤ last_index

@@ -1,4 +1,4 @@
--- What `prepare` works out, and the angle that `angle` makes of it. Assumes nothing.
+-- What `Prepared::at` works out, and the angle that `angle` makes of it. Assumes nothing.
 use mathlib.Core.Path.{◌≡◌, refl, sym, ap, ap₂, ◌∙◌, subst}
 use mathlib.Core.List.{[], ◌∷◌}
 use Rattle.std.proofs.Math.Logic.{∥∥₁_elim}

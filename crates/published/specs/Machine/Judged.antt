@@ -1,4 +1,4 @@
--- What the code answers at a line feed: the reader after a record that was written, or why it is refused. Held by the code, no part of the rules.
+-- What the code answers at the line feed of a heading: the reader after a heading that was written, or why it is refused. Held by the code, no part of the rules.
 use Rattle.std.specs.Prelude.{Result, Ok, Err}
 use Rattle.units.specs.declared.Fault.{Fault}
 use Rattle.units.specs.Refusals.{fault_number}
