@@ -1,5 +1,7 @@
--- Plain words as bytes, and whole numbers as decimals: how they are written, and which texts are read as numbers.
+-- Plain words as bytes, and whole numbers as decimals: how they are written, which texts are read as numbers, and what a function that
+-- writes leaves in a lent buffer.
 pub mod Texts
 pub mod Decimals
 pub mod Numerals
+pub mod Writing
 pub mod Machine

@@ -1,5 +1,6 @@
 // What a program prints is first written into a buffer, one piece behind the other. For crates above.
 ghost use Rattle.std.specs.Prelude.{◌≡◌, ℕ, ◌+◌, ◌<◌, ◌≤◌, List, [], ◌∷◌, ◌++◌, length, take};
+ghost use Rattle.decimals.specs.Writing.{Put};
 
 use std::marker::Model;
 
@@ -60,5 +61,14 @@ impl<const N: usize> Buffer<N> {
         let bytes = &mut self.bytes[..];
         bytes[self.len..end].copy_from_slice(text);
         self.len = end;
+    }
+    // Copies the text into a lent slice, from `at` on, and answers the place after it: for a caller whose room has a length known at run time only.
+    pub fn put_into(&self, out: &mut [u8], at: usize) -> usize
+        requires { at + length self.now ≤ length out.old }
+        ensures { Put out.old at self.now result out.new }
+    {
+        let end = at + self.len;
+        out[at..end].copy_from_slice(self.text());
+        end
     }
 }
