@@ -1,58 +1,7 @@
-// For this crate and those above: a signed number as a sign and a magnitude.
-ghost use Rattle.std.specs.Prelude.{◌≡◌, ◌<◌, ◌^◌, pos, nat_abs, ◌+ℤ◌, ◌-ℤ◌, ◌*ℤ◌, ◌≤ℤ◌};
-ghost use Rattle.std.specs.Int.{w64};
-ghost use Rattle.std.proofs.Common.{SFits};
+// For this crate and those above: a signed number from its sign and its magnitude, and as a natural one.
+ghost use Rattle.std.specs.Prelude.{◌≡◌, ◌<◌, ◌^◌};
 ghost use Rattle.integers.specs.Signs.{negative, sgn, differ};
 ghost use Rattle.arith.specs.Naturals.{natural_or};
-
-pub fn add(a: i64, b: i64) -> i64
-    requires { SFits w64 (a +ℤ b) }
-    ensures { result ≡ a +ℤ b }
-{
-    a + b
-}
-
-pub fn sub(a: i64, b: i64) -> i64
-    requires { SFits w64 (a -ℤ b) }
-    ensures { result ≡ a -ℤ b }
-{
-    a - b
-}
-
-pub fn mul(a: i64, b: i64) -> i64
-    requires { SFits w64 (a *ℤ b) }
-    ensures { result ≡ a *ℤ b }
-{
-    a * b
-}
-
-#[tactic(auto, unfolding(integers::specs::Signs::negative))]
-pub fn is_neg(a: i64) -> bool
-    ensures { result ≡ negative a }
-{
-    a < 0
-}
-
-// A number that is not negative, as an unsigned one.
-pub fn low(a: i64) -> u64
-    requires { pos 0 ≤ℤ a }
-    ensures { pos result ≡ a }
-{
-    a as u64
-}
-
-pub fn wide(a: u64) -> i64
-    requires { a < 2 ^ 63 }
-    ensures { result ≡ pos a }
-{
-    a as i64
-}
-
-pub fn abs(a: i64) -> u64
-    ensures { result ≡ nat_abs a }
-{
-    a.unsigned_abs()
-}
 
 #[tactic(auto, unfolding(integers::specs::Signs::sgn))]
 pub fn of_parts(neg: bool, m: u64) -> i64
