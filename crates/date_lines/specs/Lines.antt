@@ -43,9 +43,13 @@ greatest minus = cond minus least_size greatest_size
 abbrev pub too_large : Bool → ℕ → Bool
 too_large minus v = ltb (greatest minus) v
 
--- The number of a sign and a magnitude, if it has 64 bits.
-unfoldable pub number : Bool → ℕ → Result ℤ Fault
-number minus v = cond (too_large minus v) (Err Large) (Ok (sgn minus v))
+-- The number of a sign and a magnitude.
+abbrev pub number : Bool → ℕ → ℤ
+number minus v = sgn minus v
+
+-- The same, if it has 64 bits.
+unfoldable pub number_read : Bool → ℕ → Result ℤ Fault
+number_read minus v = cond (too_large minus v) (Err Large) (Ok (number minus v))
 
 -- The number n has ended: the year, the month, or the day, after which nothing may come.
 abbrev pub ended : Line → ℤ → Line
@@ -56,7 +60,7 @@ ended s n =
 -- A space ends a number, where there is one.
 abbrev pub space_after : Line → Option ℕ → Result Line Fault
 space_after s None = cond s.minus (faulty Byte) (faulty Space)
-space_after s (Some v) = cond (too_large s.minus v) (faulty Large) (Ok (ended s (sgn s.minus v)))
+space_after s (Some v) = cond (too_large s.minus v) (faulty Large) (Ok (ended s (number s.minus v)))
 
 unfoldable pub at_space : Line → Result Line Fault
 at_space s = space_after s s.value
@@ -99,7 +103,7 @@ abbrev pub end_after : Line → Option ℕ → Result Date Fault
 end_after s None = cond s.minus (Err Byte) (cond (eqb s.count 0) (Err Empty) (Err Space))
 end_after s (Some v) =
     cond (too_large s.minus v) (Err Large)
-    (cond (ltb s.count 2) (Err Few) (Ok (numbers s.year s.month (sgn s.minus v))))
+    (cond (ltb s.count 2) (Err Few) (Ok (numbers s.year s.month (number s.minus v))))
 
 unfoldable pub reading : Result Line Fault → Result Date Fault
 reading (Ok s) = end_after s s.value

@@ -1,6 +1,6 @@
 // A line of three numbers, read byte by byte. `Line`, `Fault` and `start` are for the program `date` too, the rest is for lib.rt.
 ghost use Rattle.std.specs.Prelude.{◌≡◌};
-ghost use Rattle.date_lines.specs.Lines.{waiting, fresh, greatest, number, ended, at_space, at_minus, at_digit, take, reading};
+ghost use Rattle.date_lines.specs.Lines.{waiting, fresh, greatest, number_read, ended, at_space, at_minus, at_digit, take, reading};
 
 use arith::signed::of_parts;
 use calendar::Date;
@@ -78,9 +78,9 @@ fn greatest(minus: bool) -> u64
 }
 
 // The number with this sign and magnitude, if it has 64 bits.
-#[tactic(auto, using(crate::proofs::LeastNumber::greatest_most, crate::proofs::LeastNumber::least), unfolding(crate::specs::Lines::number))]
+#[tactic(auto, using(crate::proofs::LeastNumber::greatest_most, crate::proofs::LeastNumber::least), unfolding(crate::specs::Lines::number_read))]
 fn number(minus: bool, value: u64) -> Result<i64, Fault>
-    ensures { result ≡ number minus value }
+    ensures { result ≡ number_read minus value }
 {
     if greatest(minus) < value {
         return Err(Fault::Large);
@@ -103,7 +103,7 @@ impl Line {
         }
     }
 
-    #[tactic(auto, unfolding(crate::specs::Lines::at_space, crate::specs::Lines::number))]
+    #[tactic(auto, unfolding(crate::specs::Lines::at_space, crate::specs::Lines::number_read))]
     fn take_space(self) -> Result<Line, Fault>
         ensures { result ≡ at_space self }
     {
@@ -166,7 +166,7 @@ pub fn take_byte(line: Result<Line, Fault>, b: u8) -> Result<Line, Fault>
 }
 
 // What a whole line says: its three numbers, or its first fault.
-#[tactic(auto, unfolding(crate::specs::Lines::reading, crate::specs::Lines::number))]
+#[tactic(auto, unfolding(crate::specs::Lines::reading, crate::specs::Lines::number_read))]
 pub fn whole(line: Result<Line, Fault>) -> Result<Date, Fault>
     ensures { result ≡ reading line }
 {
