@@ -27,6 +27,7 @@ fn again(distance: u64, s: Option<View>) -> Result<Geocentric, Refusal>
 }
 
 // The term tables of planet and Earth, and whether both series are good for the wide range.
+// The crate sunlist has the same struct for its own methods: of a struct in `series` they could not be methods, as a type has them from its own crate alone.
 // That the tables are such is asked of each method and not a ghost field: `Table` goes by recursion over the terms, and a ghost field takes no such fact.
 #[derive(Clone, Copy)]
 struct Bodies<'a> {

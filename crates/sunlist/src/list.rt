@@ -16,6 +16,7 @@ use series::table::{Table, coordinates, fill};
 use units::Refusal;
 
 // The term tables of planet and Earth, and whether both series are good for the wide range.
+// The crate place has the same struct for its own methods: of a struct in `series` they could not be methods, as a type has them from its own crate alone.
 // That the tables are such is asked of each method and not a ghost field: `Table` goes by recursion over the terms, and a ghost field takes no such fact.
 #[derive(Clone, Copy)]
 struct Bodies<'a> {
