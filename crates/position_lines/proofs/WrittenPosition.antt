@@ -1,15 +1,30 @@
--- What is printed for two series and a time is what the functions that write it leave in the output. Assumes nothing.
+-- What is printed for two series and a time has room, and is what the functions that write it leave in the output. Assumes nothing.
 use mathlib.Core.Path.{◌≡◌, refl}
 use mathlib.Core.List.{List, ◌++◌}
-use Prim.Native.Nat.{ℕ}
+use Prim.Native.Nat.{ℕ, ◌≤◌}
+use native.Mathlib.Omega.{arith}
+use lib.ListN.{length}
 use Rattle.units.specs.declared.Instant.{Instant}
 use Rattle.units.specs.declared.Refusal.{Refusal}
 use Rattle.std.specs.Prelude.{Err, IfOk, Ok, Result}
 use Rattle.refusal_words.specs.Words.{refusal_text}
+use Rattle.refusal_words.proofs.WrittenWords.{refusal_length}
 use Rattle.place.specs.Place.{place_answer}
 use Rattle.place.specs.declared.Equatorial.{Equatorial}
-use Rattle.position_lines.specs.Lines.{place_text}
+use Rattle.position_lines.specs.Lines.{place_text, place_most}
 use Rattle.position_lines.specs.Position.{answer_text, position_text}
+use Rattle.position_lines.proofs.WrittenLines.{place_length}
+
+-- ---- lengths
+answer_length : (a : Result Equatorial Refusal) → length (answer_text a) ≤ place_most
+unfolding answer_text
+answer_length (Ok p) = place_length p
+answer_length (Err r) = omega (arith, refusal_length r)
+
+pub position_length : (planet earth : List ℕ) (when : Result Instant Refusal) → length (position_text planet earth when) ≤ place_most
+unfolding position_text
+position_length planet earth (Ok t) = answer_length (place_answer planet earth t)
+position_length planet earth (Err r) = omega (arith, refusal_length r)
 
 -- ---- what is written
 module _ (old new : List ℕ) where
