@@ -1,18 +1,21 @@
 -- What the functions of window.rt ask and answer. Assumes nothing.
-use mathlib.Core.Path.{◌≡◌, refl, sym, ap, ap₂, ◌∙◌}
-use mathlib.Core.Bool.{Bool, true, false, ◌||◌}
-use mathlib.Core.List.{List}
-use Prim.Native.Nat.{ℕ, ◌≤◌, ◌<◌}
+use mathlib.Core.Path.{◌≡◌, refl, sym, ap, ap₂, ◌∙◌, subst}
+use mathlib.Core.Bool.{Bool, true, false, ◌||◌, not, cond}
+use mathlib.Core.List.{List, map}
+use Prim.Native.Nat.{ℕ, zero, suc, ◌+◌, ◌≤◌, ◌<◌}
 use native.Mathlib.Omega.{arith}
+use native.Mathlib.Numerals.{add-one}
 use borrow.Author.Tests.{le-leb, lt-leb}
 use lib.ListN.{length}
 use lib.Seq.{sets}
 use Rattle.units.specs.Units.{near}
 use Rattle.units.specs.declared.Instant.{Instant}
 use Rattle.units.specs.declared.Refusal.TheVariants.{NoRoom}
-use Rattle.std.specs.Prelude.{Err, Ok}
+use Rattle.std.specs.Prelude.{Err, Ok, Option, None, Some, MatchOption}
+use Rattle.std.specs.List.{find, range_with_len}
+use Rattle.std.specs.Option.{option_map}
 use Rattle.sunlist.specs.SunList.{minute, first_failing, numbers, answered, written}
-use Rattle.sunlist.specs.Machine.Window.{asked_at}
+use Rattle.sunlist.specs.Machine.Window.{asked_at, FoundFar}
 use Rattle.sunlist.proofs.Failing.{none_fails}
 
 -- ---- first_far
@@ -32,10 +35,34 @@ asked_near t0 wide j t b w e h = ap₂ ◌||◌ (ap (λ (s : Instant). near s.ms
     or_false true = refl
     or_false false = refl
 
--- What is found, or that nothing is.
-pub found_at : (test : ℕ → Bool) (t0 : Instant) (n j : ℕ) (t : Instant) → j ≡ first_failing test 0 n → j < n → t ≡ minute t0 j
-    → (first_failing test 0 n < n) × (t ≡ minute t0 (first_failing test 0 n))
-found_at test t0 n j t e l h = (omega arith, h ∙ ap (minute t0) e)
+-- The first far one of n minutes from minute j on, of series that are not both good.
+module _ (t0 : Instant) (wide : Bool) (w : wide ≡ false) where
+  abbrev left : ℕ → ℕ → List Instant
+  left j n = map (minute t0) (range_with_len j n)
+
+  abbrev Found : ℕ → ℕ → Option Instant → Type 0
+  Found j n r =
+      MatchOption r (j + n ≤ first_failing (asked_at t0 wide) j n)
+      (λ t. (first_failing (asked_at t0 wide) j n < j + n) × (t ≡ minute t0 (first_failing (asked_at t0 wide) j n)))
+
+  one_minute : (j n : ℕ) (b : Bool) (r : Option Instant) → asked_at t0 wide j ≡ b → Found (suc j) n r → Found j (suc n) (cond (not b) (Some (minute t0 j)) r)
+  unfolding first_failing
+  one_minute j n true None e f = rw e (omega arith)
+  one_minute j n true (Some t) e f = rw e (omega arith, f.1)
+  one_minute j n false r e f = rw e (omega arith, refl)
+
+  found_from : (j n : ℕ) → Found j n (find (λ (t : Instant). not (near t.ms)) (left j n))
+  unfolding first_failing
+  found_from j zero = omega arith
+  found_from j (suc n) =
+      let Rest : ℕ → Type 0 = λ k. Found k n (find (λ (t : Instant). not (near t.ms)) (left (j + 1) n)) in
+      one_minute j n (near (minute t0 j).ms) (find (λ (t : Instant). not (near t.ms)) (left (j + 1) n)) (asked_near t0 wide j (minute t0 j) _ w refl refl)
+      (subst Rest (add-one j) (found_from (j + 1) n))
+
+  pub found_far : (n : ℕ) (r : Option Instant) → option_map (λ (t : Instant). t) r ≡ find (λ (t : Instant). not (near t.ms)) (left 0 n)
+      → FoundFar (asked_at t0 wide) t0 n r
+  found_far n None e = let f = subst (Found 0 n) (sym e) (found_from 0 n) in omega arith
+  found_far n (Some t) e = let f = subst (Found 0 n) (sym e) (found_from 0 n) in (omega arith, f.1)
 
 -- ---- write_runs
 pub no_room : (xs out : List ℕ) (n : ℕ) → n ≡ length xs → length out < n → (Err (NoRoom n) ≡ answered (length out) (numbers xs))

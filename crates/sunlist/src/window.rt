@@ -78,13 +78,9 @@ impl Window {
         if wide {
             return None;
         }
-        for j in 0..self.minutes {
-            let t = minute(self.t0, j as u64);
-            if !near(t) {
-                return Some(t);
-            }
-        }
-        None
+        (0..self.minutes)
+            .map(|j| minute(self.t0, j as u64))
+            .find(|&t| !near(t))
     }
 }
 

@@ -1,25 +1,20 @@
 -- `sunlist::window::Window::first_far` meets its contract. Assumes nothing.
-use Rattle.std.proofs.Common.{ℕ, sym, ◌∙◌, subst, add-one, arith}
-use Rattle.sunlist.specs.Machine.Window.{asked_at}
-use Rattle.sunlist.proofs.Failing.{Searched, searched_more, searched_found, searched_all}
-use Rattle.sunlist.proofs.Windows.{good_asked, asked_near, found_at}
+use Rattle.std.proofs.Common.{not, arith, rules, tests}
+use Rattle.std.proofs.lemmas.Iterator.{YieldsList-from_range, YieldsList-from_map}
+use Rattle.std.proofs.lemmas.Iterator.Search.{find_from_yields_List}
+use Rattle.units.specs.Units.{near}
+use Rattle.units.specs.declared.Instant.{Instant}
+use Rattle.sunlist.specs.SunList.{minute}
+use Rattle.sunlist.proofs.Windows.{good_asked, found_far}
 use Rattle.sunlist.proofs.window.Window.first_far.Goals as goal
 
 pub returns-then-wide : goal.returns-then-wide
 returns-then-wide c = good_asked c.args.self.t0 c.args.self.minutes c.args.wide c.if-wide.true
 
-pub returns-then-not-near : goal.returns-then-not-near
-returns-then-not-near c =
-    found_at _ c.args.self.t0 _ _ _
-    (searched_found _ _ _ c.loop-j.invariant c.loop-j-test.true
-    (asked_near c.args.self.t0 c.args.wide c.loop-j.j c.minute-t.result _ c.if-wide.false c.minute-t.ensures (sym c.near.ensures ∙ c.if-not-near.true)))
-    c.loop-j-test.true c.minute-t.ensures
-
-pub loop-j-preserved : goal.loop-j-preserved
-loop-j-preserved c =
-    subst (λ (j : ℕ). Searched (asked_at c.args.self.t0 c.args.wide) c.args.self.minutes j) (sym (add-one c.loop-j.j))
-    (searched_more _ _ _ c.loop-j.invariant c.loop-j-test.true
-    (asked_near c.args.self.t0 c.args.wide c.loop-j.j c.minute-t.result _ c.if-wide.false c.minute-t.ensures (sym c.near.ensures ∙ c.if-not-near.false)))
-
 pub returns : goal.returns
-returns c = let e = searched_all _ _ _ c.loop-j.invariant c.loop-j-test.false in omega arith
+returns c =
+    found_far c.args.self.t0 c.args.wide c.if-wide.false c.args.self.minutes c.find.result
+    (find_from_yields_List (λ (t : Instant). not (near t.ms)) _ _ _ c.find.ensures.ran
+    (YieldsList-from_map _ (minute c.args.self.t0) (YieldsList-from_range 0 c.args.self.minutes c.args.self.minutes c.map.ensures.source (omega arith)) c.map.ensures.closure
+    (λ x r q k. search rules))
+    (λ x b q k. search (rules, tests)))
