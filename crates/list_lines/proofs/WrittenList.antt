@@ -1,4 +1,4 @@
--- What is printed for two series and a window is what the functions that write it leave in the output. Assumes nothing.
+-- What is printed for two series and a window has room, and is what the functions that write it leave in the output. Assumes nothing.
 use mathlib.Core.Path.{◌≡◌, refl, sym, subst, ◌∙◌}
 use mathlib.Core.List.{List, [], ◌++◌, append_assoc}
 use Rattle.std.proofs.lemmas.List.{append-nil}
@@ -11,11 +11,47 @@ use Rattle.units.specs.declared.Refusal.{Refusal}
 use Rattle.std.specs.Prelude.{Err, IfOk, Ok, Result}
 use Rattle.decimals.specs.Texts.{text}
 use Rattle.refusal_words.specs.Words.{refusal_text}
+use Rattle.refusal_words.proofs.WrittenWords.{refusal_length}
 use Rattle.sunlist.specs.Demand.{first_minute, last_minute}
 use Rattle.sunlist.specs.SunList.{sun_list, sun_list_out}
+use Rattle.sunlist.proofs.Call.{sun_list_promised}
 use Rattle.list_lines.specs.Lines.{run_text, run_most}
-use Rattle.list_lines.specs.List.{run_lines, runs_text, answer_text, lent_numbers, list_text}
+use Rattle.list_lines.specs.List.{run_lines, runs_text, answer_text, lent_numbers, list_text, most_runs, list_most}
 use Rattle.list_lines.proofs.WrittenRuns.{run_length}
+
+-- ---- lengths
+lines_length : (start : ℕ) (numbers : List ℕ) (i n : ℕ) → length (run_lines start numbers i n) ≤ n * run_most
+unfolding run_lines
+lines_length start numbers i zero = omega arith
+lines_length start numbers i (suc n) =
+    let l = run_length start (first_minute numbers i) (last_minute numbers i) in
+    let m = lines_length start numbers (suc i) n in
+    simp length-append (omega arith)
+
+runs_length : (start : ℕ) (numbers : List ℕ) (n : ℕ) → n ≤ most_runs → length (runs_text start numbers n) ≤ list_most
+unfolding runs_text text
+runs_length start numbers zero h = omega arith
+runs_length start numbers (suc n) h = omega (arith, lines_length start numbers 0 (suc n))
+
+-- A list that is answered has no more runs than a day can have.
+few_runs : (planet earth : List ℕ) (t0 : Instant) (minutes keep_out : ℤ) (count : ℕ)
+    → sun_list planet earth t0 minutes keep_out (length lent_numbers) ≡ Ok count → count / 2 ≤ most_runs
+few_runs planet earth t0 minutes keep_out count e =
+    let p = sun_list_promised planet earth t0 minutes keep_out lent_numbers _ _ refl refl in
+    omega (arith, p.few count e)
+
+answer_length : (planet earth : List ℕ) (t0 : Instant) (minutes keep_out : ℤ) (start : ℕ) (numbers : List ℕ) (a : Result ℕ Refusal)
+    → sun_list planet earth t0 minutes keep_out (length lent_numbers) ≡ a → length (answer_text start numbers a) ≤ list_most
+unfolding answer_text
+answer_length planet earth t0 minutes keep_out start numbers (Ok count) e =
+    runs_length start numbers (count / 2) (few_runs planet earth t0 minutes keep_out count e)
+answer_length planet earth t0 minutes keep_out start numbers (Err r) e = omega (arith, refusal_length r)
+
+pub list_length : (planet earth : List ℕ) (from : Result Instant Refusal) (start : ℕ) (minutes keep_out : ℤ)
+    → length (list_text planet earth from start minutes keep_out) ≤ list_most
+unfolding list_text
+list_length planet earth (Ok t0) start minutes keep_out = answer_length planet earth t0 minutes keep_out start _ _ refl
+list_length planet earth (Err r) start minutes keep_out = omega (arith, refusal_length r)
 
 -- ---- the lines of the runs: what is written and what is left to write are all
 pub record LinesLeft (start : ℕ) (numbers : List ℕ) (runs : ℕ) (begun out : List ℕ) (i : ℕ) : Type 0 where

@@ -20,13 +20,13 @@ const TERM_ROWS: usize = SERIES_LIMIT as usize;
 
 pub const END_ROWS: usize = BLOCK_COUNT as usize;
 
-type Terms = [PackedTerm; TERM_ROWS];
+pub type Terms = [PackedTerm; TERM_ROWS];
 
 // A term table: the terms as they are packed, a and c folded, and for each block the place where it ends.
 #[derive(Drop)]
 pub struct Table {
-    terms: Terms,
-    ends: [u64; END_ROWS],
+    pub terms: Terms,
+    pub ends: [u64; END_ROWS],
 }
 
 // Reads the term at an offset into place k. Here and below: the tally with what was read.
