@@ -1,4 +1,5 @@
-// What a program prints is first written into a buffer, one piece behind the other. For crates above.
+// What a program prints is first written into a buffer, one piece behind the other. For crates above. Not by `write!`: its contract lets it fail,
+// and what is printed here cannot.
 ghost use Rattle.std.specs.Prelude.{◌≡◌, ℕ, ◌+◌, ◌<◌, ◌≤◌, List, [], ◌∷◌, ◌++◌, length, take};
 ghost use Rattle.decimals.specs.Writing.{Put};
 

@@ -41,7 +41,7 @@ pub struct Tally {
     pub coarse: u64,
 }
 
-// The factor of each power in the coarseness sum.
+// The factor of each power in the coarseness sum. A constant may not call `pow`.
 const SQUARE: u64 = COARSE_TAU * COARSE_TAU;
 
 const FACTORS: [u64; POWERS as usize] = [

@@ -1,4 +1,4 @@
-// The line of a run, written into a buffer. All of this is for answer.rt.
+// The line of a run, written into a buffer. All of this is for answer.rt. A run is two numbers, as C has it in its list.
 ghost use Rattle.std.specs.Prelude.{◌≡◌, ◌+◌, ◌≤◌, ◌<◌, ◌++◌, length};
 ghost use Rattle.list_lines.specs.Lines.{day, two_digits, clock_text, minutes_text, clocks_text, run_text};
 ghost use Rattle.list_lines.specs.Lines.{minutes_most, clocks_most, run_most};

@@ -1,4 +1,5 @@
-// The numbers of a packed series read and judged, up to a whole term. For this crate alone.
+// The numbers of a packed series read and judged, up to a whole term. For this crate alone. Bytes and offset go apart, as the definitions have them
+// (`at_offset`): each step says the offset past what it read.
 ghost use Rattle.std.specs.Prelude.{◌≡◌, true, ◌≤◌};
 ghost use Rattle.packed_numbers.specs.Numbers.{folded, unfolded};
 ghost use Rattle.packed_numbers.specs.Machine.Answers.{shown, plain, at_offset};

@@ -121,7 +121,8 @@ pub fn put_groups(v: u64, out: &mut [u8], at: usize) -> usize
     i + 1
 }
 
-// There is room in out from at for so many bytes, or not.
+// There is room in out from at for so many bytes, or not. Here and in the writers above the buffer and the place in it are two parameters: a C caller
+// lends a buffer of any length, and a struct that holds it asks for a clause more at each step.
 pub fn check_room(out: &[u8], at: usize, needed: usize) -> Result<(), NoRoom>
     ensures { MatchResult result (λ _. at + needed ≤ length out.now) (λ e. (length out.now < at + needed) × (e.needed ≡ needed)) }
 {

@@ -1,5 +1,5 @@
 // The writer of counts: zeros for the blocks that have no heading, and the count of one (refusal 7: no room for all of them). For the steps of the
-// crate published, which write what was judged: at most one zero for each block.
+// crate published, which write what was judged: at most one zero for each block. The buffer is lent, as packed_numbers::check_room says.
 ghost use Rattle.std.specs.Prelude.{◌≡◌, ◌++◌, length, ◌+◌, ◌≤◌};
 ghost use Rattle.std.proofs.lemmas.List.Edits.{sets};
 ghost use Rattle.units.specs.Units.{block_count};

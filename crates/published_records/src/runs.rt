@@ -1,4 +1,4 @@
-// The bytes of a record in a run, up to a line feed or a byte that cannot stand in it.
+// The bytes of a record in a run, up to a line feed or a byte that cannot stand in it. Text and index go apart, as the definitions have them.
 ghost use Rattle.std.specs.Prelude.{◌≡◌, ◌≤◌, length};
 ghost use Rattle.published_records.specs.Rows.{is_heading};
 ghost use Rattle.published_records.specs.Machine.Fillers.{Skips};

@@ -41,6 +41,7 @@ fn with_block(p: Prepared, table: &Table, j: usize, v: i64) -> i64
     sum + carried
 }
 
+// `Table table` is asked for and no ghost field: it goes by recursion over terms and is no proposition.
 // V of the coordinate whose blocks begin with block first, at an instant at which the series may be asked.
 pub fn coordinate(p: Prepared, table: &Table, first: usize) -> i64
     requires { (nat_abs p.t ≤ t_limit) × Table table.now × (reaches (table_blocks table.now) p.t ≡ true) × (first ≤ 2 * powers) }
