@@ -104,8 +104,7 @@ pub fn end_count<S: Sink>(r: Reader, out: &mut [u8]) -> Reader
     }
 }
 
-// The line feed of a term, whose line a reader of records holds apart. The hint puts it into the loop of each reader.
-#[inline(always)]
+// The line feed of a term, whose line a reader of records holds apart. It has no hint: put into the loops it makes each byte of a text slower.
 pub fn end_term<S: Sink>(r: Reader, l: Line, out: &mut [u8]) -> Reader
     requires { r.at < last_offset }
     ensures { (result ≡ line_ended S.writes r out.old (term_end (in_line r l r.at)))
