@@ -27,20 +27,20 @@ unfolding floor
 floored (pos n) m = refl
 floored (negsuc n) m = refl
 
-pub by_halves : (n x y e q : ℤ) (d : ℕ) → Long x *ℤ Long y ≡ n → e ≡ pos d → nat_abs n < 2 ^ 125 → d ≤ 2 ^ 62
+pub by_halves : (n x y e q : ℤ) (d : ℕ) → Long x *ℤ Long y ≡ n → e ≡ pos d → nat_abs n < 2 ^ 120 → d ≤ 2 ^ 47
     → q ≡ int_div_euclid (Long (Long (pos 2 *ℤ Long (Long x *ℤ Long y)) +ℤ Long e)) (Long (pos 2 *ℤ Long e)) → q ≡ rounded n d
 unfolding rounded
 by_halves n x y e q d p r h l f = f ∙ rw (p, r) (ap₂ int_div_euclid (above n d h l) (below d l) ∙ floored _ (2 * d))
   where
-    above : (n : ℤ) (d : ℕ) → nat_abs n < 2 ^ 125 → d ≤ 2 ^ 62 → Long (Long (pos 2 *ℤ Long n) +ℤ Long (pos d)) ≡ pos 2 *ℤ n +ℤ pos d
+    above : (n : ℤ) (d : ℕ) → nat_abs n < 2 ^ 120 → d ≤ 2 ^ 47 → Long (Long (pos 2 *ℤ Long n) +ℤ Long (pos d)) ≡ pos 2 *ℤ n +ℤ pos d
     above n d h l = omega (arith, ints)
 
-    below : (d : ℕ) → d ≤ 2 ^ 62 → Long (pos 2 *ℤ Long (pos d)) ≡ pos (2 * d)
+    below : (d : ℕ) → d ≤ 2 ^ 47 → Long (pos 2 *ℤ Long (pos d)) ≡ pos (2 * d)
     below d l = omega (arith, ints)
 
 -- Of a product, with the quotient in 64 bits.
 module _ (a b : ℤ) (d : ℕ) (positive : 0 < d) (small : nat_abs a * nat_abs b < d * (2 ^ 63 - 1)) where
-  pub product_small : d ≤ 2 ^ 62 → nat_abs (a *ℤ b) < 2 ^ 125
+  pub product_small : d ≤ 2 ^ 47 → nat_abs (a *ℤ b) < 2 ^ 120
   product_small h = omega (arith, nat_abs-* a b)
 
   pub quotient_small : nat_abs (rounded (a *ℤ b) d) < 2 ^ 63

@@ -1,5 +1,5 @@
 // Products that pass 64 bits, divided and rounded. For the crates above.
-ghost use Rattle.std.specs.Prelude.{◌≡◌, ◌+◌, ◌-◌, ◌*◌, ◌/◌, ◌%◌, ◌<◌, ◌≤◌, ◌^◌, nat_abs, ◌*ℤ◌};
+ghost use Rattle.std.specs.Prelude.{◌≡◌, ◌+◌, ◌-◌, ◌*◌, ◌/◌, ◌%◌, ◌<◌, ◌≤◌, ◌^◌, pos, nat_abs, ◌*ℤ◌};
 ghost use Rattle.integers.specs.Division.{rounded};
 ghost use Rattle.units.specs.Units.{U};
 
@@ -15,7 +15,7 @@ pub struct Quot {
 
 // a·b / d rounded: with half a unit more, the floor.
 pub fn mul_div_round(a: i64, b: i64, d: u64) -> i64
-    requires { (0 < d) × (d ≤ 2 ^ 62) × (nat_abs b ≤ 2 ^ 47) × (nat_abs a * nat_abs b < d * (2 ^ 63 - 1)) }
+    requires { (0 < d) × (d ≤ 2 ^ 47) × (nat_abs b ≤ 2 ^ 47) × (nat_abs a * nat_abs b < d * (2 ^ 63 - 1)) }
     ensures { result ≡ rounded (a *ℤ b) d }
 {
     let n = i128::from(a) * i128::from(b);
@@ -43,4 +43,13 @@ pub fn scale(a: i64, c: i64) -> i64
     let neg = signs_differ(a, c);
     let z = product_by_unit(a.unsigned_abs(), c.unsigned_abs());
     of_parts(neg, nearest(neg, z.q, z.r, U))
+}
+
+// a·x / (s·t) rounded, for a divisor that may pass 64 bits; t has to be even.
+pub fn mul_div_round_wide(a: u64, x: u64, s: u64, t: u64) -> i64
+    requires { (0 < s) × (0 < t) × (t % 2 ≡ 0) × (a * s < 2 ^ 64) × (a * x < s * (2 ^ 63 - 1)) }
+    ensures { result ≡ rounded (pos a *ℤ pos x) (s * t) }
+{
+    let e = x / s * a + x % s * a / s;
+    nearest(false, e / t, e % t, t) as i64
 }

@@ -23,7 +23,7 @@ pub const END_ROWS: usize = BLOCK_COUNT as usize;
 pub type Terms = [PackedTerm; TERM_ROWS];
 
 // A term table: the terms as they are packed, a and c folded, and for each block the place where it ends.
-#[derive(Drop)]
+#[derive(Clone, Copy)]
 pub struct Table {
     pub terms: Terms,
     pub ends: [u64; END_ROWS],

@@ -181,7 +181,7 @@ within_length v =
     z_first a b d = omega arith
 
 -- what a component of a unit vector asks, and is
-pub unit_asks : (x : ℤ) (l : ℕ) → 0 < l → l < 2 ^ 46 → nat_abs x ≤ l → (0 < l) × (l ≤ 2 ^ 62) × (nat_abs (Cell x) ≤ 2 ^ 47)
+pub unit_asks : (x : ℤ) (l : ℕ) → 0 < l → l < 2 ^ 46 → nat_abs x ≤ l → (0 < l) × (l ≤ 2 ^ 47) × (nat_abs (Cell x) ≤ 2 ^ 47)
     × (U * nat_abs (Cell x) < l * (2 ^ 63 - 1))
 unit_asks x l h k m = (h, (omega arith), held_le x (2 ^ 47) (omega arith) (omega arith), rw (cell x (omega arith)) (omega arith))
 

@@ -50,7 +50,7 @@ module _ (t v : ℤ) (ht : nat_abs t ≤ t_limit) (hv : nat_abs v ≤ 341 * wide
   v_cell : Cell v ≡ v
   v_cell = cell v (omega arith)
 
-  pub carried_asks : (0 < millennium) × (millennium ≤ 2 ^ 62) × (nat_abs (Cell t) ≤ 2 ^ 47)
+  pub carried_asks : (0 < millennium) × (millennium ≤ 2 ^ 47) × (nat_abs (Cell t) ≤ 2 ^ 47)
       × (nat_abs (Cell v) * nat_abs (Cell t) < millennium * (2 ^ 63 - 1))
   carried_asks = (
     omega arith,

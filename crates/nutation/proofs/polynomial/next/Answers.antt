@@ -1,6 +1,6 @@
 -- `nutation::polynomial::next` meets its contract. Assumes nothing.
 use mathlib.Core.Path.{◌≡◌}
-use Prim.Native.Nat.{ℕ, ◌+◌, ◌*◌, ◌-◌, ◌^◌, ◌≤◌, ◌<◌}
+use Prim.Native.Nat.{ℕ, ◌+◌, ◌*◌, ◌-◌, ◌^◌, ◌<◌}
 use native.Mathlib.Omega.{arith}
 use lib.IntN.{nat_abs, ◌*ℤ◌}
 use Rattle.integers.specs.Division.{rounded}
@@ -14,14 +14,11 @@ mul_div_round-requires c =
     let b = c.requires.0 in
     rw (back c.args.n c.ranges.n, back c.args.v c.ranges.v) (
       b.positive,
-      wider _ b.divisor,
+      b.divisor,
       b.factor,
       room (nat_abs c.args.v) (nat_abs c.args.n) c.args.d (2 ^ 63 - 1) b.positive b.ratio (more _ _ c.requires.1),
     )
   where
-    wider : (d : ℕ) → d ≤ 2 ^ 47 → d ≤ 2 ^ 62
-    wider d h = omega arith
-
     more : (a v : ℕ) → a + centuries * v < 2 ^ 63 - 1 → centuries * v < 2 ^ 63 - 1
     more a v h = omega arith
 
