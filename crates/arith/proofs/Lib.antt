@@ -5,4 +5,3 @@ pub mod Long
 pub mod Naturals
 pub mod Split
 pub mod Ranges
-pub mod Halves
