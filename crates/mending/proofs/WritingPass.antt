@@ -1,17 +1,15 @@
 -- What one byte does to both buffers: what is left to write gives what was left before. Assumes nothing.
 use mathlib.Core.Path.{◌≡◌, refl, sym, ap, ap₂, subst, ◌∙◌}
 use mathlib.Core.Bool.{Bool, true, false, cond}
-use mathlib.Core.List.{List, [], ◌∷◌, ◌++◌, append_assoc, append-nil}
+use mathlib.Core.List.{List, [], ◌∷◌, ◌++◌, append-nil}
 use Prim.Native.Nat.{ℕ, suc, ◌+◌, ◌-◌, ◌≤◌, ◌<◌}
 use native.Mathlib.Nat.{add-zero}
 use native.Mathlib.Numerals.{add-one}
 use native.Mathlib.Omega.{arith}
 use borrow.Author.Tests.{ne_eqb, eq-eqb}
-use lib.ListN.{length, get_or, set, take, drop, length-append, length-drop}
-use lib.Seq.{sets, sets-eq, length-sets, length-take-le, slice, slice_empty, slice-cons}
-use borrow.Rule.Slice.PartMut.{put_mid}
-use Rattle.std.proofs.lemmas.Slice.{put_mid-paste}
-use Rattle.std.proofs.lemmas.List.Edits.{paste_all}
+use lib.ListN.{length, get_or, set, drop, length-append}
+use lib.Seq.{sets, length-sets, slice, slice_empty, slice-cons, length-slice}
+use Rattle.std.proofs.lemmas.List.{drop-take, nil_from_length}
 use Rattle.buffers.proofs.Sets.{sets_append}
 use Rattle.series_lines.specs.Grammar.{feed, space}
 use Rattle.mending.specs.declared.writing.Writing.{Writing}
@@ -107,26 +105,39 @@ drops_none i end h = let e : end - i ≡ 0 = omega arith in rw e
 
 -- ---- bytes above a space
 
--- A part of a buffer with other bytes in place of it is the buffer where they were written.
-put_mid_sets : (at k : ℕ) (out ys : List ℕ) → k ≡ length ys → at + k ≤ length out → put_mid at k out ys ≡ sets out at ys
-put_mid_sets at k out ys e h =
-    let room : at + length ys ≤ length out = omega (arith, e) in
-    put_mid-paste at k out ys ys k refl refl e
-    ∙ (paste_all out at ys k e ∙ (rw e (sym (append_assoc (take at out) ys _)) ∙ sym (sets-eq ys out at room)))
-
 pub plain_room : (text out : List ℕ) (i at j : ℕ) → Plain text i j → Room (plain_left text i) at out → at + (j - i) ≤ length out
 plain_room text out i at j p r = omega (arith, plain_bytes text i j p)
 
-pub copied : (text out ys : List ℕ) (i at j k : ℕ) → Plain text i j → Room (plain_left text i) at out → ys ≡ take (j - i) (drop i text)
-    → k ≡ j - i → Copied text i at out j (at + (j - i)) (put_mid at k out ys)
-copied text out ys i at j k p r e f =
-    let n : length ys ≡ j - i = ap length e ∙ length-take-le (j - i) (drop i text) (omega (arith, length-drop i text, p.onward, p.within)) in
-    let w = put_mid_sets at k out ys (f ∙ sym n) (omega (arith, plain_room text out i at j p r)) in
-    let left = p.bytes ∙ ap (λ (l : List ℕ). l ++ plain_left text j) (sym e) in
-    record {
-      plain = p;
-      bytes = rest_more {ys = ys} (rest_is left rest_start) (record { end = omega (arith, n); holds = w });
-    }
+-- Copied one by one: from i up to k they are written, from k up to j they are left.
+module _ (text : List ℕ) (i j : ℕ) (w : Plain text i j) (at : ℕ) (out : List ℕ) (k p : ℕ) (now : List ℕ)
+    (c : Rest (slice i j text) at out (slice k j text) p now) where
+  pub copy_room : k < j → Room (plain_left text i) at out → p < length now
+  copy_room h r =
+      omega (arith, plain_room text out i at j w r, c.count, c.same, length-slice i j text w.within, length-slice k j text w.within, w.onward)
+
+  pub copy_more : k < j → Rest (slice i j text) at out (slice (k + 1) j text) (p + 1) (set now p (get_or text k 0))
+  copy_more h =
+      let e : slice k j text ≡ (get_or text k 0 ∷ []) ++ slice (k + 1) j text = rw (add-one k) (slice-cons k j text 0 h w.within) in
+      rest_more {ys = get_or text k 0 ∷ []} (rest_is e c) (wrote_one (get_or text k 0) p now)
+
+  pub copied : j ≤ k → Copied text i at out j (at + (j - i)) now
+  copied h =
+      let n : length (slice i j text) ≡ j - i = length-slice i j text w.within in
+      let e : slice k j text ≡ [] = nil_from_length _ (length-slice k j text w.within ∙ none h) in
+      record {
+        plain = w;
+        bytes = rest_more {ys = slice i j text} (rest_is taken rest_start) (record { end = omega (arith, n); holds = (rest_over (rest_is e c)).holds });
+      }
+    where
+      none : j ≤ k → j - k ≡ 0
+      none h = omega arith
+
+      whole : i + (j - i) ≡ j
+      whole = let h = w.onward in omega arith
+
+      taken : plain_left text i ≡ slice i j text ++ plain_left text j
+      taken = w.bytes ∙ ap (λ (l : List ℕ). l ++ plain_left text j)
+          (sym (drop-take i (j - i) text) ∙ ap (λ (m : ℕ). slice i m text) whole)
 
 -- ---- a byte of the text
 
