@@ -148,6 +148,10 @@ place_shown (Err r) = three_refused r
 abbrev zero_double : Float
 zero_double = of_int binary64 (pos 0)
 
+unfoldable pub mount_numbered : Result MountPlace ℕ → Doubles
+mount_numbered (Ok p) = record { refusal = 0; first = p.right_ascension; second = p.declination; third = p.distance }
+mount_numbered (Err n) = record { refusal = n; first = zero_double; second = zero_double; third = zero_double }
+
 unfoldable pub mount_shown : Result MountPlace Refusal → Doubles
-mount_shown (Ok p) = record { refusal = 0; first = p.right_ascension; second = p.declination; third = p.distance }
-mount_shown (Err r) = record { refusal = number r; first = zero_double; second = zero_double; third = zero_double }
+mount_shown (Ok p) = mount_numbered (Ok p)
+mount_shown (Err r) = mount_numbered (Err (number r))

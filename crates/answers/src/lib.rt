@@ -8,7 +8,7 @@ ghost use Rattle.answers.specs.Answers.{clip, clipped, one_refused, one_counted,
 ghost use Rattle.answers.specs.Answers.{day_shown, date_shown, instant_shown, moment_shown, text_shown};
 ghost use Rattle.answers.specs.Answers.{examined_refused, content_shown, checked_shown};
 ghost use Rattle.answers.specs.Answers.{accepted, standing_shown, mended_refused, verdict_place, clean_shown, mending_shown};
-ghost use Rattle.answers.specs.Answers.{printed_shown, list_shown, coordinates_shown, place_shown, mount_shown};
+ghost use Rattle.answers.specs.Answers.{printed_shown, list_shown, coordinates_shown, place_shown, mount_numbered, mount_shown};
 
 use calendar::Date;
 use mending::Clean;
@@ -393,8 +393,9 @@ pub fn of_place(a: Result<Equatorial, Refusal>) -> Three
     }
 }
 
-pub fn of_mount(a: Result<MountPlace, Refusal>) -> Doubles
-    ensures { result ≡ mount_shown a }
+// Of a refusal that is known by its number alone.
+pub fn of_numbered_mount(a: Result<MountPlace, u64>) -> Doubles
+    ensures { result ≡ mount_numbered a }
 {
     match a {
         Ok(p) => Doubles {
@@ -403,11 +404,20 @@ pub fn of_mount(a: Result<MountPlace, Refusal>) -> Doubles
             second: p.declination,
             third: p.distance,
         },
-        Err(r) => Doubles {
-            refusal: r.number(),
+        Err(number) => Doubles {
+            refusal: number,
             first: 0.0,
             second: 0.0,
             third: 0.0,
         },
+    }
+}
+
+pub fn of_mount(a: Result<MountPlace, Refusal>) -> Doubles
+    ensures { result ≡ mount_shown a }
+{
+    match a {
+        Ok(p) => of_numbered_mount(Ok(p)),
+        Err(r) => of_numbered_mount(Err(r.number())),
     }
 }
