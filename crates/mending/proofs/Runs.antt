@@ -269,7 +269,7 @@ plain_none text i h = record {
   changes = refl;
 }
 
-plain_more : (text : List ℕ) (i j : ℕ) → Plain text i j → j < length text → space < get_or text j 0 → Plain text i (j + 1)
+pub plain_more : (text : List ℕ) (i j : ℕ) → Plain text i j → j < length text → space < get_or text j 0 → Plain text i (j + 1)
 plain_more text i j p h g =
     let n : j + 1 - i ≡ suc (j - i) = omega (arith, p.onward) in
     let at : i + (j - i) ≡ j = omega (arith, p.onward) in

@@ -8,16 +8,15 @@ use native.Mathlib.Numerals.{add-one}
 use native.Mathlib.Omega.{arith}
 use borrow.Author.Tests.{ne_eqb, eq-eqb}
 use lib.ListN.{length, get_or, set, drop, length-append}
-use lib.Seq.{sets, length-sets, slice, slice_empty, slice-cons, length-slice}
-use Rattle.std.proofs.lemmas.List.{drop-take, nil_from_length}
+use lib.Seq.{sets, length-sets, slice, slice_empty, slice-cons}
 use Rattle.buffers.proofs.Sets.{sets_append}
 use Rattle.series_lines.specs.Grammar.{feed, space}
 use Rattle.mending.specs.declared.writing.Writing.{Writing}
 use Rattle.mending.specs.Rule.{tab, blank, stays, dropped, left, mended_from, drop_kind, space_kind, listed, changes_from, numbers}
 use Rattle.mending.specs.Machine.Runs.{spared, spared_run, tab_changes, drops, Room, Wrote, run_bytes, run_numbers}
-use Rattle.mending.specs.Machine.Passes.{bytes_left, numbers_left, plain_left, Ready, Rest, Plain, Copied, Came}
+use Rattle.mending.specs.Machine.Passes.{bytes_left, numbers_left, plain_left, Ready, Rest, Copied, Came}
 use Rattle.mending.proofs.Runs.{bytes_at_feed, changes_at_feed, bytes_at_other, changes_at_other, bytes_at_end, changes_at_end}
-use Rattle.mending.proofs.Runs.{pending_more, pending_none, plain_bytes, numbers_append}
+use Rattle.mending.proofs.Runs.{pending_more, pending_none, plain_none, plain_more, bytes_at_plain, numbers_append}
 
 -- ---- numbers that are written piece by piece
 
@@ -105,39 +104,22 @@ drops_none i end h = let e : end - i ≡ 0 = omega arith in rw e
 
 -- ---- bytes above a space
 
-pub plain_room : (text out : List ℕ) (i at j : ℕ) → Plain text i j → Room (plain_left text i) at out → at + (j - i) ≤ length out
-plain_room text out i at j p r = omega (arith, plain_bytes text i j p)
+pub copied_none : (text : List ℕ) (i at : ℕ) (out : List ℕ) → i ≤ length text → Copied text i at out i at out
+copied_none text i at out h = record { plain = plain_none text i h; bytes = rest_start }
 
--- Copied one by one: from i up to k they are written, from k up to j they are left.
-module _ (text : List ℕ) (i j : ℕ) (w : Plain text i j) (at : ℕ) (out : List ℕ) (k p : ℕ) (now : List ℕ)
-    (c : Rest (slice i j text) at out (slice k j text) p now) where
-  pub copy_room : k < j → Room (plain_left text i) at out → p < length now
-  copy_room h r =
-      omega (arith, plain_room text out i at j w r, c.count, c.same, length-slice i j text w.within, length-slice k j text w.within, w.onward)
+module _ {text : List ℕ} {i at : ℕ} {out : List ℕ} {j p : ℕ} {after : List ℕ} (c : Copied text i at out j p after) where
+  module _ (h : j < length text) (g : space < get_or text j 0) where
+    next_left : Rest (plain_left text i) at out (get_or text j 0 ∷ plain_left text (j + 1)) p after
+    next_left = rest_is (bytes_at_plain text j h g) c.bytes
 
-  pub copy_more : k < j → Rest (slice i j text) at out (slice (k + 1) j text) (p + 1) (set now p (get_or text k 0))
-  copy_more h =
-      let e : slice k j text ≡ (get_or text k 0 ∷ []) ++ slice (k + 1) j text = rw (add-one k) (slice-cons k j text 0 h w.within) in
-      rest_more {ys = get_or text k 0 ∷ []} (rest_is e c) (wrote_one (get_or text k 0) p now)
+    pub plain_room : Room (plain_left text i) at out → p < length after
+    plain_room r = let m = next_left.count in let s = next_left.same in omega arith
 
-  pub copied : j ≤ k → Copied text i at out j (at + (j - i)) now
-  copied h =
-      let n : length (slice i j text) ≡ j - i = length-slice i j text w.within in
-      let e : slice k j text ≡ [] = nil_from_length _ (length-slice k j text w.within ∙ none h) in
-      record {
-        plain = w;
-        bytes = rest_more {ys = slice i j text} (rest_is taken rest_start) (record { end = omega (arith, n); holds = (rest_over (rest_is e c)).holds });
-      }
-    where
-      none : j ≤ k → j - k ≡ 0
-      none h = omega arith
-
-      whole : i + (j - i) ≡ j
-      whole = let h = w.onward in omega arith
-
-      taken : plain_left text i ≡ slice i j text ++ plain_left text j
-      taken = w.bytes ∙ ap (λ (l : List ℕ). l ++ plain_left text j)
-          (sym (drop-take i (j - i) text) ∙ ap (λ (m : ℕ). slice i m text) whole)
+    pub copied_more : Copied text i at out (j + 1) (p + 1) (set after p (get_or text j 0))
+    copied_more = record {
+      plain = plain_more text i j c.plain h g;
+      bytes = rest_more {ys = get_or text j 0 ∷ []} next_left (wrote_one (get_or text j 0) p after);
+    }
 
 -- ---- a byte of the text
 

@@ -6,7 +6,6 @@ ghost use Rattle.mending.specs.Machine.Runs.{spared, drops, run_bytes, run_numbe
 ghost use Rattle.mending.specs.Machine.Passes.{plain_left, Ready, Stays, Feeds, Copied, Came, next_byte};
 ghost use Rattle.mending.specs.Machine.Kinds.{kind_number};
 
-use crate::counting::past_plain;
 use crate::{CHANGE_NUMBERS, is_blank, next_byte};
 
 // What is done to a byte that does not stay as it is, by its number in the list; specs/Rule.antt has both as drop_kind and space_kind.
@@ -66,12 +65,15 @@ fn put_plain(text: &[u8], i: usize, out: &mut [u8], at: usize) -> usize
     requires { (i ≤ length text.now) × Room (plain_left text.now i) at out.old }
     ensures { Copied text.now i at out.old result (at + (result - i)) out.new }
 {
-    let next = past_plain(text, i);
-    // Byte by byte: `copy_from_slice` is a call of `memmove`, a name that the archive for C then asks of its user.
-    for k in i..next {
-        out[at + (k - i)] = text[k];
+    // One loop, which finds and copies: `copy_from_slice` is a call of `memmove`, a name that the archive for C then asks of its user.
+    for j in i..text.len() {
+        let byte = text[j];
+        if byte <= b' ' {
+            return j;
+        }
+        out[at + (j - i)] = byte;
     }
-    next
+    text.len()
 }
 
 impl Place {
