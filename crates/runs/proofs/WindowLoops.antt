@@ -1,14 +1,13 @@
 -- What one turn of the loops over a window does. Assumes nothing.
 use mathlib.Core.Path.{◌≡◌, refl, sym, ap, ap₂, ◌∙◌}
 use mathlib.Core.Bool.{Bool, true, false, not}
-use mathlib.Core.List.{List, [], ◌++◌, append_assoc}
+use mathlib.Core.List.{List, [], ◌++◌}
 use Prim.Native.Nat.{ℕ, zero, suc, ◌+◌, ◌-◌, ◌*◌, ◌≤◌, ◌<◌}
 use native.Mathlib.Omega.{arith}
 use native.Mathlib.Numerals.{add-one}
-use borrow.Rule.Slice.PartMut.{post_of, put_mid, Post-is}
 use lib.Dec.{eqb}
-use lib.ListN.{length, get_or, take, drop, replicate, length-append, length-drop, drop_of_length-le}
-use lib.Seq.{drop-cons, length-take-le, sets, sets-eq}
+use lib.ListN.{length, get_or, drop, replicate, length-append, drop_of_length-le}
+use lib.Seq.{drop-cons, sets}
 use Rattle.buffers.proofs.Sets.{sets_append}
 use Rattle.runs.specs.Runs.{first_listed, run_ends, runs, run_numbers}
 use Rattle.runs.specs.Machine.Ends.{listed_before, ends_at}
@@ -121,17 +120,6 @@ ends_alike i false true true = refl
 ends_alike i true true false = refl
 ends_alike i true true true = refl
 
--- the part of the output from at on, of as many places, filled with the minute
-pub filled : (w : List Bool) (out part : List ℕ) (at i n : ℕ) → n ≡ length (ends_at w i) → at + n ≤ length out
-    → part ≡ replicate (length (take (at + n - at) (drop at out))) i → put_mid at (at + n - at) out part ≡ sets out at (ends_at w i)
+pub same_ends : (w : List Bool) (i n : ℕ) → n ≡ length (ends_at w i) → replicate n i ≡ ends_at w i
 unfolding ends_at
-filled w out part at i n e h f =
-    let xs : replicate n i ≡ ends_at w i =
-    rw e (sym (ends_alike i (listed_before w i) (first_listed (drop i w)) (first_listed (drop (i + 1) w)))) in
-    let k : at + n - at ≡ n = omega arith in
-    let m : n ≤ length (drop at out) = rw (length-drop at out) (omega arith) in
-    let l : length (take (at + n - at) (drop at out)) ≡ n = rw k (length-take-le n (drop at out) m) in
-    let p : part ≡ ends_at w i = f ∙ ap (λ (k : ℕ). replicate k i) l ∙ xs in
-    let d : post_of at (at + n - at) out ≡ drop (at + n) out = Post-is at (at + n) out (omega arith) in
-    ap₂ (λ (p q : List ℕ). take at out ++ (p ++ q)) p (d ∙ ap (λ (k : ℕ). drop (at + k) out) e)
-    ∙ sym (append_assoc (take at out) (ends_at w i) (drop (at + length (ends_at w i)) out)) ∙ sym (sets-eq (ends_at w i) out at (rw e at h))
+same_ends w i n e = rw e (sym (ends_alike i (listed_before w i) (first_listed (drop i w)) (first_listed (drop (i + 1) w))))

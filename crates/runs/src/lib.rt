@@ -1,7 +1,7 @@
 // The runs of listed minutes of a window, from whether each minute is listed. For the crates above.
 #![tactic(auto)]
 
-ghost use Rattle.std.specs.Prelude.{◌≡◌, ◌≤◌, ◌<◌, length, drop};
+ghost use Rattle.std.specs.Prelude.{◌≡◌, ◌+◌, ◌≤◌, ◌<◌, length, drop, replicate};
 ghost use Rattle.std.proofs.lemmas.List.Edits.{sets};
 ghost use Rattle.runs.specs.Runs.{first_listed, run_ends, run_numbers, most_minutes};
 ghost use Rattle.runs.specs.Machine.Ends.{ends_at};
@@ -52,6 +52,22 @@ pub fn count(window: &[bool]) -> usize
     n
 }
 
+// Writes minute i into out from at, as often as it is an end of a run. Each store stands by itself, and no `fill`: so a wrong last minute is refused
+// by what the clause says of it.
+fn put_ends(out: &mut [u64], at: usize, ends: usize, i: usize)
+    requires { (ends ≤ 2) × (at + ends ≤ length out.old) }
+    ensures { out.new ≡ sets out.old at (replicate ends i) }
+{
+    match ends {
+        0 => {}
+        1 => out[at] = i as u64,
+        _ => {
+            out[at] = i as u64;
+            out[at + 1] = i as u64;
+        }
+    }
+}
+
 // Writes the runs of a window into out, from its start; the rest of out stays as it was.
 pub fn write(window: &[bool], out: &mut [u64])
     requires { length (run_numbers window.now) ≤ length out.old }
@@ -59,8 +75,8 @@ pub fn write(window: &[bool], out: &mut [u64])
 {
     let mut at = 0;
     for i in 0..window.len() {
-        let next = at + count_at(window, i);
-        out[at..next].fill(i as u64);
-        at = next;
+        let ends = count_at(window, i);
+        put_ends(out, at, ends, i);
+        at += ends;
     }
 }
