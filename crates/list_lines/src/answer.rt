@@ -1,5 +1,5 @@
 // What the program prints for two series, a time, how many minutes, and a keep-out, written into a buffer. All of this is for lib.rt.
-ghost use Rattle.std.specs.Prelude.{◌≡◌, ℕ, ◌+◌, ◌*◌, ◌≤◌, ◌++◌, length, IfOk};
+ghost use Rattle.std.specs.Prelude.{◌≡◌, ℕ, ◌+◌, ◌*◌, ◌≤◌, ◌++◌, ◌∷◌, [], pos, length, IfOk};
 ghost use Rattle.command_line.specs.Clock.{instant_of_clock, minute_of_day};
 ghost use Rattle.runs.specs.Runs.{most_minutes};
 ghost use Rattle.list_lines.specs.Lines.{run_most};
@@ -50,6 +50,32 @@ pub struct Asked {
     pub from: Moment,
     pub minutes: i64,
     pub keep_out: i64,
+}
+
+impl Asked {
+    // Year, month and day; the hour and minute of the window's first minute, which begins at second 0, and how many minutes; the keep-out.
+    pub fn of(date: [i64; 3], window: [i64; 3], keep_out: i64) -> Asked
+        ensures date { date ≡ result.from.year ∷ result.from.month ∷ result.from.day ∷ [] }
+        ensures window { window ≡ result.from.hour ∷ result.from.minute ∷ result.minutes ∷ [] }
+        ensures second { result.from.second ≡ pos 0 }
+        ensures keep_out { result.keep_out ≡ keep_out }
+    {
+        let [year, month, day] = date;
+        let [hour, minute, minutes] = window;
+        let from = Moment {
+            year,
+            month,
+            day,
+            hour,
+            minute,
+            second: 0,
+        };
+        Asked {
+            from,
+            minutes,
+            keep_out,
+        }
+    }
 }
 
 // The list that is asked for, its numbers written into the room lent for them, and their count; or the refusal of the moment, or of the list.

@@ -7,13 +7,12 @@
 mod answer;
 mod lines;
 
-ghost use Rattle.std.specs.Prelude.{◌≤◌};
+ghost use Rattle.std.specs.Prelude.{◌≡◌, ◌≤◌, pos, IfSome};
 ghost use Rattle.command_line.specs.Machine.Arguments.{first_limit};
 
 use crate::answer::{Asked, LIST_MOST, put_list};
 use command_line::arguments::{number_argument, three_arguments};
 use command_line::files::{first_bytes, read_both};
-use command_line::moments::Moment;
 use decimals::buffer::Buffer;
 use std::env::Env;
 use std::fs::Files;
@@ -27,23 +26,12 @@ const ROOM: usize = FILE_MOST + 1;
 // What the arguments from YEAR on ask for, where PLANET is argument `first`.
 fn window_asked(rt: &impl Env, first: usize) -> Option<Asked>
     requires { first ≤ first_limit }
+    ensures { IfSome result (λ asked. asked.from.second ≡ pos 0) }
 {
-    let [year, month, day] = three_arguments(rt, first + 2)?;
-    let [hour, minute, minutes] = three_arguments(rt, first + 5)?;
+    let date = three_arguments(rt, first + 2)?;
+    let window = three_arguments(rt, first + 5)?;
     let keep_out = number_argument(rt, first + 8)?;
-    let from = Moment {
-        year,
-        month,
-        day,
-        hour,
-        minute,
-        second: 0,
-    };
-    Some(Asked {
-        from,
-        minutes,
-        keep_out,
-    })
+    Some(Asked::of(date, window, keep_out))
 }
 
 // The nine arguments from `first` on, answered on standard output.

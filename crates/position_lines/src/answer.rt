@@ -1,5 +1,5 @@
 // What the program prints for two series and a time, written into a buffer. All of this is for lib.rt.
-ghost use Rattle.std.specs.Prelude.{◌≡◌, ◌+◌, ◌≤◌, ◌++◌, length, IfOk};
+ghost use Rattle.std.specs.Prelude.{◌≡◌, ◌+◌, ◌≤◌, ◌++◌, ◌∷◌, [], length, IfOk};
 ghost use Rattle.command_line.specs.Clock.{instant_of_clock};
 ghost use Rattle.place.specs.Mount.{Small};
 ghost use Rattle.position_lines.specs.Lines.{place_most};
@@ -11,6 +11,23 @@ use decimals::buffer::Buffer;
 use place::{Equatorial, apparent_place};
 use refusal_words::put_refusal;
 use units::Refusal;
+
+// Year, month and day; hour, minute and second.
+pub fn moment_of(date: [i64; 3], clock: [i64; 3]) -> Moment
+    ensures date { date ≡ result.year ∷ result.month ∷ result.day ∷ [] }
+    ensures clock { clock ≡ result.hour ∷ result.minute ∷ result.second ∷ [] }
+{
+    let [year, month, day] = date;
+    let [hour, minute, second] = clock;
+    Moment {
+        year,
+        month,
+        day,
+        hour,
+        minute,
+        second,
+    }
+}
 
 // The place at a moment; or the refusal of the moment, or of the place.
 fn place_at(planet: &[u8], earth: &[u8], when: Moment) -> Result<Equatorial, Refusal>

@@ -10,7 +10,7 @@ mod lines;
 ghost use Rattle.std.specs.Prelude.{◌≤◌};
 ghost use Rattle.command_line.specs.Machine.Arguments.{first_limit};
 
-use crate::answer::put_position;
+use crate::answer::{moment_of, put_position};
 use crate::lines::PLACE_MOST;
 use command_line::arguments::three_arguments;
 use command_line::files::{PACKED_ROOM, first_bytes, read_both};
@@ -24,16 +24,9 @@ use std::io;
 fn time_asked(rt: &impl Env, first: usize) -> Option<Moment>
     requires { first ≤ first_limit }
 {
-    let [year, month, day] = three_arguments(rt, first + 2)?;
-    let [hour, minute, second] = three_arguments(rt, first + 5)?;
-    Some(Moment {
-        year,
-        month,
-        day,
-        hour,
-        minute,
-        second,
-    })
+    let date = three_arguments(rt, first + 2)?;
+    let clock = three_arguments(rt, first + 5)?;
+    Some(moment_of(date, clock))
 }
 
 // The eight arguments from `first` on, answered on standard output.

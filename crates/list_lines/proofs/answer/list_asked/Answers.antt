@@ -3,6 +3,7 @@ use Rattle.std.proofs.Common.{◌≡◌, ◌≤◌, length, sym, rules}
 use Rattle.std.proofs.lemmas.Result.{err_from_is_err_and}
 use Rattle.arith.proofs.Cells.{Cell}
 use Rattle.runs.specs.Runs.{most_minutes}
+use Rattle.sunlist.specs.SunList.{sun_list, sun_list_out}
 use Rattle.list_lines.proofs.WrittenList.{at_instant, no_instant, if_answered}
 use Rattle.list_lines.proofs.answer.list_asked.Goals as goal
 
@@ -13,11 +14,15 @@ returns-in_err-t0 c =
 
 pub returns : goal.returns
 returns c =
-    let m : Cell c.args.asked.minutes ≡ c.args.asked.minutes = search rules in
-    let k : Cell c.args.asked.keep_out ≡ c.args.asked.keep_out = search rules in
+    let a = c.args in
+    let m : Cell a.asked.minutes ≡ a.asked.minutes = search rules in
+    let k : Cell a.asked.keep_out ≡ a.asked.keep_out = search rules in
+    let output : c.sun_list.new.out ≡ sun_list_out a.planet.now a.earth.now c.in_ok-t0.t0 (Cell a.asked.minutes) (Cell a.asked.keep_out) a.numbers.now =
+    c.sun_list.ensures.output in
+    let answer : c.sun_list.result ≡ sun_list a.planet.now a.earth.now c.in_ok-t0.t0 (Cell a.asked.minutes) (Cell a.asked.keep_out) (length a.numbers.now) =
+    c.sun_list.ensures.answer in
     record {
-      told = λ start. at_instant _ _ _ start _ _ _ _ _ (sym c.in_ok-t0.ensures) (rw (m, k, c.requires) at c.sun_list.ensures.output)
-          (rw (m, k, c.requires) at c.sun_list.ensures.answer);
+      told = λ start. at_instant _ _ _ start _ _ _ _ _ (sym c.in_ok-t0.ensures) (rw (m, k, c.requires) at output) (rw (m, k, c.requires) at answer);
       few = if_answered c.sun_list.result (λ count. (count ≤ most_minutes) × (count ≤ length c.sun_list.new.out))
           (λ count e. (c.sun_list.ensures.few count e, (c.sun_list.ensures.demand count e).room));
     }
