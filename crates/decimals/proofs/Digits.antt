@@ -1,7 +1,9 @@
 -- Digits as they are written, one behind the other. Assumes nothing.
 use mathlib.Core.List.{append_assoc}
 use Rattle.std.proofs.Common.{◌≡◌, refl, sym, ap, ◌∙◌, ℕ, zero, suc, ◌+◌, ◌-◌, ◌/◌, ◌%◌, ◌^◌, ◌<◌, ◌≤◌, List, [], ◌∷◌, ◌++◌, length, true, false, Bool, arith, length-append}
+use Prim.Native.Nat.{min}
 use native.Mathlib.Decide.{dec_le}
+use native.Mathlib.Nat.{pow-succ', pow-le-pow_right}
 use borrow.Author.Tests.{lt-ltb, le-ltb}
 use lib.IntN.{ℤ, nat_abs}
 use Rattle.integers.specs.Signs.{negative}
@@ -46,6 +48,28 @@ decimal_length (suc places) n = go (dec_le 10 n) (decimal_length places (n / 10)
     go (yes h) l = rw (le-ltb n 10 h) (omega (arith, length-append (decimal places (n / 10)) ((zero_digit + n % 10) ∷ [])))
     go (no h) l = rw (lt-ltb n 10 (omega arith)) (omega arith)
 
+-- Places that a number has no digits for change nothing, and twenty are enough for 64 bits.
+decimal_enough : (places more n : ℕ) → places ≤ more → n < 10 ^ suc places → decimal (suc more) n ≡ decimal (suc places) n
+unfolding decimal
+decimal_enough zero more n l h = let d : n < 10 = omega (arith, pow-succ' 10 0) in rw (lt-ltb n 10 d)
+decimal_enough (suc places) zero n l h = absurd (omega arith)
+decimal_enough (suc places) (suc more) n l h = go (dec_le 10 n) (decimal_enough places more (n / 10))
+  where
+    go : Dec (10 ≤ n) → (places ≤ more → n / 10 < 10 ^ suc places → decimal (suc more) (n / 10) ≡ decimal (suc places) (n / 10))
+        → decimal (suc (suc more)) n ≡ decimal (suc (suc places)) n
+    go (yes t) r = rw (le-ltb n 10 t, r (omega arith) (omega (arith, pow-succ' 10 (suc places))))
+    go (no t) r = let d : n < 10 = omega (arith, t) in rw (lt-ltb n 10 d)
+
+pub decimal_few : (places n k : ℕ) → n < 2 ^ 64 → k ≡ min places most_digits → decimal k n ≡ decimal places n
+decimal_few places n k h e = go (dec_le most_digits places)
+  where
+    go : Dec (most_digits ≤ places) → decimal k n ≡ decimal places n
+    go (yes l) =
+        let s : places ≡ suc (places - 1) = omega arith in
+        let t : k ≡ most_digits = omega (arith, e) in
+        ap (λ d. decimal d n) t ∙ sym (decimal_enough 19 (places - 1) n (omega arith) (omega arith)) ∙ ap (λ d. decimal d n) (sym s)
+    go (no l) = let t : k ≡ places = omega (arith, e, l) in ap (λ d. decimal d n) t
+
 -- A sign, and what it stands before.
 pub written_is : (below : Bool) (ds : List ℕ) → written below ds ≡ written below [] ++ ds
 written_is true ds = refl
@@ -87,6 +111,22 @@ pub fraction_is : (below : Bool) (k n : ℕ)
     → fraction below k n ≡ written below [] ++ (decimal most_digits (n / 10 ^ k) ++ (point ∷ last_digits k n))
 unfolding fraction
 fraction_is below k n = written_is below _
+
+pub fraction_length : (below : Bool) (k n : ℕ) → length (fraction below k n) ≤ 2 + most_digits + k
+fraction_length below k n =
+    let whole : List ℕ = decimal most_digits (n / 10 ^ k) in
+    let rest : List ℕ = point ∷ last_digits k n in
+    let sum = length-append whole rest in
+    let w = decimal_length most_digits (n / 10 ^ k) in
+    rw fraction_is (omega (arith, length-append (written below []) (whole ++ rest), sum, sign_length below, w, last_length k n))
+
+-- A power of ten within 64 bits has fewer places than these.
+pub unit_places : (places unit : ℕ) → unit ≡ 10 ^ places → unit < 2 ^ 64 → places < most_digits
+unit_places places unit e h = go (dec_le most_digits places)
+  where
+    go : Dec (most_digits ≤ places) → places < most_digits
+    go (yes l) = absurd (omega (arith, e, h, pow-le-pow_right {n = 10} (omega arith) l))
+    go (no l) = omega (arith, l)
 
 pub signed_put : (z : ℤ) (minus : Bool) (size : ℕ) (old mid new : List ℕ) → minus ≡ negative z → size ≡ nat_abs z → mid ≡ old ++ written minus []
     → new ≡ mid ++ decimal most_digits size → new ≡ old ++ signed_decimal z

@@ -3,6 +3,7 @@
 ghost use Rattle.std.specs.Prelude.{◌≡◌, ℕ, ◌+◌, ◌<◌, ◌≤◌, List, [], ◌∷◌, ◌++◌, length, take};
 ghost use Rattle.decimals.specs.Writing.{Put};
 
+use crate::writing::put_bytes;
 use std::marker::Model;
 
 // A text of at most N bytes, which lie in the value itself.
@@ -68,8 +69,6 @@ impl<const N: usize> Buffer<N> {
         requires { at + length self.now ≤ length out.old }
         ensures { Put out.old at self.now result out.new }
     {
-        let end = at + self.len;
-        out[at..end].copy_from_slice(self.text());
-        end
+        put_bytes(self.text(), out, at)
     }
 }

@@ -1,4 +1,4 @@
-// A buffer for what is printed; whole numbers as decimals, written into it, and read. All of this is for crates above.
+// A buffer for what is printed; whole numbers as decimals, written into it or into a lent slice, and read. All of this is for crates above.
 #![tactic(auto)]
 
 pub mod buffer;

@@ -11,6 +11,8 @@ use decimals::buffer::Buffer;
 use decimals::{LINE_FEED, MOST_DIGITS};
 use units::{Figure, Refusal};
 
+pub mod slices;
+
 // Room for any refusal; specs/Words.antt has the same name.
 pub const REFUSAL_MOST: usize = 101;
 
