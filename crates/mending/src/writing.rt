@@ -156,7 +156,11 @@ impl Writing {
     {
         match text[i] {
             b'\n' => self.end_line(text, i, out, list),
-            byte if is_blank(byte) => self,
+            // Each field by itself, as counting.rt says.
+            byte if is_blank(byte) => Writing {
+                begun: self.begun,
+                ..self
+            },
             _ => self.put_word(text, i, out, list),
         }
     }
