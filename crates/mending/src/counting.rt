@@ -1,5 +1,6 @@
 // The pass that counts: how many bytes and how many changes a text takes. For this crate alone.
-ghost use Rattle.std.specs.Prelude.{◌≡◌, ◌≤◌, ◌<◌, length};
+ghost use Rattle.std.specs.Prelude.{◌≡◌, ◌≤◌, ◌<◌, length, leb, position};
+ghost use Rattle.series_lines.specs.Grammar.{space};
 ghost use Rattle.mending.specs.Rule.{mended, changes};
 ghost use Rattle.mending.specs.Machine.Passes.{no_run, Counted, Plain, next_byte};
 
@@ -22,18 +23,20 @@ pub struct Counting {
     pub changes: usize,
 }
 
-// The index after the bytes above a space that stand from byte i on: none of them is dropped or changed. A loop, and not `position` over an iterator:
-// with that a byte took 1.7 times as long.
+// Where the first byte stands that is not above a space.
+fn first_low(text: &[u8]) -> Option<usize>
+    ensures { result ≡ position (λ x. leb x space) text.now }
+{
+    text.iter().position(|byte| *byte <= b' ')
+}
+
+// The index after the bytes above a space that stand from byte i on: none of them is dropped or changed.
 pub fn past_plain(text: &[u8], i: usize) -> usize
     requires { i ≤ length text.now }
     ensures { Plain text.now i result }
 {
-    for j in i..text.len() {
-        if text[j] <= b' ' {
-            return j;
-        }
-    }
-    text.len()
+    let rest = &text[i..];
+    i + first_low(rest).unwrap_or(rest.len())
 }
 
 impl Counting {
@@ -68,7 +71,7 @@ impl Counting {
             },
             b'\n' if self.begun => Counting::no_run(false, i + 1, length + 1, changes + run),
             b'\n' => Counting::no_run(false, i + 1, length, changes + run + 1),
-            // Each field by itself: a copy of the whole takes the unused bytes beside `begun` along, and a text is counted in 1.7 times the time.
+            // Each field by itself: a copy of the whole takes the unused bytes beside `begun` along, and then a text is counted in 1.7 times the time.
             byte if is_blank(byte) => Counting {
                 begun: self.begun,
                 ..self
