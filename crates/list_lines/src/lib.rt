@@ -40,15 +40,16 @@ fn window_asked(rt: &impl Env, first: usize) -> Option<Asked>
 pub fn list_of_arguments<R: Env + Files + Print>(rt: &R, first: usize) -> io::Result<()>
     requires { first ≤ first_limit }
 {
+    // The rooms stand first: behind a return they would be cleared twice.
+    let mut planet = [0u8; ROOM];
+    let mut earth = [0u8; ROOM];
+    let mut text = Buffer::<LIST_MOST>::new();
     let Some(asked) = window_asked(rt, first) else {
         return rt.write_all(b"list PLANET EARTH YEAR MONTH DAY HOUR MINUTE MINUTES KEEP-OUT\n");
     };
-    let mut planet = [0u8; ROOM];
-    let mut earth = [0u8; ROOM];
     let Some((m, n)) = read_both(rt, first, &mut planet, &mut earth)? else {
         return Ok(());
     };
-    let mut text = Buffer::<LIST_MOST>::new();
     put_list(
         first_bytes(&planet, m),
         first_bytes(&earth, n),

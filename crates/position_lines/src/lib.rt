@@ -35,15 +35,16 @@ fn time_asked(rt: &impl Env, first: usize) -> Option<Moment>
 pub fn place_of_arguments<R: Env + Files + Print>(rt: &R, first: usize) -> io::Result<()>
     requires { first ≤ first_limit }
 {
+    // The rooms stand first: behind a return they would be cleared twice.
+    let mut planet = [0u8; PACKED_ROOM];
+    let mut earth = [0u8; PACKED_ROOM];
+    let mut text = Buffer::<PLACE_MOST>::new();
     let Some(when) = time_asked(rt, first) else {
         return rt.write_all(b"position PLANET EARTH YEAR MONTH DAY HOUR MINUTE SECOND\n");
     };
-    let mut planet = [0u8; PACKED_ROOM];
-    let mut earth = [0u8; PACKED_ROOM];
     let Some((m, n)) = read_both(rt, first, &mut planet, &mut earth)? else {
         return Ok(());
     };
-    let mut text = Buffer::<PLACE_MOST>::new();
     put_position(
         first_bytes(&planet, m),
         first_bytes(&earth, n),
