@@ -13,6 +13,7 @@ use decimals::buffer::Buffer;
 pub mod reader;
 mod reply;
 pub mod slices;
+pub mod states;
 
 // How far the input has been read and answered in a lent slice: the line that is being read, and where in it the next reply goes.
 #[derive(Clone, Copy)]
