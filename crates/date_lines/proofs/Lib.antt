@@ -5,6 +5,8 @@ pub mod LeastNumber
 pub mod WrittenReplies
 -- The same into a lent slice.
 pub mod PieceLoop
+-- The same from a state.
+pub mod StateLoop
 -- A line that is read as three numbers is a line of these numbers.
 pub mod OnlyThree
 -- The published theorems.

@@ -10,7 +10,7 @@ use Rattle.date_lines.specs.declared.reader.Line.{Line}
 use Rattle.date_lines.proofs.WrittenReplies.{said_length}
 
 -- Two texts written one after the other are one.
-sets_append : (xs ys out : List ℕ) (at : ℕ) → sets out at (xs ++ ys) ≡ sets (sets out at xs) (at + length xs) ys
+pub sets_append : (xs ys out : List ℕ) (at : ℕ) → sets out at (xs ++ ys) ≡ sets (sets out at xs) (at + length xs) ys
 sets_append [] ys out at = let e : at + 0 ≡ at = omega arith in rw e
 sets_append (x ∷ xs) ys out at =
     let e : suc at + length xs ≡ at + suc (length xs) = omega arith in

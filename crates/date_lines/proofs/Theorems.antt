@@ -18,6 +18,9 @@ use Rattle.decimals.proofs.Numbers.{grows}
 use Rattle.date_lines.specs.Lines.{space, fresh, greatest, numbers, at_space, at_digit}
 use Rattle.date_lines.specs.Lines.{take, reading, read}
 use Rattle.date_lines.specs.Replies.{refused, day_text, reply, after, said, line_after, replies}
+use Rattle.date_lines.specs.States.{state_fresh, state_take, state_reading, state_read, state_reply}
+use Rattle.date_lines.specs.States.{state_after, state_said, state_line_after, state_replies}
+use Rattle.date_lines.specs.declared.states.State.{State}
 use Rattle.date_lines.specs.Written.{NoFeed, ThreeNumbers, Decided, three, fault, example_lines, example_replies}
 use Rattle.date_lines.specs.declared.reader.Line.{Line}
 use Rattle.date_lines.specs.declared.reader.Fault.{Fault}
@@ -44,6 +47,26 @@ pub one_line : (s : Result Line Fault) (l rest : List ℕ) → NoFeed l → repl
 unfolding replies read after said
 one_line s [] rest h = refl
 one_line s (b ∷ l) rest h = rw (ne_eqb b line_feed h.0) (one_line (take s b) l rest h.1)
+
+-- The same from a state.
+pub cut_state_line : (s : State) (xs ys : List ℕ) → state_line_after s (xs ++ ys) ≡ state_line_after (state_line_after s xs) ys
+unfolding state_line_after
+cut_state_line s [] ys = refl
+cut_state_line s (b ∷ xs) ys = cut_state_line (state_after s b) xs ys
+
+pub cut_state_replies : (s : State) (xs ys : List ℕ)
+    → state_replies s (xs ++ ys) ≡ state_replies s xs ++ state_replies (state_line_after s xs) ys
+unfolding state_line_after state_replies
+cut_state_replies s [] ys = refl
+cut_state_replies s (b ∷ xs) ys =
+    ap (λ (t : List ℕ). state_said s b ++ t) (cut_state_replies (state_after s b) xs ys) ∙ sym
+    (append_assoc (state_said s b) (state_replies (state_after s b) xs) (state_replies (state_line_after (state_after s b) xs) ys))
+
+pub one_state_line : (s : State) (l rest : List ℕ) → NoFeed l
+    → state_replies s (l ++ (line_feed ∷ rest)) ≡ state_reply (state_reading (state_read s l)) ++ state_replies state_fresh rest
+unfolding state_replies state_read state_after state_said
+one_state_line s [] rest h = refl
+one_state_line s (b ∷ l) rest h = rw (ne_eqb b line_feed h.0) (one_state_line (state_take s b) l rest h.1)
 
 module _ (count : ℕ) (year month : ℤ) (few : count ≤ 2) (minus : Bool) where
   more_digits : (v : ℕ) (ds rest : List ℕ) → Digits ds → value v ds ≤ greatest minus

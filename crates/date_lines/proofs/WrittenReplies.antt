@@ -35,7 +35,7 @@ fault_length Large = lit≤ tt
 fault_length Few = lit≤ tt
 fault_length Many = lit≤ tt
 
-reply_length : (w : Result Date Fault) → length (reply w) ≤ reply_limit
+pub reply_length : (w : Result Date Fault) → length (reply w) ≤ reply_limit
 unfolding reply
 reply_length (Ok d) = day_length (day_of_date d.year d.month d.day)
 reply_length (Err f) = fault_length f

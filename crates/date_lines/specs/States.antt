@@ -1,9 +1,14 @@
 -- A line of the date program as seven plain fields, any values of which are a state: the same readings as in Lines, with a number for each fault.
-use Rattle.std.specs.Prelude.{Bool, true, false, cond, ℕ, ◌+◌, ◌*◌, ◌-◌, ltb, eqb, ℤ, pos, Option, Some, None, Result, Ok, Err}
+use Rattle.std.specs.Prelude.{◌≡◌, Bool, true, false, cond, List, [], ◌∷◌, ◌++◌, length, ℕ, ◌+◌, ◌*◌, ◌-◌, ltb, eqb, ℤ, pos}
+use Rattle.std.specs.Prelude.{Option, Some, None, Result, Ok, Err}
+use Rattle.std.proofs.lemmas.List.Edits.{sets}
 use Rattle.integers.specs.Signs.{sgn}
 use Rattle.calendar.specs.declared.Date.{Date}
 use Rattle.decimals.specs.Decimals.{minus_sign, zero_digit, nine_digit}
-use Rattle.date_lines.specs.Lines.{space, digit_limit, greatest}
+use Rattle.date_lines.specs.Lines.{space, digit_limit, greatest, numbers}
+use Rattle.date_lines.specs.Replies.{reply}
+use Rattle.decimals.specs.Texts.{line_feed}
+use Rattle.date_lines.specs.declared.states.Progress.{Progress}
 use Rattle.date_lines.specs.declared.reader.Fault.{Fault}
 use Rattle.date_lines.specs.declared.reader.Fault.TheVariants.{Empty, Byte, Space, Large, Few, Many}
 use Rattle.date_lines.specs.declared.reader.Line.{Line}
@@ -146,3 +151,60 @@ state_of (Err f) = state_faulty (fault_number f)
 abbrev pub reading_of : Result Date Fault → Reading
 reading_of (Ok d) = Three d.year d.month d.day
 reading_of (Err f) = Bad (fault_number f)
+
+-- The bytes of a line, in order.
+unfoldable pub state_read : State → List ℕ → State
+state_read s [] = s
+state_read s (b ∷ bs) = state_read (state_take s b) bs
+
+-- The fault of a number; any other than these is told as too many numbers.
+unfoldable pub fault_named : ℕ → Fault
+fault_named f =
+    cond (eqb f fault_empty) Empty
+    (cond (eqb f fault_byte) Byte
+    (cond (eqb f fault_space) Space
+    (cond (eqb f fault_large) Large
+    (cond (eqb f fault_few) Few Many))))
+
+-- What is printed for what a line said.
+unfoldable pub state_reply : Reading → List ℕ
+state_reply (Three y m d) = reply (Ok (numbers y m d))
+state_reply (Bad f) = reply (Err (fault_named f))
+
+-- One byte of the input: the line after it, and what is printed at it.
+unfoldable pub state_after : State → ℕ → State
+state_after s b = cond (eqb b line_feed) state_fresh (state_take s b)
+
+unfoldable pub state_said : State → ℕ → List ℕ
+state_said s b = cond (eqb b line_feed) (state_reply (state_reading s)) []
+
+-- A piece of the input: the line after it, and what is printed for it.
+unfoldable pub state_line_after : State → List ℕ → State
+state_line_after s [] = s
+state_line_after s (b ∷ bs) = state_line_after (state_after s b) bs
+
+unfoldable pub state_replies : State → List ℕ → List ℕ
+state_replies s [] = []
+state_replies s (b ∷ bs) = state_said s b ++ state_replies (state_after s b) bs
+
+-- The end of the input: a last line without its line feed has its reply too, unless it is empty.
+abbrev pub reading_unless_empty : Reading → List ℕ
+reading_unless_empty (Three y m d) = state_reply (Three y m d)
+reading_unless_empty (Bad f) = cond (eqb f fault_empty) [] (state_reply (Bad f))
+
+unfoldable pub state_last_reply : State → List ℕ
+state_last_reply s = reading_unless_empty (state_reading s)
+
+-- What a piece bs of the input leaves, where s is the line before it: the line after it, and the replies from the start of the output.
+abbrev pub StateAnswered : State → List ℕ → List ℕ → Progress → List ℕ → Type 0
+StateAnswered s bs out r result =
+    (r.line ≡ state_line_after s bs) × (r.at ≡ length (state_replies s bs)) × (result ≡ sets out 0 (state_replies s bs))
+
+-- What one byte b of it leaves.
+abbrev pub StateAnsweredByte : State → ℕ → List ℕ → ℕ → Progress → List ℕ → Type 0
+StateAnsweredByte s b out at r result =
+    (r.line ≡ state_after s b) × (r.at ≡ at + length (state_said s b)) × (result ≡ sets out at (state_said s b))
+
+-- What the end of the input leaves: the reply to the last line, from the start of the output.
+abbrev pub StateAnsweredLast : State → List ℕ → ℕ → List ℕ → Type 0
+StateAnsweredLast s out r result = (r ≡ length (state_last_reply s)) × (result ≡ sets out 0 (state_last_reply s))

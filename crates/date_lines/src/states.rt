@@ -1,11 +1,15 @@
 // A line of three numbers as seven plain fields, read byte by byte: for callers that keep a line in a form of their own. Any values of the fields
 // are a state. Each call goes through the reader.
-ghost use Rattle.std.specs.Prelude.{◌≡◌};
+ghost use Rattle.std.specs.Prelude.{◌≡◌, ◌+◌, ◌*◌, ◌≤◌, ◌++◌, length};
+ghost use Rattle.date_lines.specs.Replies.{reply_limit};
+ghost use Rattle.date_lines.specs.States.{fault_named, state_reply, reading_unless_empty, StateAnswered, StateAnsweredByte, StateAnsweredLast};
 ghost use Rattle.date_lines.specs.States.{state_fresh, state_take, state_reading, fault_number, state_of, reading_of, line_of};
 
 use crate::reader::{self, Fault, Line};
+use crate::reply::put_reply;
 use calendar::Date;
-use decimals::{NINE_DIGIT, ZERO_DIGIT};
+use decimals::buffer::Buffer;
+use decimals::{LINE_FEED, NINE_DIGIT, ZERO_DIGIT};
 
 // specs/States.antt has the same constants under the same names.
 
@@ -21,6 +25,9 @@ const FAULT_LARGE: u64 = 4;
 const FAULT_FEW: u64 = 5;
 
 const FAULT_MANY: u64 = 6;
+
+// No reply is longer; specs/Replies.antt has the same name.
+const REPLY_LIMIT: usize = 40;
 
 // What a line has said so far: its first fault, or 0; how many of its numbers have ended; the year and the month once they have;
 // and of the number that is being read whether it has a minus, whether it has a digit, and its magnitude.
@@ -137,4 +144,94 @@ pub fn whole(s: State) -> Reading
     }
     let value = if s.digits { Some(s.value) } else { None };
     reading_of(reader::whole(Ok(s.line(value))))
+}
+
+// How far the input has been read and answered: the line that is being read, and where in the output the next reply goes.
+#[derive(Clone, Copy)]
+pub struct Progress {
+    pub line: State,
+    pub at: usize,
+}
+
+// The fault of a number.
+#[tactic(auto, unfolding(crate::specs::States::fault_named))]
+fn fault_named(f: u64) -> Fault
+    ensures { result ≡ fault_named f }
+{
+    match f {
+        FAULT_EMPTY => Fault::Empty,
+        FAULT_BYTE => Fault::Byte,
+        FAULT_SPACE => Fault::Space,
+        FAULT_LARGE => Fault::Large,
+        FAULT_FEW => Fault::Few,
+        _ => Fault::Many,
+    }
+}
+
+// Writes the reply to a line.
+#[tactic(auto, unfolding(crate::specs::States::state_reply))]
+fn put_said<const N: usize>(said: Reading, out: &mut Buffer<N>)
+    requires { length out.old + reply_limit ≤ N }
+    ensures { out.new ≡ out.old ++ state_reply said }
+{
+    match said {
+        Reading::Three(year, month, day) => put_reply(Ok(Date { year, month, day }), out),
+        Reading::Bad(f) => put_reply(Err(fault_named(f)), out),
+    }
+}
+
+// Writes the reply to a last line without its line feed.
+fn put_last<const N: usize>(said: Reading, out: &mut Buffer<N>)
+    requires { length out.old + reply_limit ≤ N }
+    ensures { out.new ≡ out.old ++ reading_unless_empty said }
+{
+    match said {
+        Reading::Three(..) => put_said(said, out),
+        Reading::Bad(f) => {
+            if f != FAULT_EMPTY {
+                put_said(said, out);
+            }
+        }
+    }
+}
+
+// One byte of the input.
+fn answer_byte(line: State, b: u8, out: &mut [u8], at: usize) -> Progress
+    requires { at + reply_limit ≤ length out.old }
+    ensures { StateAnsweredByte line b out.old at result out.new }
+{
+    if b == LINE_FEED {
+        let mut reply = Buffer::<REPLY_LIMIT>::new();
+        put_said(whole(line), &mut reply);
+        return Progress {
+            line: start(),
+            at: reply.put_into(out, at),
+        };
+    }
+    Progress {
+        line: take_byte(line, b),
+        at,
+    }
+}
+
+// A piece of the input: the replies to the lines that end in it, from the start of the output.
+pub fn answer_piece(line: State, piece: &[u8], out: &mut [u8]) -> Progress
+    requires { reply_limit * length piece.now ≤ length out.old }
+    ensures { StateAnswered line piece.now out.old result out.new }
+{
+    let mut so_far = Progress { line, at: 0 };
+    for b in piece {
+        so_far = answer_byte(so_far.line, *b, out, so_far.at);
+    }
+    so_far
+}
+
+// The end of the input: the reply to a last line without its line feed.
+pub fn answer_last(line: State, out: &mut [u8]) -> usize
+    requires { reply_limit ≤ length out.old }
+    ensures { StateAnsweredLast line out.old result out.new }
+{
+    let mut reply = Buffer::<REPLY_LIMIT>::new();
+    put_last(whole(line), &mut reply);
+    reply.put_into(out, 0)
 }
