@@ -3,9 +3,7 @@
 pub mod LeastNumber
 -- What the functions that write a reply leave in the buffer is the reply; the loop over a piece of the input, and the room that its replies take.
 pub mod WrittenReplies
--- The same into a lent slice.
-pub mod PieceLoop
--- The same from a state.
+-- The same from a state, into a lent slice.
 pub mod StateLoop
 -- A line that is read as three numbers is a line of these numbers.
 pub mod OnlyThree

@@ -3,6 +3,7 @@ use Rattle.std.proofs.Common.{◌≡◌, refl, sym, ◌∙◌, ℕ, ◌+◌, ◌
 use native.Mathlib.Numerals.{add-one}
 use lib.ListN.{get_or, drop, drop_of_length-le, length-drop}
 use lib.Seq.{sets, length-sets, drop-cons}
+use Rattle.buffers.proofs.Sets.{sets_append}
 use Rattle.std.specs.Prelude.{Bool, true, false, cond, eqb, Ok, Err}
 use Rattle.decimals.specs.Texts.{line_feed}
 use Rattle.date_lines.specs.Lines.{numbers}
@@ -13,7 +14,6 @@ use Rattle.date_lines.specs.declared.states.State.{State}
 use Rattle.date_lines.specs.declared.states.Reading.{Reading}
 use Rattle.date_lines.specs.declared.states.Reading.TheVariants.{Three, Bad}
 use Rattle.date_lines.proofs.WrittenReplies.{reply_length}
-use Rattle.date_lines.proofs.PieceLoop.{sets_append}
 
 -- No reply has more than 40 bytes.
 reading_length : (w : Reading) → length (state_reply w) ≤ reply_limit

@@ -14,8 +14,7 @@ use Rattle.decimals.specs.Texts.{text, line_feed}
 use Rattle.decimals.specs.Decimals.{most_digits, decimal}
 use Rattle.decimals.proofs.Digits.{decimal_length}
 use Rattle.date_lines.specs.Lines.{reading}
-use Rattle.date_lines.specs.Replies.{refused, day_text, fault_words, fault_text, reply, after, said, line_after, replies}
-use Rattle.date_lines.specs.Replies.{unless_empty, last_reply, reply_limit}
+use Rattle.date_lines.specs.Replies.{refused, day_text, fault_words, fault_text, reply, after, said, line_after, replies, reply_limit}
 use Rattle.date_lines.specs.declared.reader.Fault.{Fault}
 use Rattle.date_lines.specs.declared.reader.Fault.TheVariants.{Empty, Byte, Space, Large, Few, Many}
 use Rattle.date_lines.specs.declared.reader.Line.{Line}
@@ -40,26 +39,13 @@ unfolding reply
 reply_length (Ok d) = day_length (day_of_date d.year d.month d.day)
 reply_length (Err f) = fault_length f
 
-pub said_length : (s : Result Line Fault) (b : ℕ) → length (said s b) ≤ reply_limit
+said_length : (s : Result Line Fault) (b : ℕ) → length (said s b) ≤ reply_limit
 unfolding said
 said_length s b = go (eqb b line_feed)
   where
     go : (e : Bool) → length (cond e (reply (reading s)) []) ≤ reply_limit
     go true = reply_length (reading s)
     go false = omega arith
-
-pub last_length : (s : Result Line Fault) → length (last_reply s) ≤ reply_limit
-unfolding last_reply
-last_length s = go (reading s)
-  where
-    go : (w : Result Date Fault) → length (unless_empty w) ≤ reply_limit
-    go (Ok d) = reply_length (Ok d)
-    go (Err Empty) = omega arith
-    go (Err Byte) = reply_length (Err Byte)
-    go (Err Space) = reply_length (Err Space)
-    go (Err Large) = reply_length (Err Large)
-    go (Err Few) = reply_length (Err Few)
-    go (Err Many) = reply_length (Err Many)
 
 -- ---- a piece: what stands and what is left to say are all
 pub record Left (start : Result Line Fault) (first piece out : List ℕ) (line : Result Line Fault) (rest : List ℕ) : Type 0 where

@@ -3,4 +3,3 @@ pub mod Lines
 pub mod States
 pub mod Replies
 pub mod Written
-pub mod Machine

@@ -1,6 +1,5 @@
 -- What the date program prints for each line: the day number, `refused 1`, or, where the line has not three numbers, what is wrong with it.
-use Rattle.std.specs.Prelude.{◌≡◌, cond, List, [], ◌∷◌, ◌++◌, ℕ, eqb, ℤ, Result, Ok, Err, length}
-use Rattle.std.proofs.lemmas.List.Edits.{sets}
+use Rattle.std.specs.Prelude.{cond, List, [], ◌∷◌, ◌++◌, ℕ, eqb, ℤ, Result, Ok, Err}
 use Rattle.units.specs.declared.Refusal.{Refusal}
 use Rattle.arith.specs.Naturals.{natural_or}
 use Rattle.calendar.specs.Calendar.{day_of_date}
@@ -11,7 +10,6 @@ use Rattle.date_lines.specs.Lines.{fresh, take, reading}
 use Rattle.date_lines.specs.declared.reader.Fault.{Fault}
 use Rattle.date_lines.specs.declared.reader.Fault.TheVariants.{Empty, Byte, Space, Large, Few, Many}
 use Rattle.date_lines.specs.declared.reader.Line.{Line}
-use Rattle.date_lines.specs.declared.Progress.{Progress}
 
 -- `refused 1` and a line feed: a date to its day number is never refused otherwise.
 unfoldable pub refused : List ℕ
@@ -67,12 +65,3 @@ last_reply s = unless_empty (reading s)
 -- No reply is longer; a caller has so much room for each byte of a piece, and for the last line.
 abbrev pub reply_limit : ℕ
 reply_limit = 40
-
--- What a piece bs of the input leaves, where s is the line before it: the line after it, and the replies from the start of the output.
-abbrev pub Answered : Result Line Fault → List ℕ → List ℕ → Progress → List ℕ → Type 0
-Answered s bs out r result =
-    (r.line ≡ line_after s bs) × (r.at ≡ length (replies s bs)) × (result ≡ sets out 0 (replies s bs))
-
--- What the end of the input leaves: the reply to the last line, from the start of the output.
-abbrev pub AnsweredLast : Result Line Fault → List ℕ → ℕ → List ℕ → Type 0
-AnsweredLast s out r result = (r ≡ length (last_reply s)) × (result ≡ sets out 0 (last_reply s))

@@ -12,15 +12,7 @@ use decimals::buffer::Buffer;
 
 pub mod reader;
 mod reply;
-pub mod slices;
 pub mod states;
-
-// How far the input has been read and answered in a lent slice: the line that is being read, and where in it the next reply goes.
-#[derive(Clone, Copy)]
-pub struct Progress {
-    pub line: Result<Line, Fault>,
-    pub at: usize,
-}
 
 // One byte of the input.
 #[tactic(auto, unfolding(crate::specs::Replies::after, crate::specs::Replies::said))]

@@ -1,7 +1,0 @@
--- What is left of the piece gives what the whole gives.
-use Rattle.std.proofs.Common.{drop}
-use Rattle.date_lines.proofs.PieceLoop.{Left}
-use Rattle.date_lines.proofs.slices.answer_piece.Given as goal
-
-abbrev pub invariant-loop-b : goal.invariant-loop-b
-invariant-loop-b l = Left l.initial.so_far.line l.initial.out l.piece l.out l.so_far.line l.so_far.at (drop l.b-index l.piece)
